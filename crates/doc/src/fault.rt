@@ -1,0 +1,80 @@
+//! Why a mapping, a document or an id is refused.
+
+ghost use Rattle.std.specs.Prelude.{◌≡◌, IfSome};
+ghost use Rattle.doc.specs.Fault.{fault_of, name_of};
+
+use std::alloc::{AllocError, AllocFailed};
+use thiserror::Error;
+
+/// A refusal of a mapping, a document or an id. A field's name stands beside the fault that concerns it.
+#[derive(Debug, Drop, Error)]
+pub enum DocFault {
+    #[error("a field has no type, or one that isn't known")]
+    UnknownType,
+    #[error("a name isn't allowed in a mapping")]
+    BadName,
+    #[error("`dynamic` is neither \"strict\" nor false")]
+    BadDynamic,
+    #[error("out of memory")]
+    NoMemory,
+    #[error("not JSON")]
+    NotJson,
+    #[error("not an object")]
+    NotObject,
+    #[error("a value of field {0} doesn't fit its type")]
+    WrongValue(String),
+    #[error("field {0} isn't mapped, and the mapping is strict")]
+    Unmapped(String),
+    #[error("a document has more than 65,536 bytes")]
+    TooLarge,
+    #[error("an id is empty")]
+    IdEmpty,
+    #[error("an id has more than 512 bytes")]
+    IdTooLong,
+    #[error("a mapping has more than 1,000 fields")]
+    TooManyFields,
+}
+
+impl DocFault {
+    /// The name of the fault, without the field that it concerns.
+    pub fn name(&self) -> &'static str
+        ensures { IfSome (fault_of self.now) (λ f. result.now ≡ name_of f) }
+    {
+        match self {
+            DocFault::UnknownType => "UnknownType",
+            DocFault::BadName => "BadName",
+            DocFault::BadDynamic => "BadDynamic",
+            DocFault::NoMemory => "NoMemory",
+            DocFault::NotJson => "NotJson",
+            DocFault::NotObject => "NotObject",
+            DocFault::WrongValue(_) => "WrongValue",
+            DocFault::Unmapped(_) => "Unmapped",
+            DocFault::TooLarge => "TooLarge",
+            DocFault::IdEmpty => "IdEmpty",
+            DocFault::IdTooLong => "IdTooLong",
+            DocFault::TooManyFields => "TooManyFields",
+        }
+    }
+}
+
+impl From<AllocError> for DocFault {
+    ghost use Rattle.std.specs.Prelude.{◌≡◌};
+    ghost use Rattle.doc.specs.declared.fault.DocFault.TheVariants.{NoMemory};
+
+    ghost from_gives = { λ _ e. e ≡ NoMemory };
+
+    fn from(_refused: AllocError) -> DocFault {
+        DocFault::NoMemory
+    }
+}
+
+impl<T: Drop> From<AllocFailed<T>> for DocFault {
+    ghost use Rattle.std.specs.Prelude.{◌≡◌};
+    ghost use Rattle.doc.specs.declared.fault.DocFault.TheVariants.{NoMemory};
+
+    ghost from_gives = { λ _ e. e ≡ NoMemory };
+
+    fn from(_refused: AllocFailed<T>) -> DocFault {
+        DocFault::NoMemory
+    }
+}

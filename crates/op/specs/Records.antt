@@ -1,0 +1,44 @@
+-- Records, and the operations that a list of them leaves.
+use Rattle.std.specs.Prelude.{◌≡◌, ℕ, ℤ, negsuc, ◌<◌, ◌^◌, ◌≤ℤ◌, List, [], fold, take}
+use Rattle.op.specs.declared.operation.Op.{Op}
+use Rattle.op.specs.declared.operation.Body.{Body}
+use Rattle.op.specs.declared.operation.Body.TheVariants.{Index, Delete, NoOp}
+use Rattle.op.specs.declared.record.Record.{Record}
+use Rattle.op.specs.declared.record.Record.TheVariants.{Op as Kept}
+use Rattle.op.specs.Operations.{add}
+
+-- versions begin at 1; an operation that does nothing has none
+abbrev pub IsVersion : Body → ℕ → Type 0
+IsVersion (Index id source) version = 0 < version
+IsVersion (Delete id) version = 0 < version
+IsVersion NoOp version = version ≡ 0
+
+-- the numbers of an operation: terms begin at 1, and none passes 9,223,372,036,854,775,807
+pub record IsOperation (o : Op) : Type 0 where
+  pub small_seq : o.seq < 2 ^ 63
+  pub first_term : 0 < o.term
+  pub small_term : o.term < 2 ^ 63
+  pub first_version : IsVersion o.body o.version
+  pub small_version : o.version < 2 ^ 63
+
+-- a write does something
+abbrev pub IsWrite : Body → Type 0
+IsWrite (Index id source) = Unit {0}
+IsWrite (Delete id) = Unit {0}
+IsWrite NoOp = ⊥
+
+-- what holds of a record that is kept: an operation is a write, and the checkpoint beside it is at least -1
+abbrev pub IsRecord : Record → Type 0
+IsRecord (Kept g o) = (negsuc 0 ≤ℤ g) × IsOperation o × IsWrite o.body
+
+-- the operations after one more record: an operation is added where its number is free
+abbrev pub after_record : List Op → Record → List Op
+after_record os (Kept g o) = add os o
+
+-- the operations of records
+abbrev pub operations : List Record → List Op
+operations rs = fold after_record [] rs
+
+-- the operations of the records up to a refresh point
+abbrev pub shown : List Record → ℕ → List Op
+shown rs point = operations (take point rs)

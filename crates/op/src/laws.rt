@@ -1,0 +1,35 @@
+//! Laws of operations and documents. The functions do nothing: each has a law as its contract.
+
+ghost use Rattle.std.specs.Prelude.{◌≡◌, ◌≢◌, ℕ, ◌<◌, Bool, true, not, ◌&&◌, List, None, is_some, IsTrue, if◌then◌else◌};
+ghost use Rattle.std.specs.FinMap.Entries.{is_sorted};
+ghost use Rattle.doc.specs.Id.{Id, id_cmp};
+ghost use Rattle.op.specs.declared.operation.Op.{Op};
+ghost use Rattle.op.specs.Operations.{IsAscending, op_at, add, is_on, is_newer, last_on, local_count};
+ghost use Rattle.op.specs.Documents.{document_at, document_of, documents, left_by};
+
+/// The document at an id is what the last operation on it leaves.
+pub fn last_operation_decides()
+    ensures { (os : List Op) (id : Id) → document_at (documents os) id ≡ document_of (last_on os id) }
+{}
+
+/// Newer number wins: an operation at a free number changes the documents only at its id, and there only where no greater one is.
+pub fn newer_number_wins()
+    ensures { (os : List Op) (o : Op) (id : Id) → op_at os o.seq ≡ None → IsAscending os →
+        document_at (documents (add os o)) id ≡ (if is_on id o && not (is_newer (last_on os id) o.seq) then left_by o o.body else document_at (documents os) id) }
+{}
+
+/// Two operations with different numbers may come in either order.
+pub fn either_order()
+    ensures { (os : List Op) (o p : Op) → o.seq ≢ p.seq → add (add os o) p ≡ add (add os p) o }
+{}
+
+/// Documents stand in byte order of their ids, no id twice.
+pub fn documents_are_sorted()
+    ensures { (os : List Op) → IsTrue (is_sorted id_cmp (documents os)) }
+{}
+
+/// Each number that the local checkpoint counts is there, and the next one isn't.
+pub fn checkpoint_counts_what_is_there()
+    ensures counted { (os : List Op) → IsAscending os → (n : ℕ) → n < local_count os → is_some (op_at os n) ≡ true }
+    ensures no_more { (os : List Op) → IsAscending os → op_at os (local_count os) ≡ None }
+{}

@@ -1,0 +1,9 @@
+//! Operations on documents, the records that a copy keeps of them, and the documents that they make.
+#![tactic(auto)]
+
+pub mod laws;
+pub mod operation;
+pub mod record;
+
+pub use operation::{Body, Op};
+pub use record::Record;

@@ -1,0 +1,5 @@
+pub mod Fault
+pub mod Query
+pub mod View
+pub mod Reading
+pub mod Meaning

@@ -1,0 +1,54 @@
+//! Why a query is refused.
+
+ghost use Rattle.std.specs.Prelude.{◌≡◌, IfSome};
+ghost use Rattle.query.specs.Fault.{fault_of, name_of};
+
+use std::alloc::{AllocError, AllocFailed};
+use thiserror::Error;
+
+/// A refusal of a search body or of a query in it.
+#[derive(Debug, Drop, Error)]
+pub enum QueryFault {
+    /// The text says what was wanted.
+    #[error("bad query: {0}")]
+    Parsing(&'static str),
+    #[error("a value doesn't fit the type of field {0}")]
+    WrongKind(String),
+    #[error("out of memory")]
+    NoMemory,
+}
+
+impl QueryFault {
+    /// The name of the fault, without what it says beside.
+    pub fn name(&self) -> &'static str
+        ensures { IfSome (fault_of self.now) (λ f. result.now ≡ name_of f) }
+    {
+        match self {
+            QueryFault::Parsing(_) => "Parsing",
+            QueryFault::WrongKind(_) => "WrongKind",
+            QueryFault::NoMemory => "NoMemory",
+        }
+    }
+}
+
+impl From<AllocError> for QueryFault {
+    ghost use Rattle.std.specs.Prelude.{◌≡◌};
+    ghost use Rattle.query.specs.declared.fault.QueryFault.TheVariants.{NoMemory};
+
+    ghost from_gives = { λ _ e. e ≡ NoMemory };
+
+    fn from(_refused: AllocError) -> QueryFault {
+        QueryFault::NoMemory
+    }
+}
+
+impl<T: Drop> From<AllocFailed<T>> for QueryFault {
+    ghost use Rattle.std.specs.Prelude.{◌≡◌};
+    ghost use Rattle.query.specs.declared.fault.QueryFault.TheVariants.{NoMemory};
+
+    ghost from_gives = { λ _ e. e ≡ NoMemory };
+
+    fn from(_refused: AllocFailed<T>) -> QueryFault {
+        QueryFault::NoMemory
+    }
+}
