@@ -38,7 +38,8 @@ impl Doc {
     /// Else the first fault, in the order size, JSON, object, and then its fields in byte order of their names.
     #[tactic(auto, unfolding(crate::specs::Document::doc_of))]
     pub fn read(alloc: Global, mapping: &Mapping, bytes: &[u8]) -> Result<Doc, DocFault>
-        ensures { Gives fault_of (λ d. d) result (spec.doc_of mapping.now bytes.now) }
+        ensures reads { Gives fault_of (λ d. d) result (spec.doc_of mapping.now bytes.now) }
+        ensures source { IfOk result (λ d. d.source ≡ bytes.now) }
     {
         if bytes.len() > MAX_SOURCE {
             return Err(DocFault::TooLarge);
@@ -79,6 +80,13 @@ impl Doc {
     {
         let Doc { source, fields: _ } = self;
         source
+    }
+
+    /// The source.
+    pub fn text(&self) -> &Source
+        ensures { result.now ≡ self.now.source }
+    {
+        &self.source
     }
 
     /// The bytes as they were handed in.

@@ -1,5 +1,5 @@
 -- What a list of operations has after one is added.
-use Rattle.std.proofs.Common.{◌≡◌, ◌≢◌, ℕ, zero, suc, length, get_or, ◌<◌, ◌≤◌, Bool, true, false, List, [], ◌∷◌, ◌++◌, cond, if◌then◌else◌, Option, Some, None, is_some, IsSome, ltb, eqb, refl, sym, ap, ◌∙◌, arith, rules, max}
+use Rattle.std.proofs.Common.{◌≡◌, ◌≢◌, ℕ, zero, suc, length, get_or, ◌<◌, ◌≤◌, Bool, true, false, List, [], ◌∷◌, ◌++◌, if◌then◌else◌, Option, Some, None, is_some, refl, ap, ◌∙◌, arith, max}
 use Rattle.std.specs.Prelude.{◌==◌, nat_lt, IfSome, not, ◌&&◌}
 use Rattle.std.specs.List.{AllByRecursion}
 use Rattle.std.specs.Option.{option_or}
@@ -195,3 +195,10 @@ add_there os o p ne there = grind (arith, nat_tests, op_at-placed os p o.seq)
 
 pub add-add : (os : List Op) (o p : Op) → o.seq ≢ p.seq → add (add os o) p ≡ add (add os p) o
 add-add os o p ne = grind (arith, nat_tests, op_at-placed os o p.seq, op_at-placed os p o.seq, placed-placed os o p ne)
+
+pub IsAscending-add : (os : List Op) (o : Op) → IsAscending os → IsAscending (add os o)
+IsAscending-add os o up =
+    elim (op_at os o.seq) as (λ found. op_at os o.seq ≡ found → IsAscending (if is_some found then os else placed os o)) [
+      | None ↦ λ free. IsAscending-placed os o free up
+      | Some q ↦ λ there. up
+    ] refl

@@ -6,8 +6,8 @@ use Rattle.doc.proofs.Json.{json_refused}
 use Rattle.doc.proofs.document.Doc.read.Goals as goal
 
 -- bytes that are no text are no JSON
-pub returns-in_default : goal.returns-in_default
+pub returns-in_default-clause-reads : goal.returns-in_default-clause-reads
 unfolding doc_of
-returns-in_default c =
+returns-in_default-clause-reads c =
     let refused : json_of c.args.bytes.now ≡ Err not_json = json_refused c.args.bytes.now (λ u. absurd (c.in_default.ensures.cases.0 u)) in
     grind (arith, nat_tests, refused)

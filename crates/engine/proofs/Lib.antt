@@ -1,0 +1,4 @@
+pub mod PlaceLaws
+pub mod KeptLaws
+pub mod EntryLaws
+pub mod ShownLaws

@@ -1,0 +1,16 @@
+use Rattle.std.proofs.Common.{◌≡◌, ◌+◌, ◌∷◌, ◌++◌, [], take, sym, ap, ◌∙◌}
+use Rattle.std.proofs.lemmas.List.{take_more}
+use Rattle.op.specs.declared.record.Record.{Record}
+use Rattle.op.specs.Records.{IsRecord}
+use Rattle.engine.proofs.KeptLaws.{IsKept-push}
+use Rattle.engine.proofs.history.History.of.Goals as goal
+
+-- the next record is kept too
+pub loop-kept-preserved : goal.loop-kept-preserved
+loop-kept-preserved c =
+    let records = c.deref-kept-items.result.now in
+    let i = c.loop-kept.kept-index in
+    let kept = c.kept-item.result in
+    let more : take (i + 1) records ≡ take i records ++ kept ∷ [] = take_more records i kept c.loop-kept-test.true ∙ ap (λ (r : Record). take i records ++ r ∷ []) (sym c.kept-item.is) in
+    let is : IsRecord kept = rw (c.kept-item.is, c.deref-kept-items.ensures.value) (c.requires i kept (rw (← c.deref-kept-items.ensures.value) c.loop-kept-test.true)) in
+    rw (c.in_ok-keep.ensures.ok, more) (IsKept-push _ _ _ c.loop-kept.invariant is)

@@ -1,0 +1,25 @@
+-- What becomes of a record.
+use Rattle.std.specs.Prelude.{List, [], ◌∷◌, ◌++◌, if◌then◌else◌, is_some}
+use Rattle.op.specs.declared.operation.Op.{Op}
+use Rattle.op.specs.declared.record.Record.{Record}
+use Rattle.op.specs.declared.record.Record.TheVariants.{Op as Kept}
+use Rattle.op.specs.Operations.{op_at, is_stale}
+use Rattle.engine.specs.declared.history.Applied.{Applied}
+use Rattle.engine.specs.declared.history.Applied.TheVariants.{Taken, Stale, Repeated}
+
+-- an operation is repeated where its number is there, and stale where a greater one on its id is
+abbrev pub outcome : List Op → Op → Applied
+outcome os o =
+    if is_some (op_at os o.seq) then Repeated
+    else if is_stale os o then Stale
+    else Taken
+
+-- what becomes of a record, beside these operations
+abbrev pub outcome_of : List Op → Record → Applied
+outcome_of os (Kept g o) = outcome os o
+
+-- the records after it: a repeated one is not kept
+abbrev pub records_after : List Record → Record → Applied → List Record
+records_after rs r Repeated = rs
+records_after rs r Taken = rs ++ r ∷ []
+records_after rs r Stale = rs ++ r ∷ []

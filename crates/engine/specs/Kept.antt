@@ -1,0 +1,12 @@
+-- Operations that are kept beside their records.
+use Rattle.std.specs.Prelude.{◌≡◌, ◌≤◌, ◌^◌, List}
+use Rattle.op.specs.declared.operation.Op.{Op}
+use Rattle.op.specs.declared.record.Record.{Record}
+use Rattle.op.specs.Operations.{IsAscending, next_seq}
+use Rattle.op.specs.Records.{operations}
+
+-- these are the operations of the records, in order, and their numbers fit 63 bits
+pub record IsKept (os : List Op) (rs : List Record) : Type 0 where
+  pub same : os ≡ operations rs
+  pub ascending : IsAscending os
+  pub small : next_seq os ≤ 2 ^ 63

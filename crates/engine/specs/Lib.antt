@@ -1,0 +1,9 @@
+pub mod Place
+pub mod Applied
+pub mod Kept
+pub mod Found
+pub mod Entry
+pub mod Answer
+pub mod Shown
+pub mod Contents
+pub mod Last

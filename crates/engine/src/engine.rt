@@ -1,0 +1,160 @@
+//! The documents of one copy.
+ghost use Rattle.std.specs.Prelude.{◌≡◌, All, length, IfOk, OnOk, OnErr};
+ghost use Rattle.std.specs.Option.{option_copied, option_map};
+ghost use Rattle.std.specs.Arc.{arc_value};
+ghost use Rattle.op.specs.Checkpoint.{checkpoint_of};
+ghost use Rattle.op.specs.Documents.{document_at, documents};
+ghost use Rattle.op.specs.Operations.{op_at, last_on, next_seq};
+ghost use Rattle.op.specs.Records.{IsRecord, operations, shown};
+ghost use Rattle.engine.specs.Applied.{outcome_of, records_after};
+ghost use Rattle.engine.specs.Found.{found_document};
+ghost use Rattle.engine.specs.Last.{last_of};
+
+use crate::history::{Applied, Found, History};
+use crate::snapshot::Snapshot;
+use doc::{DocId, Mapping};
+use op::{Body, Op, Record};
+use std::alloc::{AllocError, Global};
+use std::marker::Model;
+use std::sync::Arc;
+
+/// The last operation on an id, and whether it left a document there.
+#[derive(Clone, Copy, Debug, PartialEq, Eq)]
+pub struct Last {
+    pub seq: u64,
+    pub term: u64,
+    pub version: u64,
+    pub live: bool,
+}
+
+/// The records of a copy, the documents that they make, and those that searches show.
+/// A get shows all records, a search those that were there at the last refresh or opening.
+#[derive(Drop)]
+pub struct Engine {
+    mapping: Arc<Mapping, Global>,
+    history: History,
+    snapshot: Arc<Snapshot, Global>,
+    point: usize,
+}
+
+impl Model for Engine {
+    ghost use Rattle.std.specs.Arc.{arc_value};
+    ghost use Rattle.engine.specs.Contents.{Contents, Shows};
+
+    ghost Value = { Contents };
+
+    ghost view = { λ e. record { mapping = arc_value e.mapping; records = e.history; point = e.point } };
+
+    ghost invariant = { λ e. Shows (arc_value e.mapping) e.history e.point (arc_value e.snapshot) };
+}
+
+impl Engine {
+    /// The engine of these records; searches show them all.
+    pub fn open(alloc: Global, mapping: Mapping, records: Vec<Record>) -> Result<Engine, AllocError>
+        requires { All IsRecord records.items }
+        ensures { IfOk result (λ e. e ≡ record { mapping = mapping; records = records.items; point = length records.items }) }
+    {
+        let mapping = Arc::new(alloc, mapping)?;
+        let history = History::of(alloc, records)?;
+        let snapshot = snapshot_of(alloc, &mapping, &history)?;
+        let point = history.len();
+        Ok(Engine {
+            mapping,
+            history,
+            snapshot,
+            point,
+        })
+    }
+
+    /// Keeps the record, unless it is an operation whose number is there. Searches don't show it yet.
+    pub fn apply(&mut self, alloc: Global, kept: &Record) -> Result<Applied, AllocError>
+        requires { IsRecord kept.now }
+        ensures answer { IfOk result (λ a. a ≡ outcome_of (operations self.old.records) kept.now) }
+        ensures records { IfOk result (λ a. self.new ≡ record self.old { records = records_after self.old.records kept.now a }) }
+        ensures err { OnErr result (self.new ≡ self.old) }
+    {
+        self.history.apply(alloc, kept)
+    }
+
+    /// Shows all records from now on, and answers how many there are.
+    pub fn refresh(&mut self, alloc: Global) -> Result<u64, AllocError>
+        ensures point { IfOk result (λ n. n ≡ length self.old.records) }
+        ensures shown { OnOk result (self.new ≡ record self.old { point = length self.old.records }) }
+        ensures err { OnErr result (self.new ≡ self.old) }
+    {
+        let snapshot = snapshot_of(alloc, &self.mapping, &self.history)?;
+        self.snapshot = snapshot;
+        self.point = self.history.len();
+        Ok(self.point as u64)
+    }
+
+    /// How many records searches show.
+    pub fn point(&self) -> u64
+        ensures { result ≡ self.now.point }
+    {
+        self.point as u64
+    }
+
+    /// What searches show: the documents of the records up to the point.
+    pub fn snapshot(&self) -> &Arc<Snapshot, Global>
+        ensures { arc_value result.now ≡ record { mapping = self.now.mapping; documents = documents (shown self.now.records self.now.point) } }
+    {
+        &self.snapshot
+    }
+
+    /// The document with the id, as of all records.
+    pub fn get(&self, id: &DocId) -> Option<Found<'_>>
+        ensures { option_map found_document result ≡ document_at (documents (operations self.now.records)) id.now }
+    {
+        self.history.get(id)
+    }
+
+    /// The last operation on the id.
+    pub fn last(&self, id: &DocId) -> Option<Last>
+        ensures { result ≡ option_map last_of (last_on (operations self.now.records) id.now) }
+    {
+        match self.history.last(id) {
+            Some(op) => Some(Last {
+                seq: op.seq,
+                term: op.term,
+                version: op.version,
+                live: matches!(&op.body, Body::Index(_, _)),
+            }),
+            None => None,
+        }
+    }
+
+    /// The operation with the number.
+    pub fn op_at(&self, seq: u64) -> Option<&Op>
+        ensures { option_copied result ≡ op_at (operations self.now.records) seq }
+    {
+        self.history.op_at(seq)
+    }
+
+    /// The greatest number, or -1 where there is none.
+    pub fn greatest(&self) -> i64
+        ensures { result ≡ checkpoint_of (next_seq (operations self.now.records)) }
+    {
+        self.history.greatest()
+    }
+
+    /// The mapping that the documents are read under.
+    pub fn mapping(&self) -> &Mapping
+        ensures { result.now ≡ self.now.mapping }
+    {
+        &self.mapping
+    }
+}
+
+/// What searches show of all records.
+fn snapshot_of(
+    alloc: Global,
+    mapping: &Arc<Mapping, Global>,
+    history: &History,
+) -> Result<Arc<Snapshot, Global>, AllocError>
+    ensures { IfOk result (λ s. arc_value s ≡ record { mapping = arc_value mapping.now; documents = documents (operations history.now) }) }
+{
+    let mapping = Arc::try_clone(mapping)?;
+    let snapshot = Snapshot::of(alloc, mapping, history.operations())?;
+    Ok(Arc::new(alloc, snapshot)?)
+}

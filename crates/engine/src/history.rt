@@ -1,0 +1,156 @@
+//! The records of a copy, and their operations.
+ghost use Rattle.std.specs.Prelude.{◌≡◌, All, IfOk, OnErr};
+ghost use Rattle.std.specs.Option.{option_copied, option_map};
+ghost use Rattle.op.specs.Checkpoint.{checkpoint_of};
+ghost use Rattle.op.specs.Documents.{left_by};
+ghost use Rattle.op.specs.Operations.{op_at, last_on, next_seq};
+ghost use Rattle.op.specs.Records.{IsRecord, operations};
+ghost use Rattle.engine.specs.Found.{found_document};
+
+use crate::operations;
+use doc::{DocId, Source};
+use op::{Body, Op, Record};
+use std::alloc::{AllocError, Global};
+use std::marker::Model;
+
+/// What became of a record.
+#[derive(Clone, Copy, Debug, PartialEq, Eq)]
+pub enum Applied {
+    /// It is kept, and nothing newer is on its id.
+    Taken,
+    /// It is kept, and an operation with a greater number is on its id.
+    Stale,
+    /// Its number was there; nothing changed.
+    Repeated,
+}
+
+/// A document that is there, with the operation that wrote it.
+#[derive(Clone, Copy)]
+pub struct Found<'a> {
+    pub seq: u64,
+    pub term: u64,
+    pub version: u64,
+    pub source: &'a Source,
+}
+
+/// The records in the order in which they came, and their operations in order of number.
+#[derive(Drop)]
+pub(crate) struct History {
+    records: Vec<Record>,
+    operations: Vec<Op>,
+}
+
+impl Model for History {
+    ghost use Rattle.std.specs.Prelude.{List};
+    ghost use Rattle.op.specs.declared.record.Record.{Record};
+    ghost use Rattle.engine.specs.Kept.{IsKept};
+
+    ghost Value = { List Record };
+
+    ghost view = { λ h. h.records.items };
+
+    ghost invariant = { λ h. IsKept h.operations.items h.records.items };
+}
+
+impl History {
+    ghost use Rattle.std.specs.Prelude.{length};
+    ghost use Rattle.op.specs.Documents.{document_at, documents};
+    ghost use Rattle.engine.specs.Applied.{outcome_of, records_after};
+
+    /// The history that these records are.
+    pub(crate) fn of(alloc: Global, records: Vec<Record>) -> Result<History, AllocError>
+        requires { All IsRecord records.items }
+        ensures { IfOk result (λ h. h ≡ records.items) }
+    {
+        let mut operations = Vec::new(alloc);
+        for kept in &records {
+            operations::keep(alloc, &mut operations, kept)?;
+        }
+        Ok(History {
+            records,
+            operations,
+        })
+    }
+
+    /// How many records there are.
+    pub(crate) fn len(&self) -> usize
+        ensures { result ≡ length self.now }
+    {
+        self.records.len()
+    }
+
+    /// The operations in order of number.
+    pub(crate) fn operations(&self) -> &[Op]
+        ensures { result.now ≡ operations self.now }
+    {
+        &self.operations
+    }
+
+    /// The last operation on the id.
+    pub(crate) fn last(&self, id: &DocId) -> Option<&Op>
+        ensures { option_copied result ≡ last_on (operations self.now) id.now }
+    {
+        operations::last_on(&self.operations, id)
+    }
+
+    /// The document with the id.
+    pub(crate) fn get(&self, id: &DocId) -> Option<Found<'_>>
+        ensures { option_map found_document result ≡ document_at (documents (operations self.now)) id.now }
+    {
+        match self.last(id) {
+            Some(op) => document_of(op),
+            None => None,
+        }
+    }
+
+    /// The operation with the number.
+    pub(crate) fn op_at(&self, seq: u64) -> Option<&Op>
+        ensures { option_copied result ≡ op_at (operations self.now) seq }
+    {
+        match operations::place_of(&self.operations, seq) {
+            Ok(at) => Some(&self.operations[at]),
+            Err(_) => None,
+        }
+    }
+
+    /// The greatest number, or -1 where there is none.
+    pub(crate) fn greatest(&self) -> i64
+        ensures { result ≡ checkpoint_of (next_seq (operations self.now)) }
+    {
+        operations::greatest(&self.operations)
+    }
+
+    /// Keeps the record, where it isn't an operation whose number is there.
+    pub(crate) fn apply(&mut self, alloc: Global, kept: &Record) -> Result<Applied, AllocError>
+        requires { IsRecord kept.now }
+        ensures answer { IfOk result (λ a. a ≡ outcome_of (operations self.old) kept.now) }
+        ensures records { IfOk result (λ a. self.new ≡ records_after self.old kept.now a) }
+        ensures err { OnErr result (self.new ≡ self.old) }
+    {
+        let applied = operations::outcome_of(&self.operations, kept);
+        if let Applied::Repeated = applied {
+            return Ok(applied);
+        }
+        self.records.reserve(1)?;
+        let copy = kept.copy(alloc)?;
+        operations::keep(alloc, &mut self.operations, kept)?;
+        self.records.push(copy)?;
+        Ok(applied)
+    }
+}
+
+/// The document that an operation leaves: that of an index.
+fn document_of(op: &Op) -> Option<Found<'_>>
+    ensures { option_map found_document result ≡ left_by op.now op.now.body }
+{
+    match &op.body {
+        Body::Index(_, source) => Some(Found {
+            seq: op.seq,
+            term: op.term,
+            version: op.version,
+            source,
+        }),
+        Body::Delete(_) => None,
+        Body::NoOp => None,
+    }
+}

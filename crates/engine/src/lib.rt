@@ -1,0 +1,14 @@
+//! The documents of one copy: its records, what they make, and what searches show, by plain lists.
+#![tactic(auto)]
+
+mod documents;
+pub mod engine;
+mod history;
+mod operations;
+pub mod snapshot;
+#[cfg(test)]
+mod tests;
+
+pub use engine::{Engine, Last};
+pub use history::{Applied, Found};
+pub use snapshot::{Hit, Hits, Snapshot};

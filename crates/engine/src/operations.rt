@@ -1,0 +1,117 @@
+//! Searches in a list of operations in ascending order of their numbers.
+ghost use Rattle.std.specs.Prelude.{◌≡◌, ◌≤◌, ◌<◌, ◌^◌, suc, length, slice_get, IfOk, IfErr, OnOk, OnErr};
+ghost use Rattle.std.specs.Option.{option_copied};
+ghost use Rattle.op.specs.Operations.{IsAscending, op_at, add, last_on, next_seq, is_stale};
+ghost use Rattle.op.specs.Records.{after_record};
+ghost use Rattle.op.specs.Checkpoint.{checkpoint_of};
+ghost use Rattle.engine.specs.Place.{IsGap};
+ghost use Rattle.engine.specs.Applied as spec;
+
+use crate::history::Applied;
+use doc::DocId;
+use op::{Body, Op, Record};
+use std::alloc::{AllocError, Global};
+
+/// Where the number is, or where it would go.
+pub(crate) fn place_of(operations: &[Op], seq: u64) -> Result<usize, usize>
+    requires { IsAscending operations.now }
+    ensures found { IfOk result (λ at. slice_get operations.now at ≡ op_at operations.now seq) }
+    ensures there { IfOk result (λ at. suc at ≤ length operations.now) }
+    ensures absent { IfErr result (λ at. IsGap operations.now seq at) }
+{
+    for (at, op) in operations.iter().enumerate() {
+        if op.seq == seq {
+            return Ok(at);
+        }
+        if seq < op.seq {
+            return Err(at);
+        }
+    }
+    Err(operations.len())
+}
+
+/// The last operation on the id.
+pub(crate) fn last_on<'a>(operations: &'a [Op], id: &DocId) -> Option<&'a Op>
+    ensures { option_copied result ≡ last_on operations.now id.now }
+{
+    let mut found = None;
+    for op in operations {
+        if op.is_on(id) {
+            found = Some(op);
+        }
+    }
+    found
+}
+
+/// Whether an operation on the same id has a greater number.
+fn has_newer(operations: &[Op], op: &Op) -> bool
+    ensures { result ≡ is_stale operations.now op.now }
+{
+    let id = match &op.body {
+        Body::Index(id, _) => id,
+        Body::Delete(id) => id,
+        Body::NoOp => return false,
+    };
+    match last_on(operations, id) {
+        Some(last) => op.seq < last.seq,
+        None => false,
+    }
+}
+
+/// What becomes of a record.
+pub(crate) fn outcome_of(operations: &[Op], kept: &Record) -> Applied
+    requires { IsAscending operations.now }
+    ensures { result ≡ spec.outcome_of operations.now kept.now }
+{
+    match kept {
+        Record::Op(_, op) => outcome(operations, op),
+    }
+}
+
+/// What becomes of an operation.
+fn outcome(operations: &[Op], op: &Op) -> Applied
+    requires { IsAscending operations.now }
+    ensures { result ≡ spec.outcome operations.now op.now }
+{
+    if place_of(operations, op.seq).is_ok() {
+        Applied::Repeated
+    } else if has_newer(operations, op) {
+        Applied::Stale
+    } else {
+        Applied::Taken
+    }
+}
+
+/// The operations after one more record.
+pub(crate) fn keep(alloc: Global, operations: &mut Vec<Op>, kept: &Record) -> Result<(), AllocError>
+    requires { IsAscending operations.old.items }
+    ensures ok { OnOk result (operations.new.items ≡ after_record operations.old.items kept.now) }
+    ensures err { OnErr result (operations.new.items ≡ operations.old.items) }
+{
+    match kept {
+        Record::Op(_, op) => add(alloc, operations, op),
+    }
+}
+
+/// Adds the operation, where its number is free.
+fn add(alloc: Global, operations: &mut Vec<Op>, op: &Op) -> Result<(), AllocError>
+    requires { IsAscending operations.old.items }
+    ensures ok { OnOk result (operations.new.items ≡ add operations.old.items op.now) }
+    ensures err { OnErr result (operations.new.items ≡ operations.old.items) }
+{
+    if let Err(at) = place_of(operations, op.seq) {
+        operations.insert(at, op.copy(alloc)?)?;
+    }
+    Ok(())
+}
+
+/// The greatest number, or -1 where there is none.
+pub(crate) fn greatest(operations: &[Op]) -> i64
+    requires { next_seq operations.now ≤ 2 ^ 63 }
+    ensures { result ≡ checkpoint_of (next_seq operations.now) }
+{
+    match operations {
+        [] => -1,
+        [.., last] => last.seq as i64,
+    }
+}
