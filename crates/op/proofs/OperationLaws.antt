@@ -202,3 +202,11 @@ IsAscending-add os o up =
       | None ↦ λ free. IsAscending-placed os o free up
       | Some q ↦ λ there. up
     ] refl
+
+-- a number above all is free
+none_at : (os : List Op) (n : ℕ) → AllByRecursion (λ o. o.seq < n) os → op_at os n ≡ None
+none_at [] n all = refl
+none_at (o ∷ os) n all = let h : o.seq < n = all.0 in grind (arith, nat_tests, none_at os n all.1)
+
+pub op_at-next_seq : (os : List Op) → IsAscending os → op_at os (next_seq os) ≡ None
+op_at-next_seq os up = none_at os (next_seq os) (next_seq-above os up)

@@ -6,7 +6,9 @@ use Rattle.std.proofs.Math.Seq.{take-length}
 use Rattle.op.specs.declared.operation.Op.{Op}
 use Rattle.op.specs.declared.record.Record.{Record}
 use Rattle.op.specs.declared.record.Record.TheVariants.{Op as Kept}
-use Rattle.op.specs.Operations.{add}
+use Rattle.std.specs.Prelude.{fold}
+use Rattle.op.specs.Operations.{add, IsAscending}
+use Rattle.op.proofs.OperationLaws.{IsAscending-add}
 use Rattle.op.specs.Records.{after_record, operations, shown}
 
 pub operations-push : (rs : List Record) (r : Record) → operations (rs ++ r ∷ []) ≡ after_record (operations rs) r
@@ -22,3 +24,14 @@ shown-push rs r point le = ap operations (take-append-le point rs (r ∷ []) le)
 -- at the end all is shown
 pub shown-all : (rs : List Record) → shown rs (length rs) ≡ operations rs
 shown-all rs = ap operations (take-length rs)
+
+IsAscending-after : (os : List Op) (r : Record) → IsAscending os → IsAscending (after_record os r)
+IsAscending-after os (Kept g o) up = IsAscending-add os o up
+
+IsAscending-fold : (rs : List Record) (os : List Op) → IsAscending os → IsAscending (fold after_record os rs)
+IsAscending-fold [] os up = up
+IsAscending-fold (r ∷ rs) os up = IsAscending-fold rs (after_record os r) (IsAscending-after os r up)
+
+-- the operations of records stand in order of their numbers
+pub IsAscending-operations : (rs : List Record) → IsAscending (operations rs)
+IsAscending-operations rs = IsAscending-fold rs [] tt

@@ -1,0 +1,6 @@
+use Rattle.std.proofs.Common.{IfSome}
+use Rattle.indexd.specs.Going.{Going}
+use Rattle.indexd.proofs.playing.replay.Given as goal
+
+abbrev pub invariant-loop : goal.invariant-loop
+invariant-loop g l = IfSome (g.R.Read.remaining l.fn.reader) (Going (g.W.Write.contents l.fn.writer) (g.W.Write.contents l.writer) (g.R.Read.remaining l.reader) l.index)

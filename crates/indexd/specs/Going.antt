@@ -1,0 +1,14 @@
+-- A script that is being played.
+use Rattle.std.specs.Prelude.{◌≡◌, ℕ, List, ◌++◌, Option, Some}
+use Rattle.std.specs.Io.KnownBytes.{Appends}
+use Rattle.indexd.specs.Lines.{lines_of}
+use Rattle.indexd.specs.Step.{State}
+use Rattle.indexd.specs.Output.{outputs, lines}
+
+-- the bytes written so far, and those of what is left of the script, are its output
+pub record Going (old new left : Option (List ℕ)) (state : State) (script : List ℕ) : Type 0 where
+  pub rest : List ℕ
+  pub is_left : left ≡ Some rest
+  pub front : List ℕ
+  pub written : Appends old new front
+  pub whole : lines script ≡ front ++ outputs state (lines_of rest)

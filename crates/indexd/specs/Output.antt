@@ -1,0 +1,43 @@
+-- What a script prints.
+use Rattle.std.specs.Prelude.{◌≡◌, ℕ, List, [], ◌∷◌, ◌++◌, Option, Some, None, Result, Ok, Err, if◌then◌else◌}
+use Rattle.std.specs.Io.KnownBytes.{Appends}
+use Rattle.doc.specs.Outcome.{◌>>=◌}
+use Rattle.indexd.specs.Lines.{lines_of}
+use Rattle.indexd.specs.Command.{Command, command_of, is_passed_over}
+use Rattle.indexd.specs.Refusal.{Refusal, bad_line, name_of}
+use Rattle.indexd.specs.Reply.{Reply, printed, refused}
+use Rattle.indexd.specs.Step.{State, Step, step}
+
+abbrev pub command_or_bad_line : Option Command → Result Command Refusal
+command_or_bad_line None = Err bad_line
+command_or_bad_line (Some c) = Ok c
+
+-- what a line does
+abbrev pub line_step : State → List ℕ → Step State
+line_step s line = command_or_bad_line (command_of line) >>= step s
+
+-- the state after a step and what is printed; a refusal leaves the state
+abbrev pub outcome : State → Step State → State × List ℕ
+outcome s (Ok r) = (r.0, printed r.1)
+outcome s (Err f) = (s, refused (name_of f))
+
+-- the state after a line, and what the line prints
+unfoldable pub played : State → List ℕ → State × List ℕ
+played s line = if is_passed_over line then (s, []) else outcome s (line_step s line)
+
+-- what lines print, one after another
+abbrev pub outputs : State → List (List ℕ) → List ℕ
+outputs s [] = []
+outputs s (line ∷ lines) = (played s line).1 ++ outputs (played s line).0 lines
+
+-- the output of a script; the index isn't open at first
+abbrev pub lines : List ℕ → List ℕ
+lines script = outputs None (lines_of script)
+
+-- a beginning of some bytes
+abbrev pub IsFront : List ℕ → List ℕ → Type 0
+IsFront front all = (rest : List ℕ) × (all ≡ front ++ rest)
+
+-- known bytes grew by a beginning of these
+abbrev pub AppendsFront : Option (List ℕ) → Option (List ℕ) → List ℕ → Type 0
+AppendsFront old new all = (front : List ℕ) × IsFront front all × Appends old new front

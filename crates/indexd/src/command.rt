@@ -1,0 +1,159 @@
+//! The commands of a script.
+ghost use Rattle.std.specs.Prelude.{◌≡◌, ◌^◌, nat_lt, option_map, if◌then◌else◌, Some, None};
+ghost use Rattle.std.specs.Str.{all_ascii_digits};
+ghost use Rattle.std.specs.Option.{option_copied};
+ghost use Rattle.indexd.specs.Command as spec;
+ghost use Rattle.indexd.specs.Words as words;
+ghost use Rattle.indexd.specs.View.{command_view};
+
+use std::str;
+
+/// A line of a script: copies by their number, the texts as they stand in the line.
+#[derive(Clone, Copy)]
+pub(crate) enum Command<'a> {
+    Open(u64, &'a str),
+    Put(u64, &'a str, &'a str),
+    Get(u64, &'a str),
+    Refresh(u64),
+    Search(u64, &'a str),
+}
+
+/// The command of a line, none where the line can't be read.
+pub(crate) fn command_of(line: &[u8]) -> Option<Command<'_>>
+    ensures { option_map command_view result ≡ spec.command_of line.now }
+{
+    let text = text_of(line)?;
+    let (word, rest) = split_word(text)?;
+    command_named(word, rest)
+}
+
+/// Whether a line is empty or a comment.
+pub(crate) fn is_passed_over(line: &[u8]) -> bool
+    ensures { result ≡ spec.is_passed_over line.now }
+{
+    line.is_empty() || line[0] == b'#'
+}
+
+fn command_named<'a>(word: &str, rest: &'a str) -> Option<Command<'a>>
+    ensures { option_map command_view result ≡ spec.command_named word.now rest.entry.now }
+{
+    match word {
+        "open" => open_of(rest),
+        "put" => put_of(rest),
+        "get" => get_of(rest),
+        "refresh" => refresh_of(rest),
+        "search" => search_of(rest),
+        _ => None,
+    }
+}
+
+fn open_of(rest: &str) -> Option<Command<'_>>
+    ensures { option_map command_view result ≡ spec.open_of rest.now }
+{
+    let (copies, mapping) = number_then(rest)?;
+    Some(Command::Open(copies, mapping))
+}
+
+fn put_of(rest: &str) -> Option<Command<'_>>
+    ensures { option_map command_view result ≡ spec.put_of rest.now }
+{
+    let (copy, rest) = number_then(rest)?;
+    let (id, source) = split_word(rest)?;
+    Some(Command::Put(copy, id, source))
+}
+
+fn get_of(rest: &str) -> Option<Command<'_>>
+    ensures { option_map command_view result ≡ spec.get_of rest.now }
+{
+    let (copy, rest) = number_then(rest)?;
+    let id = one_word(rest)?;
+    Some(Command::Get(copy, id))
+}
+
+fn refresh_of(rest: &str) -> Option<Command<'_>>
+    ensures { option_map command_view result ≡ spec.refresh_of rest.now }
+{
+    let copy = number_of(rest)?;
+    Some(Command::Refresh(copy))
+}
+
+fn search_of(rest: &str) -> Option<Command<'_>>
+    ensures { option_map command_view result ≡ spec.search_of rest.now }
+{
+    let (copy, body) = number_then(rest)?;
+    Some(Command::Search(copy, body))
+}
+
+/// A number, and the text behind the space after it.
+fn number_then(text: &str) -> Option<(u64, &str)>
+    ensures { option_map (λ x. (x.0, x.1.now)) result ≡ spec.number_then text.now }
+{
+    let (word, rest) = split_word(text)?;
+    let number = number_of(word)?;
+    Some((number, rest))
+}
+
+/// The text that some bytes are.
+fn text_of(bytes: &[u8]) -> Option<&str>
+    ensures { option_copied result ≡ words.text_of bytes.now }
+{
+    match str::from_utf8(bytes) {
+        Ok(text) => Some(text),
+        Err(_) => None,
+    }
+}
+
+/// The first word, and the text behind the space after it.
+fn split_word(text: &str) -> Option<(&str, &str)>
+    ensures { option_map (λ x. (x.0.now, x.1.now)) result ≡ words.split_word text.now }
+{
+    text.split_once(' ')
+}
+
+/// The text, where it is one word.
+fn one_word(text: &str) -> Option<&str>
+    ensures { option_copied result ≡ words.one_word text.now }
+{
+    match split_word(text) {
+        Some(_) => None,
+        None => Some(text),
+    }
+}
+
+/// The number that a word is.
+fn number_of(word: &str) -> Option<u64>
+    ensures { result ≡ words.number_of word.now }
+{
+    if !is_number(word.as_bytes()) {
+        return None;
+    }
+    match word.parse::<u64>() {
+        Ok(number) => small(number),
+        Err(_) => None,
+    }
+}
+
+/// The number, where it fits 63 bits.
+fn small(number: u64) -> Option<u64>
+    ensures { result ≡ (if nat_lt number (2 ^ 63) then Some number else None) }
+{
+    if number < 1 << 63 { Some(number) } else { None }
+}
+
+/// Whether a word is 1 to 19 digits.
+fn is_number(word: &[u8]) -> bool
+    ensures { result ≡ words.is_number word.now }
+{
+    !word.is_empty() && word.len() <= 19 && all_digits(word)
+}
+
+fn all_digits(word: &[u8]) -> bool
+    ensures { result ≡ all_ascii_digits word.now }
+{
+    for byte in word {
+        if !byte.is_ascii_digit() {
+            return false;
+        }
+    }
+    true
+}

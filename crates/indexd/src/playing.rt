@@ -1,0 +1,97 @@
+//! Playing a script, line by line.
+ghost use Rattle.std.specs.Prelude.{◌≡◌, [], IfOk, IfSome, IfNone, OnOk, OnErr, string_bytes};
+ghost use Rattle.std.specs.Io.BufRead.{strip_last};
+ghost use Rattle.std.specs.Io.KnownBytes.{Appends};
+ghost use Rattle.doc.specs.Outcome.{Gives};
+ghost use Rattle.indexd.specs.Lines.{IsFirstLine};
+ghost use Rattle.indexd.specs.Output as spec;
+ghost use Rattle.indexd.specs.View.{refusal_of, reply_view};
+
+use crate::command::{command_of, is_passed_over};
+use crate::fault::ReplayFault;
+use crate::refusal::Refusal;
+use crate::reply::{Reply, refused};
+use crate::step::step;
+use crate::writing::write_whole;
+use engine::Engine;
+use std::alloc::{AllocError, Global};
+use std::io::{BufRead, ErrorKind, Write};
+
+/// Plays a script over one copy of an index that is kept in memory. What is written is the script's output,
+/// and after a fault a beginning of it.
+pub fn replay<R: BufRead, W: Write>(
+    alloc: Global,
+    reader: &mut R,
+    writer: &mut W,
+) -> Result<(), ReplayFault>
+    ensures ok { OnOk result (IfSome (R.remaining reader.old) (λ script.
+        Appends (W.contents writer.old) (W.contents writer.new) (spec.lines script))) }
+    ensures err { OnErr result (IfSome (R.remaining reader.old) (λ script.
+        spec.AppendsFront (W.contents writer.old) (W.contents writer.new) (spec.lines script))) }
+{
+    let mut index = None;
+    for _ in 0..u64::MAX {
+        let Some(line) = read_line(alloc, reader)? else {
+            return Ok(());
+        };
+        let text = played(alloc, &mut index, &line)?;
+        write_whole(writer, text.as_bytes())?;
+    }
+    Err(ReplayFault::Read)
+}
+
+/// Plays one line, and answers what it prints.
+#[tactic(auto, unfolding(crate::specs::Output::played))]
+fn played(alloc: Global, index: &mut Option<Engine>, line: &[u8]) -> Result<String, AllocError>
+    ensures { IfOk result (λ text. spec.played index.old line.now ≡ (index.new, string_bytes text)) }
+{
+    if is_passed_over(line) {
+        return Ok(String::new(alloc));
+    }
+    match line_step(alloc, index, line) {
+        Ok(reply) => reply.text(alloc),
+        Err(refusal) => if refusal.is_memory() {
+            Err(AllocError)
+        } else {
+            refused(alloc, refusal.name())
+        },
+    }
+}
+
+fn line_step(alloc: Global, index: &mut Option<Engine>, line: &[u8]) -> Result<Reply, Refusal>
+    ensures gives { Gives refusal_of (λ r. (index.new, reply_view r)) result (spec.line_step index.old line.now) }
+    ensures err { OnErr result (index.new ≡ index.old) }
+{
+    match command_of(line) {
+        Some(command) => step(alloc, index, command),
+        None => Err(Refusal::BadLine),
+    }
+}
+
+/// The next line without its newline, or `None` at the end.
+fn read_line<R: BufRead>(alloc: Global, reader: &mut R) -> Result<Option<Vec<u8>>, ReplayFault>
+    ensures some { IfOk result (λ line. IfSome (R.remaining reader.old) (λ bytes. IfSome line (λ l. IsFirstLine bytes l.items (R.remaining reader.new)))) }
+    ensures none { IfOk result (λ line. IfSome (R.remaining reader.old) (λ bytes. IfNone line (bytes ≡ []))) }
+{
+    let mut line = Vec::new(alloc);
+    match reader.read_until(b'\n', &mut line) {
+        Ok(0) => Ok(None),
+        Ok(_) => {
+            strip_newline(&mut line);
+            Ok(Some(line))
+        }
+        Err(e) => if e.kind() == ErrorKind::OutOfMemory {
+            Err(ReplayFault::NoMemory)
+        } else {
+            Err(ReplayFault::Read)
+        },
+    }
+}
+
+fn strip_newline(line: &mut Vec<u8>)
+    ensures { line.new.items ≡ strip_last 10 line.old.items }
+{
+    if line.last() == Some(&b'\n') {
+        line.pop();
+    }
+}

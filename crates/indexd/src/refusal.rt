@@ -1,0 +1,97 @@
+//! Why a line of a script is refused.
+ghost use Rattle.std.specs.Prelude.{◌≡◌, IfSome, is_none};
+ghost use Rattle.indexd.specs.Refusal.{name_of};
+ghost use Rattle.indexd.specs.View.{refusal_of};
+
+use doc::DocFault;
+use query::QueryFault;
+use std::alloc::{AllocError, AllocFailed};
+
+/// A refusal of a line; the script goes on, unless memory is wanting.
+#[derive(Debug, Drop)]
+pub(crate) enum Refusal {
+    BadLine,
+    NotOpen,
+    AlreadyOpen,
+    BadCount,
+    NoSuchCopy,
+    Exhausted,
+    Doc(DocFault),
+    Query(QueryFault),
+    NoMemory,
+}
+
+impl Refusal {
+    /// The name that is printed.
+    pub(crate) fn name(&self) -> &'static str
+        ensures { IfSome (refusal_of self.now) (λ r. result.now ≡ name_of r) }
+    {
+        match self {
+            Refusal::BadLine => "BadLine",
+            Refusal::NotOpen => "NotOpen",
+            Refusal::AlreadyOpen => "AlreadyOpen",
+            Refusal::BadCount => "BadCount",
+            Refusal::NoSuchCopy => "NoSuchCopy",
+            Refusal::Exhausted => "Exhausted",
+            Refusal::Doc(fault) => fault.name(),
+            Refusal::Query(fault) => fault.name(),
+            Refusal::NoMemory => "NoMemory",
+        }
+    }
+
+    /// Whether memory is wanting.
+    pub(crate) fn is_memory(&self) -> bool
+        ensures { result ≡ is_none (refusal_of self.now) }
+    {
+        matches!(
+            self,
+            Refusal::NoMemory
+                | Refusal::Doc(DocFault::NoMemory)
+                | Refusal::Query(QueryFault::NoMemory)
+        )
+    }
+}
+
+impl From<DocFault> for Refusal {
+    ghost use Rattle.std.specs.Prelude.{◌≡◌};
+    ghost use Rattle.indexd.specs.declared.refusal.Refusal.TheVariants.{Doc};
+
+    ghost from_gives = { λ f e. e ≡ Doc f };
+
+    fn from(fault: DocFault) -> Refusal {
+        Refusal::Doc(fault)
+    }
+}
+
+impl From<QueryFault> for Refusal {
+    ghost use Rattle.std.specs.Prelude.{◌≡◌};
+    ghost use Rattle.indexd.specs.declared.refusal.Refusal.TheVariants.{Query};
+
+    ghost from_gives = { λ f e. e ≡ Query f };
+
+    fn from(fault: QueryFault) -> Refusal {
+        Refusal::Query(fault)
+    }
+}
+
+impl From<AllocError> for Refusal {
+    ghost use Rattle.std.specs.Prelude.{◌≡◌};
+    ghost use Rattle.indexd.specs.declared.refusal.Refusal.TheVariants.{NoMemory};
+
+    ghost from_gives = { λ _ e. e ≡ NoMemory };
+
+    fn from(_refused: AllocError) -> Refusal {
+        Refusal::NoMemory
+    }
+}
+
+impl<T: Drop> From<AllocFailed<T>> for Refusal {
+    ghost use Rattle.std.specs.Prelude.{◌≡◌};
+    ghost use Rattle.indexd.specs.declared.refusal.Refusal.TheVariants.{NoMemory};
+
+    ghost from_gives = { λ _ e. e ≡ NoMemory };
+
+    fn from(_refused: AllocFailed<T>) -> Refusal {
+        Refusal::NoMemory
+    }
+}

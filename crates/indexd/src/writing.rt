@@ -1,0 +1,23 @@
+//! Writing the output.
+ghost use Rattle.std.specs.Prelude.{OnOk, OnErr};
+ghost use Rattle.std.specs.Io.KnownBytes.{Appends};
+ghost use Rattle.indexd.specs.Output.{AppendsFront};
+
+use crate::fault::ReplayFault;
+use std::io::Write;
+
+/// Writes all of the bytes. After a refusal a beginning of them was written.
+pub(crate) fn write_whole<W: Write>(writer: &mut W, bytes: &[u8]) -> Result<(), ReplayFault>
+    ensures ok { OnOk result (Appends (W.contents writer.old) (W.contents writer.new) bytes.now) }
+    ensures err { OnErr result (AppendsFront (W.contents writer.old) (W.contents writer.new) bytes.now) }
+{
+    let mut rest = bytes;
+    while !rest.is_empty() {
+        match writer.write(rest) {
+            Ok(0) => return Err(ReplayFault::Write),
+            Ok(n) => rest = &rest[n..],
+            Err(_) => return Err(ReplayFault::Write),
+        }
+    }
+    Ok(())
+}
