@@ -1,0 +1,107 @@
+//! The command line.
+ghost use Rattle.std.specs.Prelude.{◌<◌};
+
+use crate::fault::ReplayFault;
+use crate::playing::replay;
+use clap::error::ErrorKind;
+use clap::{Arg, ArgAction, Command};
+use std::alloc::{AllocError, Global};
+use std::io::{BufRead, BufReader, Write};
+use std::rt::Files;
+use std::{fs, io};
+use thiserror::Error;
+
+/// Why the program ends with status 1.
+#[derive(Debug, Drop, Error)]
+enum ProgramFault {
+    #[error("the script can't be opened: {0}")]
+    Open(io::Error),
+    #[error("{0}")]
+    Replay(ReplayFault),
+}
+
+/// Runs the program on its words (the first is its name), and answers its exit status: 0, or 1 with one line
+/// `indexd: TEXT` on `errors`, or 2 with a usage text there where the words can't be read.
+pub fn program<R: Files + AllocGlobal, I: BufRead, O: Write, E: Write>(
+    rt: &R,
+    words: &[String],
+    input: &mut I,
+    output: &mut O,
+    errors: &mut E,
+) -> u8
+    ensures { result < 3 }
+{
+    let file = match file_of(rt.alloc(), words) {
+        Ok(file) => file,
+        Err(error) => return explain(&error, output, errors),
+    };
+    match play(rt, file, input, output) {
+        Ok(()) => 0,
+        Err(fault) => {
+            let _ = writeln!(errors, "indexd: {fault}");
+            1
+        }
+    }
+}
+
+/// The file that the command line names.
+fn file_of<'a>(alloc: Global, words: &'a [String]) -> Result<&'a str, clap::Error> {
+    let matches = command(alloc)?.try_get_matches_from(words)?;
+    match matches.subcommand() {
+        Some((_, replay)) => Ok(replay.get_str("FILE").unwrap_or("-")),
+        None => Ok("-"),
+    }
+}
+
+fn command<'a>(alloc: Global) -> Result<Command<'a>, AllocError> {
+    let file = Arg::new(alloc, "FILE")
+        .required(true)
+        .action(ArgAction::Set)
+        .help("The script, or `-` for standard input");
+    let replay = Command::new(alloc, "replay")
+        .about("Plays a script over a new index, and prints what each line answers")
+        .arg(file)?;
+    Command::new(alloc, "indexd")
+        .about("An index of JSON documents whose promises are proved")
+        .subcommand_required(true)
+        .subcommand(replay)
+}
+
+/// Prints what the command line asked for, or what is wrong with it.
+fn explain<O: Write, E: Write>(error: &clap::Error, output: &mut O, errors: &mut E) -> u8
+    ensures { result < 3 }
+{
+    match error.kind() {
+        ErrorKind::DisplayHelp => {
+            let _ = write!(output, "{error}");
+            let _ = output.flush();
+            0
+        }
+        ErrorKind::OutOfMemory => {
+            let _ = writeln!(errors, "indexd: out of memory");
+            1
+        }
+        _ => {
+            let _ = write!(errors, "{error}");
+            2
+        }
+    }
+}
+
+fn play<R: Files + AllocGlobal, I: BufRead, O: Write>(
+    rt: &R,
+    file: &str,
+    input: &mut I,
+    output: &mut O,
+) -> Result<(), ProgramFault> {
+    let played = if file == "-" {
+        replay(rt.alloc(), input, output)
+    } else {
+        let opened = fs::open(rt, file).map_err(ProgramFault::Open)?;
+        let mut reader = BufReader::new(rt.alloc(), opened).map_err(ProgramFault::Open)?;
+        replay(rt.alloc(), &mut reader, output)
+    };
+    let flushed = output.flush();
+    played.map_err(ProgramFault::Replay)?;
+    flushed.map_err(|_| ProgramFault::Replay(ReplayFault::Write))
+}
