@@ -1,0 +1,25 @@
+//! The words of a text, as searches compare them.
+#![tactic(auto)]
+
+ghost use Rattle.std.specs.Prelude.{◌≡◌, map, IfOk, string_bytes};
+ghost use Rattle.analysis.specs.Tokens.{tokens_of};
+
+use caseless::default_case_fold_str;
+use std::alloc::{AllocError, Global};
+use unicode_segmentation::UnicodeSegmentation;
+
+/// The words of a text in order, cut by UAX #29 and each under default case folding (the Unicode Standard, section 3.13).
+/// White space, punctuation and the like are no words.
+#[tactic(auto, unfolding(crate::specs::Tokens::tokens_of))]
+pub fn tokens(alloc: Global, text: &str) -> Result<Vec<String>, AllocError>
+    ensures { IfOk result (λ v. map string_bytes v.items ≡ tokens_of text.now) }
+{
+    let mut found = Vec::new(alloc);
+    for word in text.unicode_words() {
+        found.push(default_case_fold_str(alloc, word)?)?;
+    }
+    Ok(found)
+}
+
+#[cfg(test)]
+mod tests;
