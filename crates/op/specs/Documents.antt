@@ -1,5 +1,5 @@
 -- The documents that operations make.
-use Rattle.std.specs.Prelude.{ℕ, Bool, true, false, not, List, [], ◌∷◌, Option, Some, None, fold}
+use Rattle.std.specs.Prelude.{ℕ, not, List, [], Option, Some, None, fold}
 use Rattle.std.specs.FinMap.Entries.{put, find, where_key}
 use Rattle.op.specs.declared.operation.Op.{Op}
 use Rattle.op.specs.declared.operation.Body.{Body}

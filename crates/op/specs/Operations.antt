@@ -1,5 +1,5 @@
 -- Operations, as a list in ascending order of their numbers.
-use Rattle.std.specs.Prelude.{ℕ, ℤ, suc, ◌<◌, Bool, true, false, List, [], ◌∷◌, ◌==◌, nat_lt, if◌then◌else◌, Option, Some, None, is_some}
+use Rattle.std.specs.Prelude.{ℕ, ℤ, suc, ◌<◌, Bool, false, List, [], ◌∷◌, ◌==◌, nat_lt, if◌then◌else◌, Option, Some, None, is_some}
 use Rattle.std.specs.Option.{option_or}
 use Rattle.std.specs.List.{AllByRecursion}
 use Rattle.op.specs.declared.operation.Op.{Op}

@@ -1,5 +1,5 @@
 -- Records, and the operations that a list of them leaves.
-use Rattle.std.specs.Prelude.{◌≡◌, ℕ, ℤ, negsuc, ◌<◌, ◌^◌, ◌≤ℤ◌, List, [], fold, take}
+use Rattle.std.specs.Prelude.{◌≡◌, ℕ, negsuc, ◌<◌, ◌^◌, ◌≤ℤ◌, List, [], fold, take}
 use Rattle.op.specs.declared.operation.Op.{Op}
 use Rattle.op.specs.declared.operation.Body.{Body}
 use Rattle.op.specs.declared.operation.Body.TheVariants.{Index, Delete, NoOp}

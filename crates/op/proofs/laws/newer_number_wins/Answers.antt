@@ -1,6 +1,4 @@
-use Rattle.std.proofs.Common.{◌≡◌, ◌∙◌, ap, refl, None}
-use Rattle.op.specs.declared.operation.Op.{Op}
-use Rattle.op.specs.Operations.{op_at, add, placed}
+use Rattle.std.proofs.Common.{◌∙◌, ap}
 use Rattle.op.specs.Documents.{documents, document_at}
 use Rattle.op.proofs.DocumentLaws.{document_at-documents-placed}
 use Rattle.op.proofs.OperationLaws.{add-free}
