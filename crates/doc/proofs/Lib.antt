@@ -2,3 +2,4 @@ pub mod FieldValuesLemmas
 pub mod Fronts
 pub mod Json
 pub mod Parts
+pub mod Long

@@ -9,7 +9,7 @@ use Rattle.doc.specs.Entries.{entries}
 use Rattle.doc.specs.Fault.{Fault, not_json, wrong_value, unmapped, too_large}
 use Rattle.doc.specs.Fields.{kind_at}
 use Rattle.doc.specs.Mapping.{MappingData, members_of, require}
-use Rattle.doc.specs.Scalar.{Scalar, Converted, wrong, nothing, value, converted, fits_unmapped}
+use Rattle.doc.specs.Scalar.{Scalar, Converted, wrong, nothing, value, converted, parts, fits_unmapped}
 
 -- fields with their values in order
 abbrev pub Values : Type 0
@@ -33,17 +33,21 @@ json_or (Some d) = Ok d
 unfoldable pub json_of : List ℕ → Result Data Fault
 json_of bytes = if is_utf8 bytes then json_or (read bytes) else Err not_json
 
--- the values of a mapped field, or its fault
-abbrev pub values_or : List ℕ → Converted → Result (List Scalar) Fault
-values_or name wrong = Err (wrong_value name)
-values_or name nothing = Ok []
-values_or name (value s) = Ok (s ∷ [])
+-- the value of one part of a mapped field, or the field's fault
+abbrev pub value_or : List ℕ → Converted → Result (Option Scalar) Fault
+value_or name wrong = Err (wrong_value name)
+value_or name nothing = Ok None
+value_or name (value s) = Ok (Some s)
+
+-- the values of a mapped field in order, or its fault
+abbrev pub values_or : List ℕ → Kind → Data → Result (List Scalar) Fault
+values_or name k d = try_filter_map (λ part. value_or name (converted k part)) (parts d)
 
 -- what one field of a document gives: one that is not mapped is refused by a strict mapping, and else holds no object
 abbrev pub field_of : Bool → List ℕ → Option Kind → Data → Result (Option (List ℕ × List Scalar)) Fault
 field_of strict name None d = if strict then Err (unmapped name) else (if fits_unmapped d then Ok None else Err (wrong_value name))
 field_of strict name (Some k) d = do
-  found ← values_or name (converted k d)
+  found ← values_or name k d
   Ok (Some (name, found))
 
 unfoldable pub member_of : MappingData → List ℕ × Data → Result (Option (List ℕ × List Scalar)) Fault

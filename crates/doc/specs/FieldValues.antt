@@ -1,9 +1,9 @@
 -- What the members of an object give one field.
-use Rattle.std.specs.Prelude.{ℕ, List, [], ◌∷◌, ◌++◌, Option, Some, None, if◌then◌else◌}
+use Rattle.std.specs.Prelude.{ℕ, List, [], ◌∷◌, ◌++◌, flat_map, Option, Some, None, if◌then◌else◌}
 use Rattle.std.specs.Str.{bytes_eq}
 use Rattle.serde_json.specs.Data.{Data}
 use Rattle.doc.specs.declared.mapping.Kind.{Kind}
-use Rattle.doc.specs.Scalar.{Scalar, Converted, wrong, nothing, value, converted}
+use Rattle.doc.specs.Scalar.{Scalar, Converted, wrong, nothing, value, converted, parts}
 
 -- the value that there is, if any
 abbrev pub scalars_in : Converted → List Scalar
@@ -14,7 +14,7 @@ scalars_in (value s) = s ∷ []
 -- what a member gives a field; one that is not mapped gets nothing
 abbrev pub given_by : Option Kind → Data → List Scalar
 given_by None d = []
-given_by (Some k) d = scalars_in (converted k d)
+given_by (Some k) d = flat_map (λ part. scalars_in (converted k part)) (parts d)
 
 -- what the members of a name give, one after another
 abbrev pub given_at : List ℕ → Option Kind → List (List ℕ × Data) → List Scalar

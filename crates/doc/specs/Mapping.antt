@@ -5,7 +5,7 @@ use Rattle.serde_json.specs.Data.{Data, null, boolean, number, string, array, ob
 use Rattle.serde_json.specs.Events.{members_len}
 use Rattle.serde_json.specs.Find.{get}
 use Rattle.doc.specs.declared.mapping.Kind.{Kind}
-use Rattle.doc.specs.declared.mapping.Kind.TheVariants.{Keyword}
+use Rattle.doc.specs.declared.mapping.Kind.TheVariants.{Keyword, Text, Long, Boolean}
 use Rattle.doc.specs.Outcome.{◌>>=◌, try_map}
 use Rattle.doc.specs.Entries.{entries}
 use Rattle.doc.specs.Fault.{Fault, unknown_type, bad_name, bad_dynamic, not_object, too_many_fields}
@@ -31,7 +31,7 @@ require b f = if b then Ok tt else Err f
 -- ---- one property
 
 abbrev pub kind_named : List ℕ → Result Kind Fault
-kind_named t = if bytes_eq t (codes "keyword") then Ok Keyword else Err unknown_type
+kind_named t = if bytes_eq t (codes "keyword") then Ok Keyword else (if bytes_eq t (codes "text") then Ok Text else (if bytes_eq t (codes "long") then Ok Long else (if bytes_eq t (codes "boolean") then Ok Boolean else Err unknown_type)))
 
 abbrev pub type_of : Option Data → Result Kind Fault
 type_of None = Err unknown_type

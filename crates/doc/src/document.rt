@@ -6,7 +6,7 @@ ghost use Rattle.doc.specs.Entries.{elements};
 ghost use Rattle.doc.specs.Fault.{fault_of, wrong_value as wrong_value_of, unmapped as unmapped_of};
 ghost use Rattle.doc.specs.Scalar as scalar;
 ghost use Rattle.doc.specs.Document as spec;
-ghost use Rattle.doc.specs.ScalarView.{scalars_view, field_values_view, values_view};
+ghost use Rattle.doc.specs.ScalarView.{scalar_view, scalars_view, field_values_view, values_view};
 
 use crate::fault::DocFault;
 use crate::mapping::{Kind, Mapping};
@@ -152,16 +152,30 @@ fn member_of(
 }
 
 fn values_of(alloc: Global, name: &str, kind: Kind, value: &Value) -> Result<Vec<Scalar>, DocFault>
-    ensures { Gives fault_of (λ v. scalars_view v.items) result
-        (spec.values_or name.now (scalar.converted kind (view value.now))) }
+    ensures { Gives fault_of (λ v. scalars_view v.items) result (spec.values_or name.now kind (view value.now)) }
 {
     let mut found = Vec::new(alloc);
-    match convert(alloc, kind, value)? {
-        Converted::Wrong => return Err(wrong_value(alloc, name)),
-        Converted::Nothing => {}
-        Converted::Value(scalar) => found.push(scalar)?,
+    for part in parts(value) {
+        let value = value_of(alloc, name, kind, part)?;
+        keep(&mut found, value)?;
     }
     Ok(found)
+}
+
+fn value_of(
+    alloc: Global,
+    name: &str,
+    kind: Kind,
+    value: &Value,
+) -> Result<Option<Scalar>, DocFault>
+    ensures { Gives fault_of (option_map scalar_view) result
+        (spec.value_or name.now (scalar.converted kind (view value.now))) }
+{
+    match convert(alloc, kind, value)? {
+        Converted::Wrong => Err(wrong_value(alloc, name)),
+        Converted::Nothing => Ok(None),
+        Converted::Value(scalar) => Ok(Some(scalar)),
+    }
 }
 
 fn wrong_value(alloc: Global, name: &str) -> DocFault

@@ -21,10 +21,14 @@ const MAX_FIELDS: usize = 1000;
 
 const MAX_NAME: usize = 255;
 
-/// How a field's values are read and matched: a keyword is one value, compared byte by byte.
+/// How a field's values are read and matched: a keyword is one value, compared byte by byte; a text is cut into words;
+/// a long is a number of 64 bits; a boolean is true or false.
 #[derive(Clone, Copy, Debug, PartialEq, Eq)]
 pub enum Kind {
     Keyword,
+    Text,
+    Long,
+    Boolean,
 }
 
 /// A mapped field.
@@ -274,6 +278,9 @@ fn kind_named(text: &str) -> Result<Kind, DocFault>
 {
     match text {
         "keyword" => Ok(Kind::Keyword),
+        "text" => Ok(Kind::Text),
+        "long" => Ok(Kind::Long),
+        "boolean" => Ok(Kind::Boolean),
         _ => Err(DocFault::UnknownType),
     }
 }
