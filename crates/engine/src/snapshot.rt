@@ -95,7 +95,7 @@ impl Snapshot {
     {
         let mut found = Vec::new(alloc);
         for shown in &self.documents {
-            if query.matches(&shown.doc) {
+            if query.matches(alloc, &self.mapping, &shown.doc)? {
                 found.push(shown)?;
             }
         }

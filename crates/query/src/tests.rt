@@ -4,7 +4,8 @@ use serde_json::Value;
 use std::alloc::Global;
 use std::test::Fail;
 
-const FIELDS: &str = "{\"properties\":{\"k\":{\"type\":\"keyword\"},\"l\":{\"type\":\"keyword\"}}}";
+const FIELDS: &str =
+    "{\"properties\":{\"b\":{\"type\":\"boolean\"},\"k\":{\"type\":\"keyword\"},\"l\":{\"type\":\"keyword\"},\"n\":{\"type\":\"long\"},\"t\":{\"type\":\"text\"}}}";
 
 fn mapping_of(alloc: Global, text: &str) -> Result<Mapping, Fail> {
     let value = Value::from_str(alloc, text)?;
@@ -33,7 +34,7 @@ fn means(alloc: Global, mapping: &Mapping, query: &str, source: &str) -> Result<
     let value = Value::from_str(alloc, query)?;
     let query = Query::read(alloc, mapping, &value)?;
     let doc = Doc::read(alloc, mapping, source.as_bytes())?;
-    Ok(query.matches(&doc))
+    Ok(query.matches(alloc, mapping, &doc)?)
 }
 
 #[test]
@@ -70,8 +71,16 @@ fn reads_bodies(rt: HostRuntime) -> Result<(), Fail> {
             "Parsing",
         ),
         ("{\"query\":{\"term\":{\"z\":null}}}", "Parsing"),
-        ("{\"query\":{\"term\":{\"k\":1}}}", "WrongKind"),
-        ("{\"query\":{\"term\":{\"k\":true}}}", "WrongKind"),
+        ("{\"query\":{\"term\":{\"k\":1}}}", "term"),
+        ("{\"query\":{\"term\":{\"k\":true}}}", "term"),
+        ("{\"query\":{\"term\":{\"k\":1.5}}}", "WrongKind"),
+        ("{\"query\":{\"term\":{\"n\":\"12\"}}}", "term"),
+        ("{\"query\":{\"term\":{\"n\":\"x\"}}}", "WrongKind"),
+        ("{\"query\":{\"term\":{\"n\":\"\"}}}", "WrongKind"),
+        ("{\"query\":{\"term\":{\"n\":true}}}", "WrongKind"),
+        ("{\"query\":{\"term\":{\"b\":\"\"}}}", "term"),
+        ("{\"query\":{\"term\":{\"b\":1}}}", "WrongKind"),
+        ("{\"query\":{\"term\":{\"t\":7}}}", "term"),
     ];
     for (text, want) in cases {
         assert_eq!(rt; body_read(rt.alloc(), &mapping, text)?, want, "{text}");
@@ -82,10 +91,10 @@ fn reads_bodies(rt: HostRuntime) -> Result<(), Fail> {
 #[test]
 fn names_the_field_of_a_wrong_kind(rt: HostRuntime) -> Result<(), Fail> {
     let mapping = mapping_of(rt.alloc(), FIELDS)?;
-    let value = Value::from_str(rt.alloc(), "{\"term\":{\"k\":1}}")?;
+    let value = Value::from_str(rt.alloc(), "{\"term\":{\"k\":1.5}}")?;
     match Query::read(rt.alloc(), &mapping, &value) {
         Err(QueryFault::WrongKind(field)) => assert_eq!(rt; field.as_str(), "k"),
-        _other => assert!(rt; false, "a number is no keyword"),
+        _other => assert!(rt; false, "a fraction is no keyword"),
     }
     Ok(())
 }
@@ -127,5 +136,33 @@ fn matches_documents(rt: HostRuntime) -> Result<(), Fail> {
             "{\"k\":null}"
         )?
     );
+    Ok(())
+}
+
+#[test]
+fn matches_by_type(rt: HostRuntime) -> Result<(), Fail> {
+    let mapping = mapping_of(rt.alloc(), FIELDS)?;
+    let alloc = rt.alloc();
+    let source = "{\"t\":[\"The Fox\",\"ran\"],\"n\":[\"12\",-3],\"b\":\"\",\"k\":7}";
+    for query in [
+        "{\"term\":{\"t\":\"fox\"}}",
+        "{\"term\":{\"t\":\"ran\"}}",
+        "{\"term\":{\"n\":\"12\"}}",
+        "{\"term\":{\"n\":-3}}",
+        "{\"term\":{\"b\":false}}",
+        "{\"term\":{\"k\":\"7\"}}",
+        "{\"term\":{\"k\":7}}",
+    ] {
+        assert!(rt; means(alloc, &mapping, query, source)?, "{query}");
+    }
+    for query in [
+        "{\"term\":{\"t\":\"Fox\"}}",
+        "{\"term\":{\"t\":\"the fox\"}}",
+        "{\"term\":{\"n\":3}}",
+        "{\"term\":{\"b\":true}}",
+        "{\"term\":{\"k\":\"12\"}}",
+    ] {
+        assert!(rt; !means(alloc, &mapping, query, source)?, "{query}");
+    }
     Ok(())
 }
