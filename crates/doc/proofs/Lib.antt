@@ -1,3 +1,4 @@
+pub mod FieldValuesLemmas
 pub mod Fronts
 pub mod Json
 pub mod Parts

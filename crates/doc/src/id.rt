@@ -57,7 +57,7 @@ impl DocId {
     pub fn copy(&self, alloc: Global) -> Result<DocId, AllocError>
         ensures { IfOk result (λ d. d ≡ self.now) }
     {
-        let text = String::from_str(alloc, self.text.as_str())?;
+        let text = String::from_str(alloc, self.as_str())?;
         Ok(DocId { text })
     }
 
@@ -66,13 +66,13 @@ impl DocId {
         ensures same { IsTrue result ↔ (self.now ≡ other.now) }
         ensures test { result ≡ is_id self.now other.now }
     {
-        self.text.as_str() == other.text.as_str()
+        self.as_str() == other.as_str()
     }
 
     /// The order of ids, byte by byte.
     pub fn order(&self, other: &DocId) -> Ordering
         ensures { result ≡ id_cmp self.now other.now }
     {
-        self.text.as_str().cmp(other.text.as_str())
+        self.as_str().cmp(other.as_str())
     }
 }

@@ -52,7 +52,7 @@ impl Source {
     pub fn copy(&self, alloc: Global) -> Result<Source, AllocError>
         ensures { IfOk result (λ s. s ≡ self.now) }
     {
-        let text = String::from_str(alloc, self.text.as_str())?;
+        let text = String::from_str(alloc, self.as_str())?;
         Ok(Source { text })
     }
 
@@ -61,6 +61,6 @@ impl Source {
         ensures same { IsTrue result ↔ (self.now ≡ other.now) }
         ensures test { result ≡ is_source self.now other.now }
     {
-        self.text.as_str() == other.text.as_str()
+        self.as_str() == other.as_str()
     }
 }

@@ -1,5 +1,5 @@
 -- The query of a JSON value, or its first fault.
-use Rattle.std.specs.Prelude.{ℕ, Bool, true, false, List, codes, Option, Some, None, Result, Ok, Err, if◌then◌else◌, ⊤}
+use Rattle.std.specs.Prelude.{ℕ, Bool, List, codes, Option, Some, None, Result, Ok, Err, if◌then◌else◌, ⊤}
 use Rattle.std.specs.Str.{bytes_eq}
 use Rattle.serde_json.specs.Data.{Data, null, boolean, number, string, array, object, Members, no_members, member}
 use Rattle.serde_json.specs.Find.{get}
@@ -7,7 +7,7 @@ use Rattle.doc.specs.declared.mapping.Kind.{Kind}
 use Rattle.doc.specs.Outcome.{◌>>=◌}
 use Rattle.doc.specs.Fields.{kind_at}
 use Rattle.doc.specs.Mapping.{MappingData, all_keys}
-use Rattle.doc.specs.Scalar.{Scalar, Converted, wrong, nothing as no_value, value, converted}
+use Rattle.doc.specs.Scalar.{Converted, wrong, nothing as no_value, value, converted}
 use Rattle.query.specs.declared.page.Page.{Page}
 use Rattle.query.specs.Fault.{Fault, parsing, wrong_kind}
 use Rattle.query.specs.Query.{Query, match_all, nothing, term}

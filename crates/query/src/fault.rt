@@ -6,10 +6,9 @@ ghost use Rattle.query.specs.Fault.{fault_of, name_of};
 use std::alloc::{AllocError, AllocFailed};
 use thiserror::Error;
 
-/// A refusal of a search body or of a query in it.
+/// A refusal of a search body or of a query in it. The text of `Parsing` says what was wanted.
 #[derive(Debug, Drop, Error)]
 pub enum QueryFault {
-    /// The text says what was wanted.
     #[error("bad query: {0}")]
     Parsing(&'static str),
     #[error("a value doesn't fit the type of field {0}")]

@@ -1,4 +1,4 @@
-use Rattle.std.proofs.Common.{◌≡◌, ◌++◌, map, option_map, string_bytes, ◌∙◌, ap}
+use Rattle.std.proofs.Common.{◌≡◌, ◌++◌, option_map, string_bytes, ◌∙◌, ap}
 use Rattle.std.proofs.lemmas.Result.{err_from_is_err_and}
 use Rattle.std.proofs.lemmas.List.{map-append}
 use Rattle.serde_json.specs.View.{view, members_view}
