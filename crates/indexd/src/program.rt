@@ -9,14 +9,11 @@ use std::alloc::{AllocError, Global};
 use std::io::{BufRead, BufReader, Write};
 use std::rt::Files;
 use std::{fs, io};
-use thiserror::Error;
 
 /// Why the program ends with status 1.
-#[derive(Debug, Drop, Error)]
+#[derive(Debug, Drop)]
 enum ProgramFault {
-    #[error("the script can't be opened: {0}")]
     Open(io::Error),
-    #[error("{0}")]
     Replay(ReplayFault),
 }
 
@@ -38,10 +35,18 @@ pub fn program<R: Files + AllocGlobal, I: BufRead, O: Write, E: Write>(
     match play(rt, file, input, output) {
         Ok(()) => 0,
         Err(fault) => {
-            let _ = writeln!(errors, "indexd: {fault}");
+            report(errors, file, &fault);
             1
         }
     }
+}
+
+/// Prints the one line of a fault.
+fn report<E: Write>(errors: &mut E, file: &str, fault: &ProgramFault) {
+    let _ = match fault {
+        ProgramFault::Open(error) => writeln!(errors, "indexd: {file} can't be opened: {error}"),
+        ProgramFault::Replay(fault) => writeln!(errors, "indexd: {fault}"),
+    };
 }
 
 /// The file that the command line names.
