@@ -9,12 +9,9 @@ use Rattle.doc.specs.Fault.{Fault}
 use Rattle.doc.specs.Fields.{kind_at}
 use Rattle.doc.specs.Mapping.{MappingData}
 use Rattle.doc.specs.Scalar.{Scalar, Converted, wrong, nothing, value, converted, parts}
+use Rattle.doc.proofs.Outcomes.{bind_ok}
 use Rattle.doc.specs.FieldValues.{scalars_in, given_by, given_at}
 use Rattle.doc.specs.Document.{Values, DocData, values_at, value_or, values_or, field_of, member_of, values_or_none}
-
-bind_ok : {A B F : Type 0} (r : Result A F) (g : A → Result B F) (y : B) → (r >>= g) ≡ Ok y → (x : A) × (r ≡ Ok x) × (g x ≡ Ok y)
-bind_ok (Ok x) g y e = (x, refl, e)
-bind_ok (Err d) g y e = absurd cc
 
 abbrev done : {A : Type 0} → A → Result A Fault
 done x = Ok x

@@ -3,3 +3,4 @@ pub mod Fronts
 pub mod Json
 pub mod Parts
 pub mod Long
+pub mod Outcomes

@@ -1,9 +1,9 @@
 -- What writes leave.
-use Rattle.std.proofs.Common.{◌≡◌, ℕ, ◌+◌, ◌≤◌, List, [], ◌∷◌, ◌++◌, length, take, drop, Option, Some, None, refl, sym, ap, ◌∙◌, append_assoc, append-nil, take-append-drop, arith}
+use Rattle.std.proofs.Common.{◌≡◌, ℕ, List, [], ◌++◌, length, take, drop, Option, Some, None, refl, sym, ap, ◌∙◌, append_assoc, append-nil, take-append-drop}
 use Rattle.std.specs.Io.KnownBytes.{Appends, Keeps}
 use Rattle.std.proofs.KnownBytes.{Appends-nil, Appends-trans, Appends-kept}
 use Rattle.std.proofs.lemmas.List.{nil_from_length}
-use Rattle.indexd.specs.Output.{IsFront, AppendsFront}
+use Rattle.indexd.specs.Output.{AppendsFront}
 
 -- some of the bytes were written, and these are left
 pub record Written (old new : Option (List ℕ)) (all rest : List ℕ) : Type 0 where

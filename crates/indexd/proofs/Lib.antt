@@ -4,3 +4,4 @@ pub mod Writes
 pub mod FirstLine
 pub mod Bytes
 pub mod Played
+pub mod PutLaws

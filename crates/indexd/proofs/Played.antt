@@ -1,10 +1,10 @@
 -- A script that is played line by line.
-use Rattle.std.proofs.Common.{◌≡◌, ℕ, List, [], ◌∷◌, ◌++◌, Option, Some, None, IfSome, refl, sym, ap, ◌∙◌, append_assoc, append-nil}
+use Rattle.std.proofs.Common.{◌≡◌, ℕ, List, [], ◌++◌, Option, Some, None, IfSome, refl, sym, ap, ◌∙◌, append_assoc, append-nil}
 use Rattle.std.specs.Io.KnownBytes.{Appends}
 use Rattle.std.proofs.KnownBytes.{Appends-nil, Appends-trans}
 use Rattle.indexd.specs.Lines.{lines_of, IsFirstLine}
 use Rattle.indexd.specs.Step.{State}
-use Rattle.indexd.specs.Output.{outputs, lines, played, IsFront, AppendsFront}
+use Rattle.indexd.specs.Output.{outputs, lines, played, AppendsFront}
 use Rattle.indexd.specs.Going.{Going}
 use Rattle.indexd.proofs.Bytes.{front_front}
 

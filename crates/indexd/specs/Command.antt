@@ -1,5 +1,5 @@
 -- What a line of a script asks.
-use Rattle.std.specs.Prelude.{ℕ, Bool, ◌||◌, ◌==◌, slice_index, List, length, codes, Option, Some, None, option_map, option_and_then, if◌then◌else◌}
+use Rattle.std.specs.Prelude.{ℕ, Bool, ◌||◌, ◌==◌, slice_index, List, length, codes, Option, None, option_map, option_and_then, if◌then◌else◌}
 use Rattle.std.specs.Str.{bytes_eq}
 use Rattle.indexd.specs.Words.{text_of, split_word, one_word, number_of}
 

@@ -5,7 +5,7 @@ use Rattle.doc.specs.Outcome.{◌>>=◌}
 use Rattle.indexd.specs.Lines.{lines_of}
 use Rattle.indexd.specs.Command.{Command, command_of, is_passed_over}
 use Rattle.indexd.specs.Refusal.{Refusal, bad_line, name_of}
-use Rattle.indexd.specs.Reply.{Reply, printed, refused}
+use Rattle.indexd.specs.Reply.{printed, refused}
 use Rattle.indexd.specs.Step.{State, Step, step}
 
 abbrev pub command_or_bad_line : Option Command → Result Command Refusal

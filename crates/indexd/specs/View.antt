@@ -1,5 +1,5 @@
 -- Commands, refusals and answers as they are kept.
-use Rattle.std.specs.Prelude.{ℕ, List, Option, Some, None, option_map}
+use Rattle.std.specs.Prelude.{Option, Some, None, option_map}
 use Rattle.doc.specs.Fault as doc
 use Rattle.query.specs.Fault as query
 use Rattle.engine.specs.Shown.{hits_view}

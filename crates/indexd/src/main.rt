@@ -3,6 +3,7 @@
 
 mod command;
 mod fault;
+pub mod laws;
 mod playing;
 mod program;
 mod refusal;

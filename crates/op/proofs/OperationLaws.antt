@@ -210,3 +210,11 @@ none_at (o ∷ os) n all = let h : o.seq < n = all.0 in grind (arith, nat_tests,
 
 pub op_at-next_seq : (os : List Op) → IsAscending os → op_at os (next_seq os) ≡ None
 op_at-next_seq os up = none_at os (next_seq os) (next_seq-above os up)
+
+not_newer : (l : Option Op) (n : ℕ) → IfSome l (λ o. o.seq < n) → is_newer l n ≡ false
+not_newer None n h = refl
+not_newer (Some o) n h = grind (arith, nat_tests)
+
+-- no operation on an id is newer than the next number
+pub last_on-below : (os : List Op) (id : Id) → IsAscending os → is_newer (last_on os id) (next_seq os) ≡ false
+last_on-below os id up = not_newer (last_on os id) (next_seq os) (last_has (λ o. o.seq < next_seq os) os id (next_seq-above os up))

@@ -1,5 +1,4 @@
-use Rattle.std.proofs.Common.{◌<◌, length, arith, ◌≡◌, [], ◌++◌, IfSome, rules}
-use Rattle.std.specs.Io.BufRead.{take_through}
+use Rattle.std.proofs.Common.{◌<◌, length, arith}
 use Rattle.indexd.proofs.FirstLine.{first_line}
 use Rattle.indexd.proofs.playing.read_line.Goals as goal
 

@@ -1,7 +1,7 @@
-use Rattle.std.proofs.Common.{◌≡◌, Ok, sym, ap, ◌∙◌, refl}
-use Rattle.op.specs.Operations.{next_seq, next_version, last_on}
+use Rattle.std.proofs.Common.{refl}
+use Rattle.op.specs.Operations.{next_seq}
 use Rattle.op.specs.Records.{operations}
-use Rattle.indexd.specs.Step.{limited, is_live, write}
+use Rattle.indexd.specs.Step.{write}
 use Rattle.indexd.proofs.Writes.{version_of-last, is_live-last, limited-Ok, next_is_free}
 use Rattle.indexd.proofs.step.write.Goals as goal
 
