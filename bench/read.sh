@@ -31,7 +31,7 @@ lines_of() {
             printf "{\"properties\":{\"name\":{\"type\":\"text\"},\"about\":{\"type\":\"text\"},\"brand\":{\"type\":\"keyword\"},"
             print "\"price\":{\"type\":\"long\"},\"in_stock\":{\"type\":\"boolean\"},\"tags\":{\"type\":\"keyword\"}}}"
             for (i = 1; i <= documents; i++) {
-                printf "{\"name\":\"%s %d\",\"about\":\"%s\",", words(4), i, words(24)
+                printf "{\"name\":\"%s %d\",\"about\":\"%s\",", words(4), i, words(30)
                 printf "\"brand\":\"brand-%d\",\"price\":%d,\"in_stock\":%s,", draw(200), draw(100000), draw(2) ? "true" : "false"
                 printf "\"tags\":[\"%s\",\"%s\",\"%s\"]}\n", words(1), words(1), words(1)
             }

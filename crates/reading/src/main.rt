@@ -67,8 +67,7 @@ fn task_named(name: &str) -> Result<Task> {
 }
 
 fn read_mapping(alloc: Global, line: &str) -> Result<Mapping> {
-    let value = Value::from_str(alloc, line)?;
-    Ok(Mapping::from_value(alloc, &value)?)
+    Ok(Mapping::from_value(alloc, &Value::from_str(alloc, line)?)?)
 }
 
 fn read_lines<R: BufRead + Drop>(alloc: Global, input: R) -> Result<Vec<String>> {
