@@ -1,0 +1,99 @@
+//! Reads documents, or cuts lines into words, and prints how many there are: what bench/read.sh measures.
+//! Its words are `documents` or `words`, and `count` or `time`. The first line of standard input is a mapping.
+#![tactic(auto)]
+
+ghost use Rattle.std.specs.Prelude.{◌≡◌, IfOk, is_ok, count_by, sum_by, length, string_bytes};
+ghost use Rattle.doc.specs.Document.{doc_of};
+ghost use Rattle.analysis.specs.Tokens.{tokens_of};
+
+use analysis::tokens;
+use anyhow::{Context, Result, bail};
+use doc::{Doc, DocFault, Mapping};
+use serde_json::Value;
+use std::alloc::{AllocError, Global};
+use std::env;
+use std::io::{BufRead, BufReader};
+use std::time::Instant;
+
+/// What is counted.
+#[derive(Clone, Copy)]
+enum Task {
+    Documents,
+    Words,
+}
+
+/// Whether a line is a document that fits the mapping.
+fn fits(alloc: Global, mapping: &Mapping, line: &str) -> Result<bool, AllocError>
+    ensures { IfOk result (λ b. b ≡ is_ok (doc_of mapping.now line.now)) }
+{
+    match Doc::read(alloc, mapping, line.as_bytes()) {
+        Ok(_) => Ok(true),
+        Err(DocFault::NoMemory) => Err(AllocError),
+        Err(_) => Ok(false),
+    }
+}
+
+/// How many lines are documents that fit the mapping.
+fn documents(alloc: Global, mapping: &Mapping, lines: &[String]) -> Result<usize, AllocError>
+    ensures { IfOk result (λ n. n ≡ count_by (λ line. is_ok (doc_of mapping.now (string_bytes line))) lines.now) }
+{
+    let mut count = 0;
+    for line in lines {
+        if fits(alloc, mapping, line)? {
+            count += 1;
+        }
+    }
+    Ok(count)
+}
+
+/// How many words the lines have.
+fn words(alloc: Global, lines: &[String]) -> Result<usize>
+    ensures { IfOk result (λ n. n ≡ sum_by (λ line. length (tokens_of (string_bytes line))) lines.now) }
+{
+    let mut count: usize = 0;
+    for line in lines {
+        let found = tokens(alloc, line)?;
+        count = count.checked_add(found.len()).context("too many words")?;
+    }
+    Ok(count)
+}
+
+fn task_named(name: &str) -> Result<Task> {
+    match name {
+        "documents" => Ok(Task::Documents),
+        "words" => Ok(Task::Words),
+        _ => bail!("`documents` or `words` is wanted"),
+    }
+}
+
+fn read_mapping(alloc: Global, line: &str) -> Result<Mapping> {
+    Ok(Mapping::from_value(alloc, &Value::from_str(alloc, line)?)?)
+}
+
+fn read_lines<R: BufRead + Drop>(alloc: Global, input: R) -> Result<Vec<String>> {
+    let mut lines = Vec::new(alloc);
+    for line in input.lines(alloc) {
+        lines.push(line?)?;
+    }
+    Ok(lines)
+}
+
+fn main(rt: HostRuntime) -> Result<()> {
+    let alloc = rt.alloc();
+    let arguments: Vec<String> = env::args(&rt)?.collect(alloc)?;
+    let task = task_named(arguments.get(1).context("two words are wanted")?)?;
+    let lines = read_lines(alloc, BufReader::new(alloc, rt.reader())?)?;
+    let (first, rest) = lines.split_first().context("a mapping is wanted")?;
+    let mapping = read_mapping(alloc, first)?;
+    let start = Instant::now(&rt)?;
+    let count = match task {
+        Task::Documents => documents(alloc, &mapping, rest)?,
+        Task::Words => words(alloc, rest)?,
+    };
+    let taken = start.elapsed(&rt)?;
+    println!(rt; "{count}")?;
+    if arguments.get(2).is_some_and(|word| word.as_str() == "time") {
+        println!(rt; "{} microseconds", taken.as_micros())?;
+    }
+    Ok(())
+}
