@@ -1,5 +1,7 @@
 //! The command line.
-ghost use Rattle.std.specs.Prelude.{◌<◌};
+ghost use Rattle.std.specs.Prelude.{◌≡◌, ◌<◌, IfSome, OnOk, codes};
+ghost use Rattle.std.specs.Io.KnownBytes.{Appends};
+ghost use Rattle.indexd.specs.Output.{lines};
 
 use crate::fault::ReplayFault;
 use crate::playing::replay;
@@ -93,12 +95,16 @@ fn explain<O: Write, E: Write>(error: &clap::Error, output: &mut O, errors: &mut
     }
 }
 
+/// Plays the script of a file, and that of the input where the file is `-`.
 fn play<R: Files + AllocGlobal, I: BufRead, O: Write>(
     rt: &R,
     file: &str,
     input: &mut I,
     output: &mut O,
-) -> Result<(), ProgramFault> {
+) -> Result<(), ProgramFault>
+    ensures { OnOk result (file.now ≡ codes "-" → IfSome (I.remaining input.old) (λ script.
+        Appends (O.contents output.old) (O.contents output.new) (lines script))) }
+{
     let played = if file == "-" {
         replay(rt.alloc(), input, output)
     } else {
