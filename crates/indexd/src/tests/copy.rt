@@ -196,13 +196,13 @@ fn shows_at_a_refresh(rt: HostRuntime) -> Result<(), Fail> {
     engine.apply(alloc, &index(alloc, 0, 1, "b", "{\"tag\":\"blue\"}")?)?;
     engine.apply(alloc, &index(alloc, 1, 1, "a", "{\"tag\":\"red\"}")?)?;
     // It doesn't fit the mapping.
-    engine.apply(alloc, &index(alloc, 2, 1, "c", "{\"tag\":5}")?)?;
+    engine.apply(alloc, &index(alloc, 2, 1, "c", "{\"tag\":1.5}")?)?;
     assert_eq!(rt; engine.get(&c).ok_or("no c")?.seq, 2);
     for (count, all, red) in [(0, "0", "0"), (3, "3 a b c", "1 a")] {
         assert_eq!(rt; engine.point(), count);
         assert_eq!(rt; shown(alloc, &engine, &Query::MatchAll)?.as_str(), all);
         assert_eq!(rt; shown(alloc, &engine, &tag(alloc, "red")?)?.as_str(), red);
-        assert_eq!(rt; shown(alloc, &engine, &tag(alloc, "5")?)?.as_str(), "0");
+        assert_eq!(rt; shown(alloc, &engine, &tag(alloc, "1.5")?)?.as_str(), "0");
         assert_eq!(rt; engine.refresh(alloc)?, 3);
     }
     Ok(())
