@@ -100,7 +100,7 @@ fn record_of(alloc: Global, seq: u64) -> Result<Record, Fail>
 
 /// How many were found, and the ids of the page, each behind a space.
 fn shown(alloc: Global, engine: &Engine, query: &Query) -> Result<String, Fail> {
-    let hits = engine.snapshot().search(alloc, query, Page::first())?;
+    let hits = engine.snapshot().search(alloc, query, Page::new(0, 10)?)?;
     let total = hits.total;
     let mut text = format!(in alloc; "{total}")?;
     for hit in &hits.hits {
