@@ -3,7 +3,9 @@
 
 pub mod laws;
 pub mod operation;
+pub mod operations;
 pub mod record;
 
 pub use operation::{Body, Op};
+pub use operations::Operations;
 pub use record::Record;
