@@ -44,11 +44,11 @@ pub IsAscending-runs : (n : ℕ) (os : List Op) → RunsFrom n os → IsAscendin
 IsAscending-runs n [] runs = tt
 IsAscending-runs n (o ∷ os) runs = (runs_above o.seq (suc n) os (let h : o.seq ≡ n = runs.0 in omega arith) runs.1, IsAscending-runs (suc n) os runs.1)
 
-All-both : (P : Op → Type 0) (xs ys : List Op) → AllByRecursion P xs → AllByRecursion P ys → AllByRecursion P (xs ++ ys)
+pub All-both : (P : Op → Type 0) (xs ys : List Op) → AllByRecursion P xs → AllByRecursion P ys → AllByRecursion P (xs ++ ys)
 All-both P [] ys all other = other
 All-both P (x ∷ xs) ys all other = (all.0, All-both P xs ys all.1 other)
 
-All-below : (P : Op → Type 0) (n : ℕ) (os : List Op) → AllByRecursion P os → AllByRecursion P (below n os)
+pub All-below : (P : Op → Type 0) (n : ℕ) (os : List Op) → AllByRecursion P os → AllByRecursion P (below n os)
 All-below P n [] all = tt
 All-below P n (o ∷ os) all = elim (nat_lt o.seq n) as (λ b. AllByRecursion P (if b then o ∷ below n os else below n os)) [ true ↦ (all.0, All-below P n os all.1) | false ↦ All-below P n os all.1 ]
 

@@ -1,6 +1,7 @@
 //! Operations on documents, the records that a copy keeps of them, and the documents that they make.
 #![tactic(auto)]
 
+pub mod checkpoint;
 pub mod laws;
 pub mod operation;
 pub mod operations;
