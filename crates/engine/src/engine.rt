@@ -117,11 +117,11 @@ impl Engine {
                 })
             }
             Change::Reopen(records) => {
-                let history = History::of(alloc, records)?;
-                let snapshot = snapshot_of(alloc, &self.mapping, &history)?;
-                let point = history.len();
+                let reopened = History::of(alloc, records)?;
+                let snapshot = snapshot_of(alloc, &self.mapping, &reopened)?;
+                let point = reopened.len();
                 Ok(Staged {
-                    history: Some(history),
+                    history: Some(reopened),
                     snapshot,
                     point,
                 })

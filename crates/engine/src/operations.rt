@@ -9,8 +9,7 @@ ghost use Rattle.engine.specs.Applied as spec;
 
 use crate::history::Applied;
 use doc::DocId;
-use op::checkpoint;
-use op::{Body, Op, Operations, Record};
+use op::{Body, Op, Operations, Record, checkpoint};
 use std::alloc::{AllocError, Global};
 
 /// Where the number is, or where it would go.
