@@ -1,0 +1,3 @@
+pub mod Ids
+pub mod Copy
+pub mod Step

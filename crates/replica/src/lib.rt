@@ -1,0 +1,14 @@
+//! One copy of the shard: its inputs, what it answers, and its log.
+#![tactic(auto)]
+
+pub mod fault;
+pub mod input;
+pub mod output;
+pub mod role;
+
+
+
+pub use fault::CopyFault;
+pub use input::{Condition, Input, Kind, Write};
+pub use output::{Answer, Document, Outcome, Output, Written};
+pub use role::{Birth, CopyIds, Lead, Numbers, Role};
