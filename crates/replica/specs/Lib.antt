@@ -1,3 +1,6 @@
 pub mod Ids
 pub mod Copy
 pub mod Step
+pub mod Fault
+pub mod LastView
+pub mod Standing

@@ -120,8 +120,8 @@ abbrev pub op_of : Copy → Write → Op
 op_of c w = record { seq = next_seq (operations c); term = c.term; version = next_version (last_on (operations c) w.id); body = body_of w.id w.kind }
 
 -- its record has the checkpoint that was known before it
-abbrev pub record_of : Copy → Write → Record
-record_of c w = Kept (checkpoint_of c.known) (op_of c w)
+abbrev pub record_of : Copy → Op → Record
+record_of c o = Kept (checkpoint_of c.known) o
 
 -- what a write is refused for: its condition, a window of 1,024 numbers above the checkpoint, and numbers that have run out
 abbrev pub write_faults : Copy → Write → List (Bool × CopyFault)
@@ -131,15 +131,18 @@ write_faults c w =
     ∷ (not (is_number (op_of c w).seq && is_number (op_of c w).version), Exhausted)
     ∷ []
 
--- the copy with the write, which is pending
-abbrev pub kept : Copy → Lead → Write → Copy
-kept c lead w = record (keeping c (record_of c w)) { role = Primary (record lead { pending = lead.pending ++ (op_of c w).seq ∷ [] }) }
+-- the primary with its operation, which is pending
+abbrev pub pending : Lead → Op → Lead
+pending lead o = record lead { pending = lead.pending ++ o.seq ∷ [] }
+
+abbrev pub kept : Copy → Lead → Op → Copy
+kept c lead o = record (keeping c (record_of c o)) { role = Primary (pending lead o) }
 
 abbrev pub write_answer : Copy → Write → Answer
 write_answer c w = Wrote (record { seq = (op_of c w).seq; term = (op_of c w).term; version = (op_of c w).version; outcome = outcome_of (is_some (found_by c w)) w.kind })
 
 abbrev pub write : Copy → Lead → Write → Step
-write c lead w = unless (write_faults c w) (done (kept c lead w) (write_answer c w))
+write c lead w = unless (write_faults c w) (done (kept c lead (op_of c w)) (write_answer c w))
 
 abbrev pub client : Copy → Write → Role → Step
 client c w (Primary lead) = write c lead w

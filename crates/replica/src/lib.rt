@@ -5,6 +5,8 @@ pub mod fault;
 pub mod input;
 pub mod output;
 pub mod role;
+mod state;
+mod writing;
 
 
 
