@@ -4,7 +4,8 @@ ghost use Rattle.op.specs.Checkpoint.{known, checkpoint_of};
 
 /// How many operations a checkpoint counts.
 pub fn count(checkpoint: i64) -> u64
-    ensures { result ≡ known checkpoint }
+    ensures counted { result ≡ known checkpoint }
+    ensures small { result ≤ 2 ^ 63 }
 {
     if checkpoint < 0 {
         0

@@ -28,6 +28,15 @@ impl Operations {
         Operations { items }
     }
 
+    /// One operation.
+    pub fn one(alloc: Global, op: Op) -> Result<Operations, AllocError>
+        ensures { IfOk result (λ a. a ≡ op ∷ []) }
+    {
+        let mut items = Vec::new(alloc);
+        items.push(op)?;
+        Ok(Operations { items })
+    }
+
     /// The operations as a `Vec`.
     pub fn into_vec(self) -> Vec<Op>
         ensures { result.items ≡ self }

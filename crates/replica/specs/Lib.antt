@@ -4,3 +4,5 @@ pub mod Step
 pub mod Fault
 pub mod LastView
 pub mod Standing
+pub mod Planned
+pub mod Staged

@@ -1,11 +1,11 @@
 -- One step of a copy.
-use Rattle.std.specs.Prelude.{⊤, ℕ, suc, ◌+◌, ◌^◌, max, Bool, true, false, not, ◌&&◌, ◌==◌, nat_lt, nat_le, List, [], ◌∷◌, ◌++◌, length, Option, Some, None, is_some, Result, Ok, Err, if◌then◌else◌}
+use Rattle.std.specs.Prelude.{⊤, ℕ, ◌+◌, ◌^◌, max, Bool, true, false, not, ◌&&◌, ◌==◌, nat_lt, nat_le, List, [], ◌∷◌, ◌++◌, length, Option, Some, None, is_some, Result, Ok, Err, if◌then◌else◌}
 use Rattle.std.specs.List.{list_all, filter_map}
 use Rattle.doc.specs.Id.{Id}
 use Rattle.doc.specs.Outcome.{◌>>=◌}
 use Rattle.op.specs.declared.operation.Op.{Op}
 use Rattle.op.specs.declared.operation.Body.{Body}
-use Rattle.op.specs.declared.operation.Body.TheVariants.{Index as Indexed, Delete as Deleted, NoOp}
+use Rattle.op.specs.declared.operation.Body.TheVariants.{Index as Indexed, Delete as Deleted}
 use Rattle.op.specs.declared.record.Record.{Record}
 use Rattle.op.specs.declared.record.Record.TheVariants.{Op as Kept}
 use Rattle.op.specs.Checkpoint.{checkpoint_of}
@@ -138,11 +138,11 @@ pending lead o = record lead { pending = lead.pending ++ o.seq ∷ [] }
 abbrev pub kept : Copy → Lead → Op → Copy
 kept c lead o = record (keeping c (record_of c o)) { role = Primary (pending lead o) }
 
-abbrev pub write_answer : Copy → Write → Answer
-write_answer c w = Wrote (record { seq = (op_of c w).seq; term = (op_of c w).term; version = (op_of c w).version; outcome = outcome_of (is_some (found_by c w)) w.kind })
+abbrev pub wrote : Op → Outcome → Answer
+wrote o outcome = Wrote (record { seq = o.seq; term = o.term; version = o.version; outcome = outcome })
 
 abbrev pub write : Copy → Lead → Write → Step
-write c lead w = unless (write_faults c w) (done (kept c lead (op_of c w)) (write_answer c w))
+write c lead w = unless (write_faults c w) (done (kept c lead (op_of c w)) (wrote (op_of c w) (outcome_of (is_some (found_by c w)) w.kind)))
 
 abbrev pub client : Copy → Write → Role → Step
 client c w (Primary lead) = write c lead w

@@ -3,12 +3,12 @@
 
 pub mod fault;
 pub mod input;
+mod opening;
 pub mod output;
+pub mod planned;
 pub mod role;
 mod state;
 mod writing;
-
-
 
 pub use fault::CopyFault;
 pub use input::{Condition, Input, Kind, Write};
