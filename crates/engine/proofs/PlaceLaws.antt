@@ -4,6 +4,7 @@ use Rattle.std.specs.List.{AllWithin, AllByRecursion}
 use Rattle.std.proofs.lemmas.Bool.Decides.{nat_tests}
 use Rattle.op.specs.declared.operation.Op.{Op}
 use Rattle.op.specs.Operations.{IsAscending, op_at}
+use Rattle.op.proofs.OperationLaws.{above_less}
 use Rattle.engine.specs.Place.{IsGap}
 
 -- the operations before place i are below the number
@@ -23,17 +24,13 @@ above_none : (os : List Op) (n : ℕ) → AllByRecursion (λ p. n < p.seq) os �
 above_none [] n all = refl
 above_none (p ∷ ps) n all = let h : n < p.seq = all.0 in grind (arith, nat_tests, above_none ps n all.1)
 
-above_rest : (os : List Op) (m n : ℕ) → n < m → AllByRecursion (λ p. m < p.seq) os → AllByRecursion (λ p. n < p.seq) os
-above_rest [] m n lt all = tt
-above_rest (p ∷ ps) m n lt all = (let h : m < p.seq = all.0 in omega arith, above_rest ps m n lt all.1)
-
 -- the first that is not below the number, and is above it, is where the number goes
 pub is_gap : (os : List Op) (n i : ℕ) (d : Op) → IsAscending os → i ≤ length os → IsBelowBefore os n i → (i < length os → n < (get_or os i d).seq) → IsGap os n i
 is_gap [] n zero d up le h above = record { in_range = le; free = refl; place = λ o is. refl }
 is_gap [] n (suc i) d up le h above = absurd (omega arith)
 is_gap (p ∷ ps) n zero d up le h above =
     let here : n < p.seq = above (omega arith) in
-    record { in_range = le; free = above_none (p ∷ ps) n (here, above_rest ps p.seq n here up.0); place = λ o is. grind (arith, nat_tests) }
+    record { in_range = le; free = above_none (p ∷ ps) n (here, above_less n p.seq ps here up.0); place = λ o is. grind (arith, nat_tests) }
 is_gap (p ∷ ps) n (suc i) d up le h above =
     let here : p.seq < n = h 0 d (omega arith) (omega arith) in
     let rest = is_gap ps n i d up.1 (omega arith) (tail_below p ps n i h) (λ lt. above (omega arith)) in

@@ -2,7 +2,7 @@
 use Rattle.std.specs.Prelude.{List, [], ◌∷◌, ◌++◌, if◌then◌else◌, is_some}
 use Rattle.op.specs.declared.operation.Op.{Op}
 use Rattle.op.specs.declared.record.Record.{Record}
-use Rattle.op.specs.declared.record.Record.TheVariants.{Op as Kept}
+use Rattle.op.specs.declared.record.Record.TheVariants.{Op as Kept, Resync, Recover}
 use Rattle.op.specs.Operations.{op_at, is_stale}
 use Rattle.engine.specs.declared.history.Applied.{Applied}
 use Rattle.engine.specs.declared.history.Applied.TheVariants.{Taken, Stale, Repeated}
@@ -17,6 +17,8 @@ outcome os o =
 -- what becomes of a record, beside these operations
 abbrev pub outcome_of : List Op → Record → Applied
 outcome_of os (Kept g o) = outcome os o
+outcome_of os (Resync term g tail) = Taken
+outcome_of os (Recover term all) = Taken
 
 -- the records after it: a repeated one is not kept
 abbrev pub records_after : List Record → Record → Applied → List Record

@@ -6,4 +6,6 @@ pub mod Entry
 pub mod Answer
 pub mod Shown
 pub mod Contents
+pub mod Staged
+pub mod Change
 pub mod Last

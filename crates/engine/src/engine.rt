@@ -4,14 +4,17 @@ ghost use Rattle.std.specs.Option.{option_copied, option_map};
 ghost use Rattle.std.specs.Arc.{arc_value};
 ghost use Rattle.op.specs.Checkpoint.{checkpoint_of};
 ghost use Rattle.op.specs.Documents.{document_at, documents};
-ghost use Rattle.op.specs.Operations.{op_at, last_on, next_seq};
+ghost use Rattle.op.specs.Operations.{IsAscending, op_at, last_on, next_seq};
 ghost use Rattle.op.specs.Records.{IsRecord, operations, shown};
 ghost use Rattle.engine.specs.Applied.{outcome_of, records_after};
 ghost use Rattle.engine.specs.Found.{found_document};
 ghost use Rattle.engine.specs.Last.{last_of};
+ghost use Rattle.engine.specs.Change.{changed, IsChange};
+ghost use Rattle.engine.specs.Staged.{Fits, put_in};
 
 use crate::history::{Applied, Found, History};
 use crate::snapshot::Snapshot;
+use crate::staged::{Change, Staged};
 use doc::{DocId, Mapping};
 use op::{Body, Op, Record};
 use std::alloc::{AllocError, Global};
@@ -82,10 +85,65 @@ impl Engine {
         ensures shown { OnOk result (self.new ≡ record self.old { point = length self.old.records }) }
         ensures err { OnErr result (self.new ≡ self.old) }
     {
-        let snapshot = snapshot_of(alloc, &self.mapping, &self.history)?;
-        self.snapshot = snapshot;
-        self.point = self.history.len();
+        let staged = self.stage(alloc, Change::Refresh)?;
+        self.put(staged);
         Ok(self.point as u64)
+    }
+
+    /// Takes these records in place of its own, as `open` does.
+    pub fn reopen(&mut self, alloc: Global, records: Vec<Record>) -> Result<(), AllocError>
+        requires { All IsRecord records.items }
+        ensures ok { OnOk result (self.new ≡ record self.old { records = records.items; point = length records.items }) }
+        ensures err { OnErr result (self.new ≡ self.old) }
+    {
+        let staged = self.stage(alloc, Change::Reopen(records))?;
+        self.put(staged);
+        Ok(())
+    }
+
+    /// Makes a change ready, and changes nothing.
+    pub fn stage(&self, alloc: Global, change: Change) -> Result<Staged, AllocError>
+        requires { IsChange change }
+        ensures fits { IfOk result (Fits self.now) }
+        ensures leaves { IfOk result (λ s. put_in self.now s ≡ changed self.now change) }
+    {
+        match change {
+            Change::Refresh => {
+                let snapshot = snapshot_of(alloc, &self.mapping, &self.history)?;
+                Ok(Staged {
+                    history: None,
+                    snapshot,
+                    point: self.history.len(),
+                })
+            }
+            Change::Reopen(records) => {
+                let reopened = History::of(alloc, records)?;
+                let snapshot = snapshot_of(alloc, &self.mapping, &reopened)?;
+                let point = reopened.len();
+                Ok(Staged {
+                    history: Some(reopened),
+                    snapshot,
+                    point,
+                })
+            }
+        }
+    }
+
+    /// Makes a change that is ready for this engine. It takes no memory.
+    pub fn put(&mut self, staged: Staged)
+        requires { Fits self.old staged }
+        ensures { self.new ≡ put_in self.old staged }
+    {
+        let Staged {
+            history,
+            snapshot,
+            point,
+        } = staged;
+        if let Some(history) = history {
+            self.history = history;
+        }
+        self.snapshot = snapshot;
+        self.point = point;
     }
 
     /// How many records searches show.
@@ -133,7 +191,8 @@ impl Engine {
 
     /// The greatest number, or -1 where there is none.
     pub fn greatest(&self) -> i64
-        ensures { result ≡ checkpoint_of (next_seq (operations self.now.records)) }
+        ensures number { result ≡ checkpoint_of (next_seq (operations self.now.records)) }
+        ensures ascending { IsAscending (operations self.now.records) }
     {
         self.history.greatest()
     }

@@ -3,7 +3,7 @@ ghost use Rattle.std.specs.Prelude.{◌≡◌, All, IfOk, OnErr};
 ghost use Rattle.std.specs.Option.{option_copied, option_map};
 ghost use Rattle.op.specs.Checkpoint.{checkpoint_of};
 ghost use Rattle.op.specs.Documents.{left_by};
-ghost use Rattle.op.specs.Operations.{op_at, last_on, next_seq};
+ghost use Rattle.op.specs.Operations.{IsAscending, op_at, last_on, next_seq};
 ghost use Rattle.op.specs.Records.{IsRecord, operations};
 ghost use Rattle.engine.specs.Found.{found_document};
 
@@ -115,7 +115,8 @@ impl History {
 
     /// The greatest number, or -1 where there is none.
     pub(crate) fn greatest(&self) -> i64
-        ensures { result ≡ checkpoint_of (next_seq (operations self.now)) }
+        ensures number { result ≡ checkpoint_of (next_seq (operations self.now)) }
+        ensures ascending { IsAscending (operations self.now) }
     {
         operations::greatest(&self.operations)
     }

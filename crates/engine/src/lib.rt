@@ -6,9 +6,11 @@ pub mod engine;
 mod history;
 mod operations;
 pub mod snapshot;
+pub mod staged;
 #[cfg(test)]
 mod tests;
 
 pub use engine::{Engine, Last};
 pub use history::{Applied, Found};
 pub use snapshot::{Hit, Hits, Snapshot};
+pub use staged::{Change, Staged};

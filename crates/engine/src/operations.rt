@@ -1,7 +1,7 @@
 //! Searches in a list of operations in ascending order of their numbers.
-ghost use Rattle.std.specs.Prelude.{◌≡◌, ◌≤◌, ◌<◌, ◌^◌, suc, length, slice_get, IfOk, IfErr, OnOk, OnErr};
+ghost use Rattle.std.specs.Prelude.{◌≡◌, ◌≤◌, ◌<◌, ◌^◌, ◌++◌, suc, length, slice_get, IfOk, IfErr, OnOk, OnErr};
 ghost use Rattle.std.specs.Option.{option_copied};
-ghost use Rattle.op.specs.Operations.{IsAscending, op_at, add, last_on, next_seq, is_stale};
+ghost use Rattle.op.specs.Operations.{IsAscending, op_at, add, below, last_on, next_seq, is_stale};
 ghost use Rattle.op.specs.Records.{after_record};
 ghost use Rattle.op.specs.Checkpoint.{checkpoint_of};
 ghost use Rattle.engine.specs.Place.{IsGap};
@@ -9,7 +9,7 @@ ghost use Rattle.engine.specs.Applied as spec;
 
 use crate::history::Applied;
 use doc::DocId;
-use op::{Body, Op, Record};
+use op::{Body, Op, Operations, Record, checkpoint};
 use std::alloc::{AllocError, Global};
 
 /// Where the number is, or where it would go.
@@ -65,6 +65,8 @@ pub(crate) fn outcome_of(operations: &[Op], kept: &Record) -> Applied
 {
     match kept {
         Record::Op(_, op) => outcome(operations, op),
+        Record::Resync(_, _, _) => Applied::Taken,
+        Record::Recover(_, _) => Applied::Taken,
     }
 }
 
@@ -90,6 +92,16 @@ pub(crate) fn keep(alloc: Global, operations: &mut Vec<Op>, kept: &Record) -> Re
 {
     match kept {
         Record::Op(_, op) => add(alloc, operations, op),
+        Record::Resync(_, known, tail) => {
+            let count = checkpoint::count(*known);
+            let resynced = resynced(alloc, operations, count, tail)?;
+            *operations = resynced;
+            Ok(())
+        }
+        Record::Recover(_, all) => {
+            *operations = all.copy(alloc)?.into_vec();
+            Ok(())
+        }
     }
 }
 
@@ -103,6 +115,27 @@ fn add(alloc: Global, operations: &mut Vec<Op>, op: &Op) -> Result<(), AllocErro
         operations.insert(at, op.copy(alloc)?)?;
     }
     Ok(())
+}
+
+/// The first operations up to a number, and the tail of a resync.
+fn resynced(
+    alloc: Global,
+    operations: &[Op],
+    count: u64,
+    tail: &Operations,
+) -> Result<Vec<Op>, AllocError>
+    ensures { IfOk result (λ v. v.items ≡ below count operations.now ++ tail.now) }
+{
+    let mut all = Vec::new(alloc);
+    for op in operations {
+        if op.seq < count {
+            all.push(op.copy(alloc)?)?;
+        }
+    }
+    for op in tail.as_slice() {
+        all.push(op.copy(alloc)?)?;
+    }
+    Ok(all)
 }
 
 /// The greatest number, or -1 where there is none.

@@ -15,7 +15,7 @@ use Rattle.op.specs.Documents.{Document, document_at, documents}
 use Rattle.op.specs.Records.{operations, shown}
 use Rattle.op.proofs.OperationLaws.{add-free, op_at-next_seq, last_on-below}
 use Rattle.op.proofs.DocumentLaws.{document_at-documents-placed}
-use Rattle.op.proofs.RecordLaws.{operations-Op, IsAscending-operations, shown-push}
+use Rattle.op.proofs.RecordLaws.{operations-Op, shown-push}
 use Rattle.engine.specs.Contents.{Contents}
 use Rattle.indexd.specs.Refusal.{in_doc}
 use Rattle.indexd.specs.Reply.{Reply, wrote, found}
@@ -71,14 +71,13 @@ itself : (id : Id) → is_id id id ≡ true
 itself id = is_eq-slice_cmp id id ∙ (bytes_eq-Decides id id).1 refl
 
 -- the document that was put is at its id
-pub put_is_there : (c after : Contents) (id source : List ℕ) (seq term version : ℕ) (updated : Bool) → put_at c id source ≡ Ok (after, wrote seq term version updated)
+pub put_is_there : (c after : Contents) (id source : List ℕ) (seq term version : ℕ) (updated : Bool) → IsAscending (operations c.records) → put_at c id source ≡ Ok (after, wrote seq term version updated)
     → get_at after id ≡ Ok (after, found (record { seq = seq; term = term; version = version; source = source }))
 unfolding get_at
-put_is_there c after id source seq term version updated e =
+put_is_there c after id source seq term version updated up e =
     let os = operations c.records in
     let put = put_it c after (wrote seq term version updated) id source e in
     let o = index_op (next_seq os) put.version id source in
-    let up = IsAscending-operations c.records in
     let ops : operations after.records ≡ placed os o =
     ap (λ (x : Contents). operations x.records) put.kept_it ∙ operations-Op c.records (checkpoint_of (next_seq os)) o ∙ add-free os o (op_at-next_seq os up) in
     let n : next_seq os ≡ seq = cc (put.reply) in

@@ -3,13 +3,10 @@ use Rattle.std.proofs.Common.{◌≡◌, ℕ, ◌^◌, Bool, true, false, List, 
 use Rattle.std.specs.Prelude.{nat_lt}
 use Rattle.doc.specs.Id.{Id}
 use Rattle.op.specs.declared.operation.Op.{Op}
-use Rattle.op.specs.declared.record.Record.{Record}
-use Rattle.op.specs.Operations.{op_at, next_seq, last_on, next_version}
+use Rattle.op.specs.Operations.{IsAscending, op_at, next_seq, last_on, next_version}
 use Rattle.op.specs.Documents.{document_of}
-use Rattle.op.specs.Records.{operations}
 use Rattle.op.proofs.DocumentLaws.{document_at-documents}
 use Rattle.op.proofs.OperationLaws.{op_at-next_seq}
-use Rattle.op.proofs.RecordLaws.{IsAscending-operations}
 use Rattle.engine.specs.Last.{last_of}
 use Rattle.indexd.specs.LastView.{version_of, is_live_last}
 use Rattle.indexd.specs.Refusal.{Refusal, exhausted}
@@ -34,5 +31,5 @@ pub limited-Ok : (n m : ℕ) → limited n ≡ Ok m → m ≡ n
 limited-Ok n m e = same (nat_lt n (2 ^ 63)) n m exhausted e
 
 -- the number after the greatest one is free
-pub next_is_free : (rs : List Record) (n : ℕ) → n ≡ next_seq (operations rs) → op_at (operations rs) n ≡ None
-next_is_free rs n e = rw e (op_at-next_seq (operations rs) (IsAscending-operations rs))
+pub next_is_free : (os : List Op) (n : ℕ) → IsAscending os → n ≡ next_seq os → op_at os n ≡ None
+next_is_free os n up e = rw e (op_at-next_seq os up)

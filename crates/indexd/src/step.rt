@@ -3,7 +3,7 @@ ghost use Rattle.std.specs.Prelude.{◌≡◌, None, OnOk, OnErr, Some, option_m
 ghost use Rattle.serde_json.specs.Read.{read};
 ghost use Rattle.serde_json.specs.View.{view};
 ghost use Rattle.doc.specs.Outcome.{Gives};
-ghost use Rattle.op.specs.Operations.{op_at, next_seq};
+ghost use Rattle.op.specs.Operations.{IsAscending, op_at, next_seq};
 ghost use Rattle.op.specs.Records.{IsOperation, IsWrite, operations};
 ghost use Rattle.indexd.specs.Reply.{opened};
 ghost use Rattle.indexd.specs.Step as spec;
@@ -167,7 +167,8 @@ fn keep(alloc: Global, engine: &mut Engine, op: Op) -> Result<(), AllocError>
 
 /// The number after the greatest one.
 fn next_seq(engine: &Engine) -> Result<u64, Refusal>
-    ensures { Gives refusal_of (λ n. n) result (spec.limited (next_seq (operations engine.now.records))) }
+    ensures gives { Gives refusal_of (λ n. n) result (spec.limited (next_seq (operations engine.now.records))) }
+    ensures ascending { IsAscending (operations engine.now.records) }
 {
     let greatest = engine.greatest();
     if greatest < 0 {

@@ -34,7 +34,7 @@ All-placed P (p ∷ ps) o po all =
     ]
 
 -- each number is above n, so above a smaller m too
-above_less : (m n : ℕ) (os : List Op) → m < n → AllByRecursion (λ p. n < p.seq) os → AllByRecursion (λ p. m < p.seq) os
+pub above_less : (m n : ℕ) (os : List Op) → m < n → AllByRecursion (λ p. n < p.seq) os → AllByRecursion (λ p. m < p.seq) os
 above_less m n [] lt all = tt
 above_less m n (p ∷ ps) lt all = (let h : n < p.seq = all.0 in omega arith, above_less m n ps lt all.1)
 

@@ -1,5 +1,5 @@
 -- Operations, as a list in ascending order of their numbers.
-use Rattle.std.specs.Prelude.{ℕ, ℤ, suc, ◌<◌, Bool, false, List, [], ◌∷◌, ◌==◌, nat_lt, if◌then◌else◌, Option, Some, None, is_some}
+use Rattle.std.specs.Prelude.{ℕ, ℤ, suc, ◌<◌, Bool, false, List, [], ◌∷◌, ◌==◌, nat_lt, filter, if◌then◌else◌, Option, Some, None, is_some}
 use Rattle.std.specs.Option.{option_or}
 use Rattle.std.specs.List.{AllByRecursion}
 use Rattle.op.specs.declared.operation.Op.{Op}
@@ -26,6 +26,10 @@ placed (p ∷ ps) o = if nat_lt o.seq p.seq then o ∷ p ∷ ps else p ∷ place
 -- the list with the operation, where its number is free
 abbrev pub add : List Op → Op → List Op
 add os o = if is_some (op_at os o.seq) then os else placed os o
+
+-- the operations whose number is below n
+abbrev pub below : ℕ → List Op → List Op
+below n os = filter (λ o. nat_lt o.seq n) os
 
 -- one past the greatest number, or 0
 abbrev pub next_seq : List Op → ℕ

@@ -1,11 +1,13 @@
 -- Records, and the operations that a list of them leaves.
-use Rattle.std.specs.Prelude.{◌≡◌, ℕ, negsuc, ◌<◌, ◌^◌, ◌≤ℤ◌, List, [], fold, take}
+use Rattle.std.specs.Prelude.{◌≡◌, ℕ, ℤ, negsuc, suc, ◌<◌, ◌≤◌, ◌^◌, ◌≤ℤ◌, List, [], ◌∷◌, ◌++◌, fold, take}
+use Rattle.std.specs.List.{AllByRecursion}
 use Rattle.op.specs.declared.operation.Op.{Op}
 use Rattle.op.specs.declared.operation.Body.{Body}
 use Rattle.op.specs.declared.operation.Body.TheVariants.{Index, Delete, NoOp}
 use Rattle.op.specs.declared.record.Record.{Record}
-use Rattle.op.specs.declared.record.Record.TheVariants.{Op as Kept}
-use Rattle.op.specs.Operations.{add}
+use Rattle.op.specs.declared.record.Record.TheVariants.{Op as Kept, Resync, Recover}
+use Rattle.op.specs.Checkpoint.{known}
+use Rattle.op.specs.Operations.{add, below}
 
 -- versions begin at 1; an operation that does nothing has none
 abbrev pub IsVersion : Body → ℕ → Type 0
@@ -27,13 +29,38 @@ IsWrite (Index id source) = Unit {0}
 IsWrite (Delete id) = Unit {0}
 IsWrite NoOp = ⊥
 
--- what holds of a record that is kept: an operation is a write, and the checkpoint beside it is at least -1
+-- the numbers run from n without a gap
+abbrev pub RunsFrom : ℕ → List Op → Type 0
+RunsFrom n [] = Unit {0}
+RunsFrom n (o ∷ os) = (o.seq ≡ n) × RunsFrom (suc n) os
+
+-- a term is at least 1
+pub record IsTerm (term : ℕ) : Type 0 where
+  pub first : 0 < term
+  pub small : term < 2 ^ 63
+
+-- an operation of this term or an older one
+abbrev pub IsUpTo : ℕ → Op → Type 0
+IsUpTo term o = IsOperation o × (o.term ≤ term)
+
+-- operations from number n up that a primary of this term has
+pub record IsHistory (term n : ℕ) (os : List Op) : Type 0 where
+  pub runs : RunsFrom n os
+  pub each : AllByRecursion (IsUpTo term) os
+
+-- what holds of a record that is kept: an operation is a write; a resync goes on behind its checkpoint, a recovery begins at number 0;
+-- a checkpoint is at least -1
 abbrev pub IsRecord : Record → Type 0
 IsRecord (Kept g o) = (negsuc 0 ≤ℤ g) × IsOperation o × IsWrite o.body
+IsRecord (Resync term g tail) = (negsuc 0 ≤ℤ g) × IsTerm term × IsHistory term (known g) tail
+IsRecord (Recover term all) = IsTerm term × IsHistory term 0 all
 
--- the operations after one more record: an operation is added where its number is free
+-- the operations after one more record: an operation is added where its number is free, a resync keeps what its checkpoint counts
+-- and adds its tail, a recovery replaces all
 abbrev pub after_record : List Op → Record → List Op
 after_record os (Kept g o) = add os o
+after_record os (Resync term g tail) = below (known g) os ++ tail
+after_record os (Recover term all) = all
 
 -- the operations of records
 abbrev pub operations : List Record → List Op

@@ -1,9 +1,12 @@
 //! Operations on documents, the records that a copy keeps of them, and the documents that they make.
 #![tactic(auto)]
 
+pub mod checkpoint;
 pub mod laws;
 pub mod operation;
+pub mod operations;
 pub mod record;
 
 pub use operation::{Body, Op};
+pub use operations::Operations;
 pub use record::Record;

@@ -7,11 +7,12 @@ use Rattle.indexd.proofs.step.write.Goals as goal
 
 pub keep-requires-clause-free : goal.keep-requires-clause-free
 keep-requires-clause-free c =
-    next_is_free c.args.engine.now.records c.in_ok-seq.seq (limited-Ok (next_seq (operations c.args.engine.now.records)) c.in_ok-seq.seq c.in_ok-seq.ensures)
+    let os = operations c.args.engine.now.records in
+    next_is_free os c.in_ok-seq.seq c.in_ok-seq.ensures.ascending (limited-Ok (next_seq os) c.in_ok-seq.seq c.in_ok-seq.ensures.gives)
 
 pub returns-clause-gives : goal.returns-clause-gives
 unfolding write
 returns-clause-gives c =
     let version = rw (c.last-last.ensures, version_of-last) at c.in_ok-version.ensures in
     let live = rw (c.last-last.ensures, is_live-last) at c.is_live.ensures in
-    rw (c.in_ok-seq.ensures, version, live, c.in_ok-keep.ensures.ok) refl
+    rw (c.in_ok-seq.ensures.gives, version, live, c.in_ok-keep.ensures.ok) refl

@@ -1,0 +1,16 @@
+-- What a change leaves.
+use Rattle.std.specs.Prelude.{length, All}
+use Rattle.op.specs.Records.{IsRecord}
+use Rattle.engine.specs.Contents.{Contents}
+use Rattle.engine.specs.declared.staged.Change.{Change}
+use Rattle.engine.specs.declared.staged.Change.TheVariants.{Refresh, Reopen}
+
+-- a refresh shows all records, new records are all shown
+abbrev pub changed : Contents → Change → Contents
+changed c Refresh = record c { point = length c.records }
+changed c (Reopen rs) = record c { records = rs.items; point = length rs.items }
+
+-- new records are records
+abbrev pub IsChange : Change → Type 0
+IsChange Refresh = Unit {0}
+IsChange (Reopen rs) = All IsRecord rs.items

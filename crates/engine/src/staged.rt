@@ -1,0 +1,54 @@
+//! What is made ready of a change, before it is made.
+
+use crate::history::History;
+use crate::snapshot::Snapshot;
+use op::Record;
+use std::alloc::Global;
+use std::marker::Model;
+use std::sync::Arc;
+
+/// A change of an engine that makes a new snapshot.
+#[derive(Drop)]
+pub enum Change {
+    /// Searches show all records.
+    Refresh,
+    /// These are the records, and searches show them all.
+    Reopen(Vec<Record>),
+}
+
+/// A change that is ready: the new snapshot, what it shows, and new records if the change has any.
+/// `Engine::put` makes it and takes no memory.
+#[derive(Drop)]
+pub struct Staged {
+    pub(crate) history: Option<History>,
+    pub(crate) snapshot: Arc<Snapshot, Global>,
+    pub(crate) point: usize,
+}
+
+impl Model for Staged {
+    ghost use Rattle.std.specs.Arc.{arc_value};
+    ghost use Rattle.engine.specs.Staged.{StagedData};
+
+    ghost Value = { StagedData };
+
+    ghost view = { λ s. record { records = s.history; snapshot = arc_value s.snapshot; point = s.point } };
+}
+
+impl Staged {
+    ghost use Rattle.std.specs.Prelude.{◌≡◌};
+    ghost use Rattle.std.specs.Arc.{arc_value};
+
+    /// What searches show after the change.
+    pub fn snapshot(&self) -> &Arc<Snapshot, Global>
+        ensures { arc_value result.now ≡ self.now.snapshot }
+    {
+        &self.snapshot
+    }
+
+    /// How many records searches show after the change.
+    pub fn point(&self) -> u64
+        ensures { result ≡ self.now.point }
+    {
+        self.point as u64
+    }
+}

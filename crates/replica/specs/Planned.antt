@@ -1,0 +1,44 @@
+-- A write that is accepted, before it is kept.
+use Rattle.std.specs.Prelude.{◌≡◌, ℕ, ◌+◌, Bool, List, [], ◌∷◌, Option, not, ◌&&◌, nat_le}
+use Rattle.op.specs.declared.operation.Op.{Op}
+use Rattle.op.specs.Operations.{IsAscending, next_seq}
+use Rattle.op.specs.Records.{IsOperation, IsWrite}
+use Rattle.engine.specs.declared.engine.Last.{Last}
+use Rattle.replica.specs.declared.fault.CopyFault.{CopyFault}
+use Rattle.replica.specs.declared.fault.CopyFault.TheVariants.{VersionConflict, WindowFull, Exhausted}
+use Rattle.replica.specs.declared.input.Kind.{Kind}
+use Rattle.replica.specs.declared.output.Answer.{Answer}
+use Rattle.replica.specs.declared.planned.Planned.{Planned}
+use Rattle.replica.specs.declared.role.Lead.{Lead}
+use Rattle.replica.specs.declared.role.Role.TheVariants.{Primary}
+use Rattle.replica.specs.Copy.{Copy, operations}
+use Rattle.replica.specs.LastView.{version_of, is_allowed_by}
+use Rattle.replica.specs.Standing.{placed, IsNext}
+use Rattle.replica.specs.Step.{Stepped, is_number, led, acknowledged, kept, pending}
+
+-- what the write gives, once it is kept
+abbrev pub stepped_by : Copy → Planned → Stepped
+stepped_by c p = record { copy = placed c p.kept p.known p.role; answer = p.output.answer; acknowledged = p.output.acknowledged }
+
+abbrev pub IsPlanned : Copy → Planned → Type 0
+IsPlanned c p = IsNext c p.kept p.known p.role
+
+-- what a write is refused for, by the last operation on its id
+abbrev pub faults_by : ℕ → ℕ → Option Last → Kind → List (Bool × CopyFault)
+faults_by known seq last kind =
+    (not (is_allowed_by last kind), VersionConflict)
+    ∷ (nat_le (known + 1024) seq, WindowFull)
+    ∷ (not (is_number seq && is_number (version_of last)), Exhausted)
+    ∷ []
+
+-- the next operation of a primary
+pub record IsNextOp (c : Copy) (lead : Lead) (o : Op) : Type 0 where
+  pub primary : c.role ≡ Primary lead
+  pub up : IsAscending (operations c)
+  pub next : o.seq ≡ next_seq (operations c)
+  pub is : IsOperation o
+  pub writes : IsWrite o.body
+
+-- what its write gives, for a lone primary and for one of several members
+abbrev pub write_gives : Copy → Lead → Op → Answer → Bool → Stepped
+write_gives c lead o answer alone = record { copy = led (kept c lead o) (pending lead o) alone; answer = answer; acknowledged = acknowledged (kept c lead o) (pending lead o) alone }

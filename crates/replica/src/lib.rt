@@ -1,0 +1,16 @@
+//! One copy of the shard: its inputs, what it answers, and its log.
+#![tactic(auto)]
+
+pub mod fault;
+pub mod input;
+mod opening;
+pub mod output;
+pub mod planned;
+pub mod role;
+mod state;
+mod writing;
+
+pub use fault::CopyFault;
+pub use input::{Condition, Input, Kind, Write};
+pub use output::{Answer, Document, Outcome, Output, Written};
+pub use role::{Birth, CopyIds, Lead, Numbers, Role};
