@@ -7,4 +7,4 @@ pub mod Step
 pub mod Output
 pub mod Going
 pub mod View
-pub mod LastView
+pub mod Held

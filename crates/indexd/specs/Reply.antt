@@ -1,21 +1,26 @@
 -- What a line of a script answers, and how it is printed.
-use Rattle.std.specs.Prelude.{ℕ, Bool, true, false, List, [], ◌∷◌, ◌++◌, codes, decimal}
-use Rattle.op.specs.Documents.{Document}
+use Rattle.std.specs.Prelude.{ℕ, List, [], ◌∷◌, ◌++◌, codes, decimal}
 use Rattle.doc.specs.Id.{Id}
-use Rattle.engine.specs.Answer.{Answer}
+use Rattle.op.specs.declared.operation.Op.{Op}
+use Rattle.engine.specs.Answer as engine
+use Rattle.replica.specs.declared.output.Answer.{Answer}
+use Rattle.replica.specs.declared.output.Answer.TheVariants.{Wrote, Found, Missing, Point}
+use Rattle.replica.specs.declared.output.Outcome.{Outcome}
+use Rattle.replica.specs.declared.output.Outcome.TheVariants.{Created, Updated, Deleted, NotFound}
+use Rattle.replica.specs.declared.output.Document.{Document}
+use Rattle.replica.specs.declared.output.Written.{Written}
 
 pub data Reply : Type 0 where
   opened : Reply
-  -- the numbers of the operation, and whether there was a document
-  wrote : (seq term version : ℕ) (updated : Bool) → Reply
-  found : Document → Reply
-  missing : Reply
-  point : ℕ → Reply
-  hits : Answer → Reply
+  -- what the copy answers, and the operations that it acknowledges
+  stepped : Answer → (acknowledged : List Op) → Reply
+  hits : engine.Answer → Reply
 
-abbrev pub result_name : Bool → List ℕ
-result_name true = codes "updated"
-result_name false = codes "created"
+abbrev pub outcome_name : Outcome → List ℕ
+outcome_name Created = codes "created"
+outcome_name Updated = codes "updated"
+outcome_name Deleted = codes "deleted"
+outcome_name NotFound = codes "not_found"
 
 -- each id behind a space
 abbrev pub ids_text : List (Id × List ℕ) → List ℕ
@@ -23,20 +28,32 @@ ids_text [] = []
 ids_text (h ∷ hs) = 32 ∷ h.0 ++ ids_text hs
 
 -- the line of a write
-abbrev pub wrote_line : ℕ → ℕ → ℕ → Bool → List ℕ
-wrote_line seq term version updated = codes "wrote " ++ (decimal seq ++ (codes " " ++ (decimal term ++ (codes " " ++ (decimal version ++ (codes " " ++ (result_name updated ++ codes "\n")))))))
+abbrev pub wrote_line : Written → List ℕ
+wrote_line w = codes "wrote " ++ (decimal w.seq ++ (codes " " ++ (decimal w.term ++ (codes " " ++ (decimal w.version ++ (codes " " ++ (outcome_name w.outcome ++ codes "\n")))))))
+
+-- the line of a document
+abbrev pub found_line : Document → List ℕ
+found_line d = codes "found " ++ (decimal d.seq ++ (codes " " ++ (decimal d.term ++ (codes " " ++ (decimal d.version ++ (codes " " ++ (d.source ++ codes "\n")))))))
+
+-- the line of a copy's answer
+abbrev pub answer_line : Answer → List ℕ
+answer_line (Wrote w) = wrote_line w
+answer_line (Found d) = found_line d
+answer_line Missing = codes "missing\n"
+answer_line (Point n) = codes "point " ++ (decimal n ++ codes "\n")
 
 -- the line of an acknowledgement
-abbrev pub ack_line : ℕ → ℕ → List ℕ
-ack_line seq term = codes "ack " ++ (decimal seq ++ (codes " " ++ (decimal term ++ codes "\n")))
+abbrev pub ack_line : Op → List ℕ
+ack_line o = codes "ack " ++ (decimal o.seq ++ (codes " " ++ (decimal o.term ++ codes "\n")))
 
--- the lines of an answer; a write of a lone copy is acknowledged at once
+abbrev pub ack_lines : List Op → List ℕ
+ack_lines [] = []
+ack_lines (o ∷ os) = ack_line o ++ ack_lines os
+
+-- the lines of an answer: the answer itself, and then its acknowledgements
 abbrev pub printed : Reply → List ℕ
 printed opened = []
-printed (wrote seq term version updated) = wrote_line seq term version updated ++ ack_line seq term
-printed (found d) = codes "found " ++ (decimal d.seq ++ (codes " " ++ (decimal d.term ++ (codes " " ++ (decimal d.version ++ (codes " " ++ (d.source ++ codes "\n")))))))
-printed missing = codes "missing\n"
-printed (point n) = codes "point " ++ (decimal n ++ codes "\n")
+printed (stepped a os) = answer_line a ++ ack_lines os
 printed (hits a) = codes "hits " ++ (decimal a.total ++ (ids_text a.hits ++ codes "\n"))
 
 -- the line of a refusal

@@ -6,15 +6,25 @@ ghost use Rattle.indexd.specs.Command as spec;
 ghost use Rattle.indexd.specs.Words as words;
 ghost use Rattle.indexd.specs.View.{command_view};
 
+use replica::Condition;
 use std::str;
+
+/// What a write does; a document stands as the text of the line.
+#[derive(Clone, Copy)]
+pub(crate) enum Change<'a> {
+    Index(&'a str, Option<Condition>),
+    Create(&'a str),
+    Delete(Option<Condition>),
+}
 
 /// A line of a script: copies by their number, the texts as they stand in the line.
 #[derive(Clone, Copy)]
 pub(crate) enum Command<'a> {
     Open(u64, &'a str),
-    Put(u64, &'a str, &'a str),
+    Write(u64, &'a str, Change<'a>),
     Get(u64, &'a str),
     Refresh(u64),
+    Restart(u64),
     Search(u64, &'a str),
 }
 
@@ -40,8 +50,13 @@ fn command_named<'a>(word: &str, rest: &'a str) -> Option<Command<'a>>
     match word {
         "open" => open_of(rest),
         "put" => put_of(rest),
+        "create" => create_of(rest),
+        "del" => del_of(rest),
+        "putif" => putif_of(rest),
+        "delif" => delif_of(rest),
         "get" => get_of(rest),
         "refresh" => refresh_of(rest),
+        "restart" => restart_of(rest),
         "search" => search_of(rest),
         _ => None,
     }
@@ -59,7 +74,41 @@ fn put_of(rest: &str) -> Option<Command<'_>>
 {
     let (copy, rest) = number_then(rest)?;
     let (id, source) = split_word(rest)?;
-    Some(Command::Put(copy, id, source))
+    Some(Command::Write(copy, id, Change::Index(source, None)))
+}
+
+fn create_of(rest: &str) -> Option<Command<'_>>
+    ensures { option_map command_view result ≡ spec.create_of rest.now }
+{
+    let (copy, rest) = number_then(rest)?;
+    let (id, source) = split_word(rest)?;
+    Some(Command::Write(copy, id, Change::Create(source)))
+}
+
+fn del_of(rest: &str) -> Option<Command<'_>>
+    ensures { option_map command_view result ≡ spec.del_of rest.now }
+{
+    let (copy, rest) = number_then(rest)?;
+    let id = one_word(rest)?;
+    Some(Command::Write(copy, id, Change::Delete(None)))
+}
+
+fn putif_of(rest: &str) -> Option<Command<'_>>
+    ensures { option_map command_view result ≡ spec.putif_of rest.now }
+{
+    let (copy, rest) = number_then(rest)?;
+    let (condition, rest) = condition_then(rest)?;
+    let (id, source) = split_word(rest)?;
+    Some(Command::Write(copy, id, Change::Index(source, Some(condition))))
+}
+
+fn delif_of(rest: &str) -> Option<Command<'_>>
+    ensures { option_map command_view result ≡ spec.delif_of rest.now }
+{
+    let (copy, rest) = number_then(rest)?;
+    let (condition, rest) = condition_then(rest)?;
+    let id = one_word(rest)?;
+    Some(Command::Write(copy, id, Change::Delete(Some(condition))))
 }
 
 fn get_of(rest: &str) -> Option<Command<'_>>
@@ -77,6 +126,13 @@ fn refresh_of(rest: &str) -> Option<Command<'_>>
     Some(Command::Refresh(copy))
 }
 
+fn restart_of(rest: &str) -> Option<Command<'_>>
+    ensures { option_map command_view result ≡ spec.restart_of rest.now }
+{
+    let copy = number_of(rest)?;
+    Some(Command::Restart(copy))
+}
+
 fn search_of(rest: &str) -> Option<Command<'_>>
     ensures { option_map command_view result ≡ spec.search_of rest.now }
 {
@@ -91,6 +147,15 @@ fn number_then(text: &str) -> Option<(u64, &str)>
     let (word, rest) = split_word(text)?;
     let number = number_of(word)?;
     Some((number, rest))
+}
+
+/// The numbers of a condition, and the text behind them.
+fn condition_then(text: &str) -> Option<(Condition, &str)>
+    ensures { option_map (λ x. (x.0, x.1.now)) result ≡ spec.condition_then text.now }
+{
+    let (seq, rest) = number_then(text)?;
+    let (term, rest) = number_then(rest)?;
+    Some((Condition { seq, term }, rest))
 }
 
 /// The text that some bytes are.

@@ -3,6 +3,7 @@ ghost use Rattle.std.specs.Prelude.{◌≡◌, [], IfOk, IfSome, IfNone, OnOk, O
 ghost use Rattle.std.specs.Io.BufRead.{strip_last};
 ghost use Rattle.std.specs.Io.KnownBytes.{Appends};
 ghost use Rattle.doc.specs.Outcome.{Gives};
+ghost use Rattle.indexd.specs.Held.{copy_in, IsOpen, Keeps};
 ghost use Rattle.indexd.specs.Lines.{IsFirstLine};
 ghost use Rattle.indexd.specs.Output as spec;
 ghost use Rattle.indexd.specs.View.{refusal_of, reply_view};
@@ -11,13 +12,12 @@ use crate::command::{command_of, is_passed_over};
 use crate::fault::ReplayFault;
 use crate::refusal::Refusal;
 use crate::reply::{Reply, refused};
-use crate::step::step;
+use crate::step::{OneCopy, step};
 use crate::writing::write_whole;
-use engine::Engine;
 use std::alloc::{AllocError, Global};
 use std::io::{BufRead, ErrorKind, Write};
 
-/// Plays a script over one copy of an index that is kept in memory. What is written is the script's output,
+/// Plays a script over one copy of an index, whose log is in memory. What is written is the script's output,
 /// and after a fault a beginning of it.
 pub fn replay<R: BufRead, W: Write>(
     alloc: Global,
@@ -29,7 +29,7 @@ pub fn replay<R: BufRead, W: Write>(
     ensures err { OnErr result (IfSome (R.remaining reader.old) (λ script.
         spec.AppendsFront (W.contents writer.old) (W.contents writer.new) (spec.lines script))) }
 {
-    let mut index = None;
+    let mut index: Option<OneCopy> = None;
     for _ in 0..u64::MAX {
         let Some(line) = read_line(alloc, reader)? else {
             return Ok(());
@@ -42,8 +42,10 @@ pub fn replay<R: BufRead, W: Write>(
 
 /// Plays one line, and answers what it prints.
 #[tactic(auto, unfolding(crate::specs::Output::played))]
-fn played(alloc: Global, index: &mut Option<Engine>, line: &[u8]) -> Result<String, AllocError>
-    ensures { IfOk result (λ text. spec.played index.old line.now ≡ (index.new, string_bytes text)) }
+fn played(alloc: Global, index: &mut Option<OneCopy>, line: &[u8]) -> Result<String, AllocError>
+    requires { IsOpen index.old }
+    ensures text { IfOk result (λ text. spec.played (copy_in index.old) line.now ≡ (copy_in index.new, string_bytes text)) }
+    ensures open { OnOk result (IsOpen index.new) }
 {
     if is_passed_over(line) {
         return Ok(String::new(alloc));
@@ -58,9 +60,10 @@ fn played(alloc: Global, index: &mut Option<Engine>, line: &[u8]) -> Result<Stri
     }
 }
 
-fn line_step(alloc: Global, index: &mut Option<Engine>, line: &[u8]) -> Result<Reply, Refusal>
-    ensures gives { Gives refusal_of (λ r. (index.new, reply_view r)) result (spec.line_step index.old line.now) }
-    ensures err { OnErr result (index.new ≡ index.old) }
+fn line_step(alloc: Global, index: &mut Option<OneCopy>, line: &[u8]) -> Result<Reply, Refusal>
+    requires { IsOpen index.old }
+    ensures gives { Gives refusal_of (λ r. (copy_in index.new, reply_view r)) result (spec.line_step (copy_in index.old) line.now) }
+    ensures keeps { Keeps result index.old index.new }
 {
     match command_of(line) {
         Some(command) => step(alloc, index, command),

@@ -5,6 +5,7 @@ ghost use Rattle.indexd.specs.View.{refusal_of};
 
 use doc::DocFault;
 use query::QueryFault;
+use replica::CopyFault;
 use std::alloc::{AllocError, AllocFailed};
 
 /// A refusal of a line; the script goes on, unless memory is wanting.
@@ -15,9 +16,9 @@ pub(crate) enum Refusal {
     AlreadyOpen,
     BadCount,
     NoSuchCopy,
-    Exhausted,
     Doc(DocFault),
     Query(QueryFault),
+    Copy(CopyFault),
     NoMemory,
 }
 
@@ -32,14 +33,14 @@ impl Refusal {
             Refusal::AlreadyOpen => "AlreadyOpen",
             Refusal::BadCount => "BadCount",
             Refusal::NoSuchCopy => "NoSuchCopy",
-            Refusal::Exhausted => "Exhausted",
             Refusal::Doc(fault) => fault.name(),
             Refusal::Query(fault) => fault.name(),
+            Refusal::Copy(fault) => fault.name(),
             Refusal::NoMemory => "NoMemory",
         }
     }
 
-    /// Whether memory is wanting.
+    /// Whether memory is wanting. A log in memory fails for nothing else.
     pub(crate) fn is_memory(&self) -> bool
         ensures { result ≡ is_none (refusal_of self.now) }
     {
@@ -48,6 +49,7 @@ impl Refusal {
             Refusal::NoMemory
                 | Refusal::Doc(DocFault::NoMemory)
                 | Refusal::Query(QueryFault::NoMemory)
+                | Refusal::Copy(CopyFault::NoMemory | CopyFault::Log(_))
         )
     }
 }
@@ -71,6 +73,17 @@ impl From<QueryFault> for Refusal {
 
     fn from(fault: QueryFault) -> Refusal {
         Refusal::Query(fault)
+    }
+}
+
+impl From<CopyFault> for Refusal {
+    ghost use Rattle.std.specs.Prelude.{◌≡◌};
+    ghost use Rattle.indexd.specs.declared.refusal.Refusal.TheVariants.{Copy};
+
+    ghost from_gives = { λ f e. e ≡ Copy f };
+
+    fn from(fault: CopyFault) -> Refusal {
+        Refusal::Copy(fault)
     }
 }
 

@@ -4,20 +4,16 @@ ghost use Rattle.engine.specs.Shown.{hit_view, hits_view};
 ghost use Rattle.indexd.specs.Reply as spec;
 ghost use Rattle.indexd.specs.View.{reply_view};
 
-use doc::Source;
 use engine::{Hit, Hits};
+use op::Op;
+use replica::{Answer, Document, Outcome, Output, Written};
 use std::alloc::{AllocError, Global};
 
 /// The answer to an accepted command.
 #[derive(Drop)]
 pub(crate) enum Reply {
     Opened,
-    /// The number, term and version of the operation, and whether there was a document.
-    Wrote(u64, u64, u64, bool),
-    /// The number, term and version of the operation that wrote the document, and its text.
-    Found(u64, u64, u64, Source),
-    Missing,
-    Point(u64),
+    Stepped(Output),
     Hits(Hits),
 }
 
@@ -28,58 +24,80 @@ impl Reply {
     {
         match self {
             Reply::Opened => Ok(String::new(alloc)),
-            Reply::Wrote(seq, term, version, updated) => {
-                wrote(alloc, *seq, *term, *version, *updated)
-            }
-            Reply::Found(seq, term, version, source) => {
-                let source = source.as_str();
-                format!(in alloc; "found {seq} {term} {version} {source}\n")
-            }
-            Reply::Missing => String::from_str(alloc, "missing\n"),
-            Reply::Point(count) => format!(in alloc; "point {count}\n"),
+            Reply::Stepped(output) => stepped(alloc, output),
             Reply::Hits(hits) => found(alloc, hits),
         }
     }
 }
 
-fn wrote(
-    alloc: Global,
-    seq: u64,
-    term: u64,
-    version: u64,
-    updated: bool,
-) -> Result<String, AllocError>
-    ensures { IfOk result (λ t. string_bytes t ≡ spec.printed (spec.wrote seq term version updated)) }
+fn stepped(alloc: Global, output: &Output) -> Result<String, AllocError>
+    ensures { IfOk result (λ t. string_bytes t ≡ spec.printed (spec.stepped output.now.answer output.now.acknowledged)) }
 {
-    let mut text = wrote_line(alloc, seq, term, version, updated)?;
-    let ack = ack_line(alloc, seq, term)?;
-    text.push_str(ack.as_str())?;
+    let mut text = answer_line(alloc, &output.answer)?;
+    let acks = ack_lines(alloc, output.acknowledged.as_slice())?;
+    text.push_str(acks.as_str())?;
     Ok(text)
 }
 
-fn wrote_line(
-    alloc: Global,
-    seq: u64,
-    term: u64,
-    version: u64,
-    updated: bool,
-) -> Result<String, AllocError>
-    ensures { IfOk result (λ t. string_bytes t ≡ spec.wrote_line seq term version updated) }
+fn answer_line(alloc: Global, answer: &Answer) -> Result<String, AllocError>
+    ensures { IfOk result (λ t. string_bytes t ≡ spec.answer_line answer.now) }
 {
-    let result = result_name(updated);
-    format!(in alloc; "wrote {seq} {term} {version} {result}\n")
+    match answer {
+        Answer::Wrote(written) => wrote_line(alloc, *written),
+        Answer::Found(document) => found_line(alloc, document),
+        Answer::Missing => String::from_str(alloc, "missing\n"),
+        Answer::Point(count) => format!(in alloc; "point {count}\n"),
+    }
 }
 
-fn ack_line(alloc: Global, seq: u64, term: u64) -> Result<String, AllocError>
-    ensures { IfOk result (λ t. string_bytes t ≡ spec.ack_line seq term) }
+fn wrote_line(alloc: Global, written: Written) -> Result<String, AllocError>
+    ensures { IfOk result (λ t. string_bytes t ≡ spec.wrote_line written) }
 {
+    let seq = written.seq;
+    let term = written.term;
+    let version = written.version;
+    let outcome = outcome_name(written.outcome);
+    format!(in alloc; "wrote {seq} {term} {version} {outcome}\n")
+}
+
+fn outcome_name(outcome: Outcome) -> &'static str
+    ensures { result.now ≡ spec.outcome_name outcome }
+{
+    match outcome {
+        Outcome::Created => "created",
+        Outcome::Updated => "updated",
+        Outcome::Deleted => "deleted",
+        Outcome::NotFound => "not_found",
+    }
+}
+
+fn found_line(alloc: Global, document: &Document) -> Result<String, AllocError>
+    ensures { IfOk result (λ t. string_bytes t ≡ spec.found_line document.now) }
+{
+    let seq = document.seq;
+    let term = document.term;
+    let version = document.version;
+    let source = document.source.as_str();
+    format!(in alloc; "found {seq} {term} {version} {source}\n")
+}
+
+fn ack_line(alloc: Global, op: &Op) -> Result<String, AllocError>
+    ensures { IfOk result (λ t. string_bytes t ≡ spec.ack_line op.now) }
+{
+    let seq = op.seq;
+    let term = op.term;
     format!(in alloc; "ack {seq} {term}\n")
 }
 
-fn result_name(updated: bool) -> &'static str
-    ensures { result.now ≡ spec.result_name updated }
+fn ack_lines(alloc: Global, ops: &[Op]) -> Result<String, AllocError>
+    ensures { IfOk result (λ t. string_bytes t ≡ spec.ack_lines ops.now) }
 {
-    if updated { "updated" } else { "created" }
+    let mut text = String::new(alloc);
+    for op in ops {
+        let line = ack_line(alloc, op)?;
+        text.push_str(line.as_str())?;
+    }
+    Ok(text)
 }
 
 fn found(alloc: Global, hits: &Hits) -> Result<String, AllocError>

@@ -1,53 +1,52 @@
 //! What a command does to the one copy of an index.
-ghost use Rattle.std.specs.Prelude.{◌≡◌, None, OnOk, OnErr, Some, option_map};
+ghost use Rattle.std.specs.Prelude.{◌≡◌, false, None, IfOk, IfErr};
 ghost use Rattle.serde_json.specs.Read.{read};
 ghost use Rattle.serde_json.specs.View.{view};
+ghost use Rattle.doc.specs.Fault.{fault_of};
 ghost use Rattle.doc.specs.Outcome.{Gives};
-ghost use Rattle.op.specs.Operations.{IsAscending, op_at, next_seq};
-ghost use Rattle.op.specs.Records.{IsOperation, IsWrite, operations};
+ghost use Rattle.replica.specs.Copy.{begun};
+ghost use Rattle.indexd.specs.Held.{copy_in, IsOpen, Keeps, KeepsCopy};
 ghost use Rattle.indexd.specs.Reply.{opened};
 ghost use Rattle.indexd.specs.Step as spec;
-ghost use Rattle.indexd.specs.LastView.{version_of, is_live_last};
-ghost use Rattle.indexd.specs.View.{command_view, refusal_of, reply_view};
+ghost use Rattle.indexd.specs.View.{change_view, command_view, refusal_of, reply_view};
 
-use crate::command::Command;
+use crate::command::{Change, Command};
 use crate::refusal::Refusal;
 use crate::reply::Reply;
 use doc::{Doc, DocFault, DocId, Mapping, Source};
-use engine::{Engine, Last};
-use op::{Body, Op, Record};
 use query::{QueryFault, SearchBody};
+use replica::{Copy, CopyFault, Input, Kind, Write};
 use serde_json::Value;
-use std::alloc::{AllocError, Global};
+use std::alloc::Global;
+use translog::MemDevice;
 
-/// The term of a lone copy's writes.
-const TERM: u64 = 1;
+/// The copy of an index that a script plays on; its log is in memory.
+pub(crate) type OneCopy = Copy<MemDevice>;
 
-/// The greatest sequence number and version.
-const GREATEST: u64 = 9_223_372_036_854_775_807;
-
-/// Does a command; a refusal leaves all as it was.
+/// Does a command. A refusal that is printed leaves all as it was.
 pub(crate) fn step(
     alloc: Global,
-    index: &mut Option<Engine>,
+    index: &mut Option<OneCopy>,
     command: Command<'_>,
 ) -> Result<Reply, Refusal>
-    ensures gives { Gives refusal_of (λ r. (index.new, reply_view r)) result
-        (spec.step index.old (command_view command.entry)) }
-    ensures err { OnErr result (index.new ≡ index.old) }
+    requires { IsOpen index.old }
+    ensures gives { Gives refusal_of (λ r. (copy_in index.new, reply_view r)) result
+        (spec.step (copy_in index.old) (command_view command.entry)) }
+    ensures keeps { Keeps result index.old index.new }
 {
     match index {
-        Some(engine) => step_open(alloc, engine, command),
+        Some(copy) => step_open(alloc, copy, command),
         None => {
-            let engine = step_closed(alloc, command)?;
-            *index = Some(engine);
+            let copy = step_closed(alloc, command)?;
+            *index = Some(copy);
             Ok(Reply::Opened)
         }
     }
 }
 
-fn step_closed(alloc: Global, command: Command<'_>) -> Result<Engine, Refusal>
-    ensures { Gives refusal_of (λ e. (e, opened)) result (spec.step_closed (command_view command.entry)) }
+fn step_closed(alloc: Global, command: Command<'_>) -> Result<OneCopy, Refusal>
+    ensures gives { Gives refusal_of (λ c. (c.copy, opened)) result (spec.step_closed (command_view command.entry)) }
+    ensures open { IfOk result (λ c. c.closed ≡ false) }
 {
     match command {
         Command::Open(copies, mapping) => open(alloc, copies, mapping),
@@ -55,8 +54,9 @@ fn step_closed(alloc: Global, command: Command<'_>) -> Result<Engine, Refusal>
     }
 }
 
-fn open(alloc: Global, copies: u64, mapping: &str) -> Result<Engine, Refusal>
-    ensures { Gives refusal_of (λ e. (e, opened)) result (spec.open_index copies mapping.now) }
+fn open(alloc: Global, copies: u64, mapping: &str) -> Result<OneCopy, Refusal>
+    ensures gives { Gives refusal_of (λ c. (c.copy, opened)) result (spec.open_index copies mapping.now) }
+    ensures open { IfOk result (λ c. c.closed ≡ false) }
 {
     if copies != 1 {
         return Err(Refusal::BadCount);
@@ -65,13 +65,26 @@ fn open(alloc: Global, copies: u64, mapping: &str) -> Result<Engine, Refusal>
 }
 
 #[tactic(auto, unfolding(crate::specs::Step::new_index))]
-fn new_index(alloc: Global, mapping: &str) -> Result<Engine, Refusal>
-    ensures { Gives refusal_of (λ e. e) result (spec.new_index mapping.now) }
+fn new_index(alloc: Global, mapping: &str) -> Result<OneCopy, Refusal>
+    ensures gives { Gives refusal_of (λ c. c.copy) result (spec.new_index mapping.now) }
+    ensures open { IfOk result (λ c. c.closed ≡ false) }
 {
     let value = mapping_value(alloc, mapping)?;
     let mapping = Mapping::from_value(alloc, &value)?;
-    let engine = Engine::open(alloc, mapping, Vec::new(alloc))?;
-    Ok(engine)
+    new_copy(alloc, mapping)
+}
+
+/// The copy of a new index, with an empty log in memory.
+fn new_copy(alloc: Global, mapping: Mapping) -> Result<OneCopy, Refusal>
+    ensures copy { IfOk result (λ c. c.copy ≡ begun 1 1 mapping) }
+    ensures open { IfOk result (λ c. c.closed ≡ false) }
+    ensures memory { IfErr result (λ e. refusal_of e ≡ None) }
+{
+    let device = MemDevice::new(Vec::new(alloc));
+    match Copy::begin(alloc, 1, 1, mapping, device) {
+        Ok(copy) => Ok(copy),
+        Err(_) => Err(Refusal::NoMemory),
+    }
 }
 
 fn mapping_value(alloc: Global, text: &str) -> Result<Value, Refusal>
@@ -87,152 +100,119 @@ fn mapping_value(alloc: Global, text: &str) -> Result<Value, Refusal>
     }
 }
 
-fn step_open(alloc: Global, engine: &mut Engine, command: Command<'_>) -> Result<Reply, Refusal>
-    ensures gives { Gives refusal_of (λ r. (engine.new, reply_view r)) result
-        (spec.step_open engine.old (command_view command.entry)) }
-    ensures err { OnErr result (engine.new ≡ engine.old) }
+fn step_open(alloc: Global, copy: &mut OneCopy, command: Command<'_>) -> Result<Reply, Refusal>
+    requires { copy.old.closed ≡ false }
+    ensures gives { Gives refusal_of (λ r. (copy.new.copy, reply_view r)) result
+        (spec.step_open copy.old.copy (command_view command.entry)) }
+    ensures keeps { KeepsCopy result copy.old copy.new }
 {
     match command {
         Command::Open(_, _) => Err(Refusal::AlreadyOpen),
-        Command::Put(copy, id, source) => {
-            check_copy(copy)?;
-            put(alloc, engine, id, source)
+        Command::Write(number, id, change) => {
+            check_copy(number)?;
+            write(alloc, copy, id, change)
         }
-        Command::Get(copy, id) => {
-            check_copy(copy)?;
-            get(alloc, engine, id)
+        Command::Get(number, id) => {
+            check_copy(number)?;
+            get(alloc, copy, id)
         }
-        Command::Refresh(copy) => {
-            check_copy(copy)?;
-            refresh(alloc, engine)
+        Command::Refresh(number) => {
+            check_copy(number)?;
+            take(alloc, copy, Input::Refresh)
         }
-        Command::Search(copy, body) => {
-            check_copy(copy)?;
-            search(alloc, engine, body)
+        Command::Restart(number) => {
+            check_copy(number)?;
+            take(alloc, copy, Input::Restart)
+        }
+        Command::Search(number, body) => {
+            check_copy(number)?;
+            search(alloc, copy, body)
         }
     }
 }
 
-fn check_copy(copy: u64) -> Result<(), Refusal>
-    ensures { Gives refusal_of (λ u. u) result (spec.copy_one copy) }
+fn check_copy(number: u64) -> Result<(), Refusal>
+    ensures { Gives refusal_of (λ u. u) result (spec.copy_one number) }
 {
-    if copy == 1 {
+    if number == 1 {
         Ok(())
     } else {
         Err(Refusal::NoSuchCopy)
     }
 }
 
-#[tactic(auto, unfolding(crate::specs::Step::put_at))]
-fn put(alloc: Global, engine: &mut Engine, id: &str, source: &str) -> Result<Reply, Refusal>
-    ensures gives { Gives refusal_of (λ r. (engine.new, reply_view r)) result (spec.put_at engine.old id.now source.now) }
-    ensures err { OnErr result (engine.new ≡ engine.old) }
+/// Does a step of the copy.
+fn take(alloc: Global, copy: &mut OneCopy, input: Input) -> Result<Reply, Refusal>
+    requires { copy.old.closed ≡ false }
+    ensures gives { Gives refusal_of (λ r. (copy.new.copy, reply_view r)) result (spec.taken copy.old.copy input) }
+    ensures keeps { KeepsCopy result copy.old copy.new }
+{
+    let output = copy.step(alloc, input)?;
+    Ok(Reply::Stepped(output))
+}
+
+#[tactic(auto, unfolding(crate::specs::Step::write_at))]
+fn write(
+    alloc: Global,
+    copy: &mut OneCopy,
+    id: &str,
+    change: Change<'_>,
+) -> Result<Reply, Refusal>
+    requires { copy.old.closed ≡ false }
+    ensures gives { Gives refusal_of (λ r. (copy.new.copy, reply_view r)) result (spec.write_at copy.old.copy id.now (change_view change.entry)) }
+    ensures keeps { KeepsCopy result copy.old copy.new }
 {
     let id = DocId::new(alloc, id)?;
-    let doc = Doc::read(alloc, engine.mapping(), source.as_bytes())?;
-    write(alloc, engine, id, doc.into_source())
+    let kind = kind_of(alloc, copy.mapping(), change)?;
+    take(alloc, copy, Input::Write(Write { id, kind }))
 }
 
-#[tactic(auto, unfolding(crate::specs::Step::write))]
-fn write(alloc: Global, engine: &mut Engine, id: DocId, source: Source) -> Result<Reply, Refusal>
-    ensures gives { Gives refusal_of (λ r. (engine.new, reply_view r)) result (spec.write engine.old id source) }
-    ensures err { OnErr result (engine.new ≡ engine.old) }
+/// What a write does, its document read under the mapping.
+fn kind_of(alloc: Global, mapping: &Mapping, change: Change<'_>) -> Result<Kind, Refusal>
+    ensures { Gives refusal_of (λ k. k) result (spec.kind_of mapping.now (change_view change.entry)) }
 {
-    let last = engine.last(&id);
-    let seq = next_seq(engine)?;
-    let version = version_after(last)?;
-    let body = Body::Index(id, source);
-    let op = Op {
-        seq,
-        term: TERM,
-        version,
-        body,
-    };
-    keep(alloc, engine, op)?;
-    Ok(Reply::Wrote(seq, TERM, version, is_live(last)))
-}
-
-/// Keeps an operation whose number is free, beside the greatest number before it.
-fn keep(alloc: Global, engine: &mut Engine, op: Op) -> Result<(), AllocError>
-    requires numbers { IsOperation op }
-    requires write { IsWrite op.body }
-    requires free { op_at (operations engine.old.records) op.seq ≡ None }
-    ensures ok { OnOk result (engine.new ≡ spec.kept engine.old op) }
-    ensures err { OnErr result (engine.new ≡ engine.old) }
-{
-    let kept = Record::Op(engine.greatest(), op);
-    engine.apply(alloc, &kept)?;
-    Ok(())
-}
-
-/// The number after the greatest one.
-fn next_seq(engine: &Engine) -> Result<u64, Refusal>
-    ensures gives { Gives refusal_of (λ n. n) result (spec.limited (next_seq (operations engine.now.records))) }
-    ensures ascending { IsAscending (operations engine.now.records) }
-{
-    let greatest = engine.greatest();
-    if greatest < 0 {
-        Ok(0)
-    } else if greatest == i64::MAX {
-        Err(Refusal::Exhausted)
-    } else {
-        Ok(greatest as u64 + 1)
+    match change {
+        Change::Index(text, condition) => {
+            let source = source_of(alloc, mapping, text)?;
+            Ok(Kind::Index(source, condition))
+        }
+        Change::Create(text) => {
+            let source = source_of(alloc, mapping, text)?;
+            Ok(Kind::Create(source))
+        }
+        Change::Delete(condition) => Ok(Kind::Delete(condition)),
     }
 }
 
-/// The version after the last one.
-fn version_after(last: Option<Last>) -> Result<u64, Refusal>
-    ensures { Gives refusal_of (λ n. n) result (spec.limited (version_of last)) }
+/// The source of a document that fits the mapping.
+fn source_of(alloc: Global, mapping: &Mapping, text: &str) -> Result<Source, DocFault>
+    ensures { Gives fault_of (λ s. s) result (spec.source_in mapping.now text.now) }
 {
-    match last {
-        None => Ok(1),
-        Some(last) => if last.version < GREATEST {
-            Ok(last.version + 1)
-        } else {
-            Err(Refusal::Exhausted)
-        },
-    }
-}
-
-/// Whether the last operation left a document.
-fn is_live(last: Option<Last>) -> bool
-    ensures { result ≡ is_live_last last }
-{
-    match last {
-        Some(last) => last.live,
-        None => false,
-    }
+    let doc = Doc::read(alloc, mapping, text.as_bytes())?;
+    Ok(doc.into_source())
 }
 
 #[tactic(auto, unfolding(crate::specs::Step::get_at))]
-fn get(alloc: Global, engine: &Engine, id: &str) -> Result<Reply, Refusal>
-    ensures { Gives refusal_of (λ r. (engine.now, reply_view r)) result (spec.get_at engine.now id.now) }
+fn get(alloc: Global, copy: &mut OneCopy, id: &str) -> Result<Reply, Refusal>
+    requires { copy.old.closed ≡ false }
+    ensures gives { Gives refusal_of (λ r. (copy.new.copy, reply_view r)) result (spec.get_at copy.old.copy id.now) }
+    ensures keeps { KeepsCopy result copy.old copy.new }
 {
     let id = DocId::new(alloc, id)?;
-    match engine.get(&id) {
-        Some(found) => {
-            let source = found.source.copy(alloc)?;
-            Ok(Reply::Found(found.seq, found.term, found.version, source))
-        }
-        None => Ok(Reply::Missing),
-    }
-}
-
-fn refresh(alloc: Global, engine: &mut Engine) -> Result<Reply, Refusal>
-    ensures gives { Gives refusal_of (λ r. (engine.new, reply_view r)) result (spec.refreshed engine.old) }
-    ensures err { OnErr result (engine.new ≡ engine.old) }
-{
-    let count = engine.refresh(alloc)?;
-    Ok(Reply::Point(count))
+    take(alloc, copy, Input::Get(id))
 }
 
 #[tactic(auto, unfolding(crate::specs::Step::search_at))]
-fn search(alloc: Global, engine: &Engine, body: &str) -> Result<Reply, Refusal>
-    ensures { Gives refusal_of (λ r. (engine.now, reply_view r)) result (spec.search_at engine.now body.now) }
+fn search(alloc: Global, copy: &OneCopy, body: &str) -> Result<Reply, Refusal>
+    requires { copy.now.closed ≡ false }
+    ensures { Gives refusal_of (λ r. (copy.now.copy, reply_view r)) result (spec.search_at copy.now.copy body.now) }
 {
     let value = body_value(alloc, body)?;
-    let body = SearchBody::read(alloc, engine.mapping(), &value)?;
-    let hits = engine.snapshot().search(alloc, &body.query, body.page)?;
+    let body = SearchBody::read(alloc, copy.mapping(), &value)?;
+    let Some(snapshot) = copy.snapshot() else {
+        return Err(Refusal::Copy(CopyFault::Closed));
+    };
+    let hits = snapshot.search(alloc, &body.query, body.page)?;
     Ok(Reply::Hits(hits))
 }
 

@@ -1,6 +1,11 @@
 use Rattle.std.proofs.Common.{IfSome}
 use Rattle.indexd.specs.Going.{Going}
+use Rattle.indexd.specs.Held.{copy_in, IsOpen}
 use Rattle.indexd.proofs.playing.replay.Given as goal
 
+-- what is written and what is left make up the output, and the copy's log hasn't failed
 abbrev pub invariant-loop : goal.invariant-loop
-invariant-loop g l = IfSome (g.R.Read.remaining l.fn.reader) (Going (g.W.Write.contents l.fn.writer) (g.W.Write.contents l.writer) (g.R.Read.remaining l.reader) l.index)
+invariant-loop g l = record {
+  going : IfSome (g.R.Read.remaining l.fn.reader) (Going (g.W.Write.contents l.fn.writer) (g.W.Write.contents l.writer) (g.R.Read.remaining l.reader) (copy_in l.index));
+  open : IsOpen l.index;
+}
