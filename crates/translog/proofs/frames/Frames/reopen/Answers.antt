@@ -1,0 +1,4 @@
+use Rattle.translog.proofs.frames.Frames.reopen.Goals as goal
+
+pub unreachable-requires : goal.unreachable-requires
+unreachable-requires g c = ?

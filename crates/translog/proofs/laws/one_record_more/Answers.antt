@@ -1,0 +1,4 @@
+use Rattle.translog.proofs.laws.one_record_more.Goals as goal
+
+pub returns : goal.returns
+returns c = ?

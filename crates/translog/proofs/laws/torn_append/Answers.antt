@@ -1,0 +1,4 @@
+use Rattle.translog.proofs.laws.torn_append.Goals as goal
+
+pub returns : goal.returns
+returns c = ?

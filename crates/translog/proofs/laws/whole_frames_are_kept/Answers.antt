@@ -1,0 +1,4 @@
+use Rattle.translog.proofs.laws.whole_frames_are_kept.Goals as goal
+
+pub returns : goal.returns
+returns c = ?

@@ -1,0 +1,4 @@
+use Rattle.translog.proofs.log.Translog.prepare.Goals as goal
+
+pub unreachable-requires : goal.unreachable-requires
+unreachable-requires g c = ?
