@@ -16,7 +16,11 @@ use Rattle.op.specs.Format.{AreBytes, number, signed, id_bytes, source_bytes, bo
 use Rattle.op.specs.Reading.{number_at, signed_at, id_at, source_at, body_at, operation_at, so_many_at, operations_at, kept_at, resync_at, recover_at, record_at, record_of}
 use Rattle.op.specs.Records.{IsOperation, IsUpTo, IsRecord}
 use Rattle.op.proofs.Lengths.{operations_count}
-use Rattle.op.proofs.RulesLaws.{record_test}
+use Rattle.op.proofs.RulesLaws.{record_is, record_test}
+use Rattle.op.specs.declared.fault.OpFault.{OpFault}
+use Rattle.op.specs.FormatFault.{fault_of}
+use Rattle.std.specs.Prelude.{IfOk, Result}
+use Rattle.doc.specs.Outcome.{Gives}
 use Rattle.op.proofs.Fields.{AreBytes-rest, bind_ok, ok_is, Takes, Takes-then, wide32, wide64, number_takes, number_again, signed_takes, signed_again, id_takes, id_again, source_takes, source_again}
 
 -- ---- bodies
@@ -200,3 +204,7 @@ unfolding record_of
 spelling_read r h typed few =
     let again : record_at (spelling r) ≡ Ok (r, []) = ap record_at (sym (append-nil (spelling r))) ∙ record_again r [] h typed few in
     rw (again, record_test r h) refl
+
+pub decoded : (bytes : List ℕ) (r : Result Record OpFault) → AreBytes bytes → Gives fault_of (λ x. x) r (record_of bytes) → IfOk r (λ x. (spelling x ≡ bytes) × IsRecord x)
+decoded bytes (Ok x) fits given = let s = record_spelt bytes x fits given in (s.0, record_is x s.1)
+decoded bytes (Err e) fits given = tt

@@ -1,5 +1,5 @@
 //! Records from their bytes.
-ghost use Rattle.std.specs.Prelude.{◌≡◌, option_map};
+ghost use Rattle.std.specs.Prelude.{◌≡◌, option_map, IfOk};
 ghost use Rattle.std.specs.Str.{is_utf8};
 ghost use Rattle.doc.specs.Fault as doc;
 ghost use Rattle.std.specs.Int.{w16, w32, w64};
@@ -7,7 +7,9 @@ ghost use Rattle.doc.specs.Outcome.{Gives};
 ghost use Rattle.doc.specs.Id.{id_of};
 ghost use Rattle.doc.specs.Source.{source_of};
 ghost use Rattle.op.specs.FormatFault.{fault_of, malformed};
+ghost use Rattle.op.specs.Format.{spelling};
 ghost use Rattle.op.specs.Reading as spec;
+ghost use Rattle.op.specs.Records.{IsRecord};
 
 use crate::fault::OpFault;
 use crate::operation::{Body, Op};
@@ -19,9 +21,16 @@ use std::alloc::Global;
 use std::str;
 
 /// The record that the bytes spell, all of them. `Malformed` where they spell none that keeps the rules of the format.
-#[tactic(auto, unfolding(crate::specs::Reading::record_of))]
 pub fn decode(alloc: Global, bytes: &[u8]) -> Result<Record, OpFault>
     ensures exact { Gives fault_of (λ r. r) result (spec.record_of bytes.now) }
+    ensures spelt { IfOk result (λ r. (spelling r ≡ bytes.now) × IsRecord r) }
+{
+    whole_record(alloc, bytes)
+}
+
+#[tactic(auto, unfolding(crate::specs::Reading::record_of))]
+fn whole_record(alloc: Global, bytes: &[u8]) -> Result<Record, OpFault>
+    ensures { Gives fault_of (λ r. r) result (spec.record_of bytes.now) }
 {
     let (found, rest) = record_at(alloc, bytes)?;
     if !rest.is_empty() {

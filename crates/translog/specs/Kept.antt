@@ -3,6 +3,7 @@ use Rattle.std.specs.Prelude.{◌≡◌, ℕ, ◌+◌, ◌<◌, ◌^◌, List, [
 use Rattle.std.specs.List.{AllByRecursion}
 use Rattle.doc.specs.Outcome.{◌>>=◌}
 use Rattle.op.specs.declared.record.Record.{Record}
+use Rattle.op.specs.Records.{IsRecord}
 use Rattle.op.specs.FormatFault as op
 use Rattle.op.specs.Format.{spelling, is_too_large}
 use Rattle.op.specs.Reading.{record_of}
@@ -35,8 +36,9 @@ kept bytes = do
 abbrev pub record_frame : Record → Result (List ℕ) Fault
 record_frame r = if is_too_large r then Err too_large else Ok (framed (spelling r))
 
--- a record that its spelling reads as
+-- a record that keeps the rules, and that its spelling reads as
 pub record IsSpelt (r : Record) : Type 0 where
+  pub rules : IsRecord r
   pub small : length (spelling r) < 2 ^ 32
   pub reads : record_of (spelling r) ≡ Ok r
 

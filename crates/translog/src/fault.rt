@@ -51,3 +51,17 @@ impl From<Failed> for LogFault {
         LogFault::Device
     }
 }
+
+impl From<DeviceFault> for LogFault {
+    ghost use Rattle.std.specs.Prelude.{◌≡◌};
+    ghost use Rattle.translog.specs.Fault.{of_device};
+
+    ghost from_gives = { λ d e. e ≡ of_device d };
+
+    fn from(fault: DeviceFault) -> LogFault {
+        match fault {
+            DeviceFault::NoMemory => LogFault::NoMemory,
+            DeviceFault::Failed => LogFault::Device,
+        }
+    }
+}
