@@ -1,16 +1,16 @@
 -- What a log of whole frames holds, and one whose last frame is torn.
-use Rattle.std.proofs.Common.{◌≡◌, ℕ, zero, suc, ◌+◌, ◌-◌, ◌^◌, ◌<◌, ◌≤◌, Bool, true, false, ltb, List, [], ◌∷◌, ◌++◌, length, take, drop, Option, Some, None, Result, Ok, Err, refl, sym, ap, subst, ◌∙◌, append_assoc, arith, inl, inr}
+use Rattle.std.proofs.Common.{◌≡◌, ℕ, zero, suc, ◌+◌, ◌-◌, ◌^◌, ◌<◌, ◌≤◌, Bool, true, false, ltb, List, [], ◌∷◌, ◌++◌, length, take, drop, Some, None, Ok, Err, refl, sym, ap, ◌∙◌, append_assoc, arith, inl, inr}
 use Rattle.std.specs.Int.{w32, to_le_bytes, from_le_bytes}
 use Rattle.std.specs.List.{flat_map}
 use Rattle.std.specs.Str.{bytes_eq}
-use Rattle.std.proofs.lemmas.Bool.{cases_lt, ltb-false, le-ltb, lt-ltb}
-use Rattle.std.proofs.lemmas.Bool.Decides.{nat_tests}
-use Rattle.std.proofs.lemmas.List.{append-nil, take_at, drop_at, take-append-drop, take_all, drop_all, length-append, length-take, length-drop}
+use Rattle.std.proofs.lemmas.Bool.{cases_lt, le-ltb, lt-ltb}
+use Rattle.std.proofs.lemmas.List.{append-nil, take_at, drop_at, take-append-drop, take_all, drop_all, length-append, length-take}
+use Rattle.std.proofs.Math.Seq.{take-append-add}
 use Rattle.std.proofs.lemmas.Nat.{from_le_bytes-to_le_bytes_4}
 use Rattle.std.proofs.lemmas.Slice.Eq.{bytes_eq-Decides}
 use Rattle.std.specs.Prelude.{◌⊎◌}
 use Rattle.translog.specs.Device.{AddsFront}
-use Rattle.translog.specs.Fault.{Fault, bad_magic}
+use Rattle.translog.specs.Fault.{bad_magic}
 use Rattle.translog.specs.Frames.{framed, log_of, first_frame, and_then, contents_within, contents_of, contents_in, AreContents, IsLog}
 
 -- a whole frame in front is read again
@@ -124,3 +124,21 @@ after_cut header held read new cs rest four is small found (inr e) = ap (content
 
 pub cut_log : (header held read new : List ℕ) (cs : List (List ℕ)) (rest : List ℕ) → read ≡ held → AreContents cs → held ≡ log_of header cs ++ rest → new ≡ take (length read - length rest) held → IsLog header new cs
 cut_log header held read new cs rest is small whole e = record { whole = e ∙ log_front header cs rest held (length read - length rest) whole (front_length header held read cs rest is whole); small = small }
+
+-- ---- a front of a frame that isn't the whole of it
+
+cut_frame : (c : List ℕ) (j : ℕ) → length c < 2 ^ 32 → j < length c → first_frame (to_le_bytes w32 (length c) ++ take j c) ≡ None
+cut_frame c j small lt =
+    let number : from_le_bytes w32 (to_le_bytes w32 (length c)) ≡ length c = from_le_bytes-to_le_bytes_4 (length c) small in
+    let whole : ltb (length (to_le_bytes w32 (length c) ++ take j c)) 4 ≡ false = le-ltb _ _ (omega arith) in
+    let short : ltb (length (take j c)) (length c) ≡ true = lt-ltb (length (take j c)) (length c) (omega (arith, length-take j c)) in
+    rw (whole, number, short) refl
+
+pub torn_frame : (c : List ℕ) (k : ℕ) → length c < 2 ^ 32 → k < 4 + length c → first_frame (take k (framed c)) ≡ None
+torn_frame c k small lt =
+    elim (cases_lt k 4) [
+      | inl few ↦ no_frame (take k (framed c)) (omega (arith, length-take k (framed c)))
+      | inr le ↦ let front : take (4 + (k - 4)) (framed c) ≡ to_le_bytes w32 (length c) ++ take (k - 4) c = take-append-add (to_le_bytes w32 (length c)) c (k - 4) in
+          let same : k ≡ 4 + (k - 4) = omega arith in
+          ap first_frame (ap (λ n. take n (framed c)) same ∙ front) ∙ cut_frame c (k - 4) small (omega arith)
+    ]

@@ -2,7 +2,6 @@
 use Rattle.std.specs.Prelude.{ℕ, Option, Some, None}
 use Rattle.translog.specs.declared.fault.LogFault.{LogFault}
 use Rattle.translog.specs.declared.fault.LogFault.TheVariants.{BadMagic, Damaged, Device, NoMemory, TooLarge}
-
 use Rattle.translog.specs.declared.device.DeviceFault.{DeviceFault}
 use Rattle.translog.specs.declared.device.DeviceFault.TheVariants as devices
 

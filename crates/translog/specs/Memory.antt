@@ -1,5 +1,5 @@
 -- A device in memory.
-use Rattle.std.specs.Prelude.{ℕ, ◌-◌, List, vec_len, vec_capacity}
+use Rattle.std.specs.Prelude.{ℕ, ◌-◌, vec_len, vec_capacity}
 use Rattle.translog.specs.declared.memory.MemDevice.{MemDevice}
 
 -- how many bytes can be appended without growth

@@ -68,6 +68,14 @@ impl<D: LogDevice> Model for Frames<D> {
 }
 
 impl<D: LogDevice> Frames<D> {
+    /// A log that isn't open yet.
+    pub(crate) fn over(header: [u8; 4], device: D) -> Frames<D>
+        ensures header { result.header ≡ header }
+        ensures device { result.device ≡ device }
+    {
+        Frames { header, device }
+    }
+
     /// Opens the log that a device holds, and gives its contents. A last frame that isn't whole is cut off; a header that isn't whole, or none, is
     /// written anew. A length that is damaged so that it passes the end can't be told from such a frame.
     pub fn open(
@@ -80,7 +88,7 @@ impl<D: LogDevice> Frames<D> {
         ensures header { IfOk result (λ x. x.0.header ≡ header) }
         ensures failed { IsErrOf result Device → (left : D) × Rises (D.failures device) (D.failures left) }
     {
-        let mut frames = Frames { header, device };
+        let mut frames = Frames::over(header, device);
         let contents = frames.reopen(alloc)?;
         Ok((frames, contents))
     }

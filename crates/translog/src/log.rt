@@ -1,18 +1,26 @@
 //! The translog: a log of records.
-ghost use Rattle.std.specs.Prelude.{◌≡◌, ◌≤◌, ◌++◌, true, length, IfOk, IsOk, IfErr, OnOk, OnErr, IsErrOf};
+ghost use Rattle.std.specs.Prelude.{◌≡◌, ◌≤◌, ◌<◌, ◌+◌, ◌^◌, ◌++◌, true, length, map, All, Ok, Err, if◌then◌else◌, IfOk, IsOk, IfErr, OnOk, OnErr, IsErrOf};
+ghost use Rattle.std.specs.List.{flat_map, AllByRecursion};
 ghost use Rattle.doc.specs.Outcome.{Gives};
+ghost use Rattle.op.specs.Format.{spelling, is_too_large};
+ghost use Rattle.op.specs.Reading.{record_of};
 ghost use Rattle.op.specs.Records.{IsRecord};
 ghost use Rattle.translog.specs.declared.fault.LogFault.TheVariants.{Device};
 ghost use Rattle.translog.specs.Device.{AddsFront, Rises};
-ghost use Rattle.translog.specs.Fault.{fault_of};
-ghost use Rattle.translog.specs.Kept.{kept, record_frame, IsSpelt, IsTranslog};
+ghost use Rattle.translog.specs.Fault.{fault_of, too_large};
+ghost use Rattle.translog.specs.Frames.{framed, AreContents};
+ghost use Rattle.translog.specs.Kept.{kept, or_damaged, records_from, record_frame, IsSpelt, IsTranslog};
 
 use crate::device::LogDevice;
 use crate::fault::LogFault;
 use crate::frames::{Frame, Frames};
-use op::Record;
+use op::laws::rules_are_tested;
+use op::{OpFault, Record, decode, encode};
 use std::alloc::Global;
 use std::marker::Model;
+
+/// The header of a translog.
+const RSX1: [u8; 4] = [b'R', b'S', b'X', b'1'];
 
 /// The log of a copy's records. It is seen as the device that holds it.
 #[derive(Drop)]
@@ -37,20 +45,27 @@ impl<D: LogDevice> Translog<D> {
     pub fn open(alloc: Global, device: D) -> Result<(Translog<D>, Vec<Record>), LogFault>
         ensures found { Gives fault_of (λ x. x.1.items) result (kept (D.held device)) }
         ensures whole { IfOk result (λ x. IsTranslog (D.held x.0) x.1.items) }
+        ensures rules { IfOk result (λ x. All IsRecord x.1.items) }
         ensures failed { IsErrOf result Device → (left : D) × Rises (D.failures device) (D.failures left) }
     {
-        unreachable!()
+        let mut log = Translog {
+            frames: Frames::over(RSX1, device),
+        };
+        let records = log.reopen(alloc)?;
+        Ok((log, records))
     }
 
     /// Opens it again, as after a failed `append`. Where it is refused, the device's bytes stand for the same records or fault as before.
     pub fn reopen(&mut self, alloc: Global) -> Result<Vec<Record>, LogFault>
         ensures found { Gives fault_of (λ rs. rs.items) result (kept (D.held self.old)) }
         ensures whole { IfOk result (λ rs. IsTranslog (D.held self.new) rs.items) }
+        ensures rules { IfOk result (λ rs. All IsRecord rs.items) }
         ensures err { OnErr result (kept (D.held self.new) ≡ kept (D.held self.old)) }
         ensures failed { IsErrOf result Device → Rises (D.failures self.old) (D.failures self.new) }
         ensures counts { D.failures self.old ≤ D.failures self.new }
     {
-        unreachable!()
+        let contents = self.frames.reopen(alloc)?;
+        records_of(alloc, contents.as_slice())
     }
 
     /// Spells the frame of a record that keeps the rules, and makes room for it. No byte changes.
@@ -63,7 +78,8 @@ impl<D: LogDevice> Translog<D> {
         ensures failures { D.failures self.new ≡ D.failures self.old }
         ensures no_failure { IsErrOf result Device → ⊥ }
     {
-        unreachable!()
+        let content = spelt(alloc, entry)?;
+        self.frames.prepare(alloc, content.as_slice())
     }
 
     /// Adds the frame that was prepared last. It takes no memory. At `Err` the translog is to be opened again, and gives its records with the
@@ -92,5 +108,53 @@ impl<D: LogDevice> Translog<D> {
     {
         let Translog { frames } = self;
         frames.into_device()
+    }
+}
+
+/// The records that some contents are, the first frame being at offset 4.
+fn records_of(alloc: Global, contents: &[Vec<u8>]) -> Result<Vec<Record>, LogFault>
+    requires small { AreContents (map (λ c. c.items) contents.now) }
+    requires offsets { 4 + length (flat_map framed (map (λ c. c.items) contents.now)) < 2 ^ 64 }
+    ensures found { Gives fault_of (λ rs. rs.items) result (records_from 4 (map (λ c. c.items) contents.now)) }
+    ensures spelt { IfOk result (λ rs. map spelling rs.items ≡ map (λ c. c.items) contents.now) }
+    ensures each { IfOk result (λ rs. AllByRecursion IsSpelt rs.items) }
+    ensures no_failure { IsErrOf result Device → ⊥ }
+{
+    let mut records = Vec::new(alloc);
+    let mut offset = 4;
+    for content in contents {
+        let found = record_of(alloc, offset, content.as_slice())?;
+        records.push(found)?;
+        offset += 4 + content.len() as u64;
+    }
+    Ok(records)
+}
+
+/// The record that a content is; what isn't one is damaged.
+fn record_of(alloc: Global, offset: u64, content: &[u8]) -> Result<Record, LogFault>
+    ensures found { Gives fault_of (λ r. r) result (or_damaged offset (record_of content.now)) }
+    ensures spelt { IfOk result (λ r. spelling r ≡ content.now) }
+    ensures is { length content.now < 2 ^ 32 → IfOk result IsSpelt }
+    ensures no_failure { IsErrOf result Device → ⊥ }
+{
+    match decode(alloc, content) {
+        Ok(found) => Ok(found),
+        Err(OpFault::NoMemory) => Err(LogFault::NoMemory),
+        Err(_) => Err(LogFault::Damaged(offset)),
+    }
+}
+
+/// The spelling of a record that keeps the rules.
+fn spelt(alloc: Global, entry: &Record) -> Result<Vec<u8>, LogFault>
+    requires { IsRecord entry.now }
+    ensures spelling { Gives fault_of (λ v. v.items) result (if is_too_large entry.now then Err too_large else Ok (spelling entry.now)) }
+    ensures is { OnOk result (IsSpelt entry.now) }
+    ensures no_failure { IsErrOf result Device → ⊥ }
+{
+    rules_are_tested();
+    match encode(alloc, entry) {
+        Ok(content) => Ok(content),
+        Err(OpFault::NoMemory) => Err(LogFault::NoMemory),
+        Err(_) => Err(LogFault::TooLarge),
     }
 }

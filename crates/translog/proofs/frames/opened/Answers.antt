@@ -1,6 +1,5 @@
-use Rattle.std.proofs.Common.{◌≡◌, ◌≤◌, ◌+◌, ◌-◌, ap, ◌∙◌, sym, refl, length, map, arith}
+use Rattle.std.proofs.Common.{◌≤◌, ◌∙◌, sym, length, map, arith}
 use Rattle.std.proofs.lemmas.Result.{err_from_is_err_and}
-use Rattle.translog.specs.Frames.{contents_in}
 use Rattle.translog.proofs.FramesLaws.{found_other, found_short, found_long, after_cut, cut_log}
 use Rattle.translog.proofs.frames.opened.Goals as goal
 

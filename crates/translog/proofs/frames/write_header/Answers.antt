@@ -1,4 +1,4 @@
-use Rattle.std.proofs.Common.{◌≡◌, ap, ◌∙◌, arith}
+use Rattle.std.proofs.Common.{ap, ◌∙◌, arith}
 use Rattle.std.proofs.lemmas.Result.{err_from_is_err_and}
 use Rattle.translog.specs.Frames.{contents_in}
 use Rattle.translog.proofs.FramesLaws.{contents_in_short, header_cut, header_added}

@@ -1,4 +1,0 @@
-use Rattle.translog.proofs.log.Translog.prepare.Goals as goal
-
-pub unreachable-requires : goal.unreachable-requires
-unreachable-requires g c = ?
