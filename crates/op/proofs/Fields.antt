@@ -157,17 +157,21 @@ two_tests : (a b : Bool) (d f : doc.Fault) (x y : List ℕ) → cond a (Err d) (
 two_tests true b d f x y e = absurd cc
 two_tests false b d f x y e = one_test b f x y e
 
+first_test : (a b : Bool) (d f : doc.Fault) (x y : List ℕ) → cond a (Err d) (cond b (Err f) (Ok x)) ≡ Ok y → a ≡ false
+first_test true b d f x y e = absurd cc
+first_test false b d f x y e = refl
+
 id_is : (text id : List ℕ) → id_of text ≡ Ok id → text ≡ id
 id_is text id e = (two_tests (length text == 0) (ltb 512 (length text)) doc.id_empty doc.id_too_long text id e).1
 
 source_is : (text source : List ℕ) → source_of text ≡ Ok source → text ≡ source
-source_is text source e = (one_test (ltb 65536 (length text)) doc.too_large text source e).1
+source_is text source e = (two_tests (ltb 65536 (length text)) (ltb (length text) 2) doc.too_large doc.not_object text source e).1
 
 id_short : (id : List ℕ) → id_of id ≡ Ok id → length id < 2 ^ 16
 id_short id e = let le : length id ≤ 512 = ltb-false _ _ (two_tests (length id == 0) (ltb 512 (length id)) doc.id_empty doc.id_too_long id id e).0 in omega arith
 
 source_short : (source : List ℕ) → source_of source ≡ Ok source → length source < 2 ^ 32
-source_short source e = let le : length source ≤ 65536 = ltb-false _ _ (one_test (ltb 65536 (length source)) doc.too_large source source e).0 in omega arith
+source_short source e = let le : length source ≤ 65536 = ltb-false _ _ (first_test (ltb 65536 (length source)) (ltb (length source) 2) doc.too_large doc.not_object source source e) in omega arith
 
 pub id_takes : (bytes id rest : List ℕ) → AreBytes bytes → id_at bytes ≡ Ok (id, rest) → Takes bytes (id_bytes id) rest × IsIdText id
 unfolding id_at
