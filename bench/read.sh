@@ -1,8 +1,10 @@
 #!/bin/bash
-# bench/read.sh [N]: how fast documents are read and words are cut, over N product documents (10000 by default) of some 300 bytes.
+# bench/read.sh [N]: how fast documents and queries are read, words are cut, and documents are matched, over N product documents
+# (10000 by default) of some 300 bytes and N queries, each a `bool` of 20 clauses.
 #
-# Prints a line for each of `Doc::read`, `tokens` over the same lines, and Python's json.loads over them as a common yardstick: the
-# best of three runs, in MB (a million bytes) a second, by the clock inside the process, which has all the lines in memory by then.
+# Prints a line for each of `Doc::read`, `tokens` over the same lines, Python's json.loads over them as a common yardstick, `Query::read`,
+# and `Query::matches` with one such query over all documents: the best of three runs, in MB (a million bytes) a second or in
+# queries or documents a second, by the clock inside the process, which has all that it needs in memory by then.
 # READING_PROGRAM=FILE measures the executable FILE in place of crates/reading/out/reading, which rt builds first where it is absent.
 set -euo pipefail
 
@@ -38,6 +40,24 @@ lines_of() {
         }'
 }
 
+# Prints so many queries after a mapping's line, each a `bool` whose 20 clauses stand in all its parts.
+queries_of() {
+    awk -v queries="$1" '
+        function clause(i) {
+            if (i % 4 == 0) return "{\"term\":{\"brand\":\"brand-" (i * 7 + q) % 200 "\"}}"
+            if (i % 4 == 1) return "{\"match\":{\"about\":\"garden chair " q "\"}}"
+            if (i % 4 == 2) return "{\"range\":{\"price\":{\"gte\":" (q * 13 + i) % 50000 ",\"lt\":90000}}}"
+            return "{\"prefix\":{\"name\":\"" substr("streasete", i % 5 + 1, 2) "\"}}"
+        }
+        function clauses(from, to,   text, i) { for (i = from; i <= to; i++) text = text (i > from ? "," : "") clause(i); return text }
+        BEGIN {
+            for (q = 1; q <= queries; q++) {
+                printf "{\"bool\":{\"filter\":{\"exists\":{\"field\":\"price\"}},\"must\":{\"range\":{\"price\":{\"gt\":10}}},"
+                printf "\"must_not\":[%s],\"should\":[%s],\"minimum_should_match\":2}}\n", clauses(4, 6), clauses(7, 20)
+            }
+        }'
+}
+
 # Runs what stands behind it, which ends with a line `N microseconds`, three times, and prints the best speed.
 measure() {
     local name=$1 best="" run micros
@@ -64,3 +84,23 @@ start = time.perf_counter_ns()
 for line in lines:
     json.loads(line)
 print((time.perf_counter_ns() - start) // 1000, "microseconds")'
+
+# The same, counted a second.
+measure_each() {
+    local name=$1 file=$2 best="" run micros
+    shift 2
+    for run in 1 2 3; do
+        micros=$("$@" <"$file" | awk 'END { print $1 }')
+        if [ -z "$best" ] || [ "$micros" -lt "$best" ]; then best=$micros; fi
+    done
+    awk -v name="$name" -v micros="$best" -v documents="$documents" 'BEGIN {
+        printf "%-14s %9d a second (%.3f s)\n", name, documents / micros * 1e6, micros / 1e6
+    }'
+}
+
+# Each line is a query, and then one of them is asked of each document.
+{ head -n 1 -- "$folder/lines"; queries_of "$documents"; } >"$folder/queries"
+{ head -n 1 -- "$folder/lines"; queries_of 1; tail -n +2 -- "$folder/lines"; } >"$folder/asked"
+echo "$documents queries of 20 clauses; one of them finds $("$program" found count <"$folder/asked") of the documents"
+measure_each "Query::read" "$folder/queries" "$program" queries time
+measure_each "Query::matches" "$folder/asked" "$program" found time

@@ -5,7 +5,7 @@ use Rattle.doc.specs.Mapping.{MappingData}
 use Rattle.doc.specs.Document.{DocData, doc_of, all_values}
 use Rattle.doc.specs.Id.{Id}
 use Rattle.op.specs.Documents.{Document, Documents}
-use Rattle.query.specs.declared.page.Page.{Page}
+use Rattle.query.specs.Page.{PageData}
 use Rattle.engine.specs.Answer.{hit, cut}
 
 -- a document that was read has the values of its text
@@ -17,11 +17,11 @@ each-hit view [] = refl
 each-hit view (x ∷ xs) = ap (λ hs. hit (view x) ∷ hs) (each-hit view xs)
 
 -- the hits of a page of what was found
-hits-cut : {A : Type 0} (view : A → Id × Document) (xs : List A) (page : Page) → map (λ x. hit (view x)) (take page.size (drop page.from xs)) ≡ map hit (cut page (map view xs))
+hits-cut : {A : Type 0} (view : A → Id × Document) (xs : List A) (page : PageData) → map (λ x. hit (view x)) (take page.size (drop page.from xs)) ≡ map hit (cut page (map view xs))
 hits-cut view xs page = each-hit view (take page.size (drop page.from xs)) ∙ simp (take-map, drop-map)
 
 -- what was found, counted and cut, is the answer
-pub answered : {A : Type 0} (view : A → Id × Document) (xs : List A) (page : Page) (ds : Documents) (total : ℕ) (hs : List (Id × List ℕ)) → map view xs ≡ ds → total ≡ length xs
+pub answered : {A : Type 0} (view : A → Id × Document) (xs : List A) (page : PageData) (ds : Documents) (total : ℕ) (hs : List (Id × List ℕ)) → map view xs ≡ ds → total ≡ length xs
     → hs ≡ map (λ x. hit (view x)) (take page.size (drop page.from xs)) → (total ≡ length ds) × (hs ≡ map hit (cut page ds))
 answered view xs page ds total hs found counted cut_out =
     let same : length xs ≡ length (map view xs) = simp length-map in

@@ -4,7 +4,7 @@ use Rattle.doc.specs.Id.{Id}
 use Rattle.doc.specs.Mapping.{MappingData}
 use Rattle.op.specs.declared.operation.Op.{Op}
 use Rattle.op.specs.Documents.{Document, Documents, documents}
-use Rattle.query.specs.declared.page.Page.{Page}
+use Rattle.query.specs.Page.{PageData}
 use Rattle.query.specs.Query.{Query}
 use Rattle.query.specs.Meaning.{means}
 
@@ -31,13 +31,13 @@ abbrev pub hit : Id × Document → Id × List ℕ
 hit d = (d.0, d.1.source)
 
 -- the part of the hits that the page asks for
-abbrev pub cut : Page → Documents → Documents
+abbrev pub cut : PageData → Documents → Documents
 cut page ds = take page.size (drop page.from ds)
 
 -- what a search among these documents answers
-abbrev pub answer_of : SnapshotData → Query → Page → Answer
+abbrev pub answer_of : SnapshotData → Query → PageData → Answer
 answer_of s q page = record { total = length (found s q); hits = map hit (cut page (found s q)) }
 
 -- what a search of operations answers
-abbrev pub answer : MappingData → List Op → Query → Page → Answer
+abbrev pub answer : MappingData → List Op → Query → PageData → Answer
 answer m os q page = answer_of (record { mapping = m; documents = documents os }) q page

@@ -107,9 +107,9 @@ impl Snapshot {
 fn cut<'a>(found: &'a [&'a Shown], page: Page) -> &'a [&'a Shown]
     ensures { result.now ≡ take page.size (drop page.from found.entry.now) }
 {
-    let from = found.len().min(page.from as usize);
+    let from = found.len().min(page.from() as usize);
     let rest = &found[from..];
-    let size = rest.len().min(page.size as usize);
+    let size = rest.len().min(page.size() as usize);
     &rest[..size]
 }
 

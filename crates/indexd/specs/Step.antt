@@ -15,7 +15,7 @@ use Rattle.op.specs.Operations.{next_seq, last_on, next_version}
 use Rattle.op.specs.Documents.{Document, document_at, documents}
 use Rattle.op.specs.Records.{operations, shown}
 use Rattle.query.specs.Fault.{parsing}
-use Rattle.query.specs.Reading.{body_of}
+use Rattle.query.specs.Body.{body_of}
 use Rattle.engine.specs.Contents.{Contents}
 use Rattle.engine.specs.Answer.{answer}
 use Rattle.indexd.specs.Command.{Command, opening, put, get, refresh, search}

@@ -1,5 +1,14 @@
 pub mod Fault
+pub mod Page
 pub mod Query
 pub mod View
-pub mod Reading
 pub mod Meaning
+pub mod Shape
+pub mod Keys
+pub mod Leaves
+pub mod LeavesView
+pub mod Reading
+pub mod PartsView
+pub mod Body
+pub mod Laws
+pub mod Asked

@@ -1,6 +1,8 @@
 -- What a query means of a document.
-use Rattle.std.specs.Prelude.{ℕ, Bool, true, false, List, [], ◌∷◌, map, flat_map, Option, Some, None}
-use Rattle.std.specs.List.{list_any}
+use Rattle.std.specs.Prelude.{ℕ, ◌+◌, Bool, true, false, not, ◌&&◌, ◌==◌, nat_lt, nat_le, nat_eq, List, [], ◌∷◌, length, map, flat_map, Option, Some, None, if◌then◌else◌, int_lt}
+use Rattle.std.specs.Ordering.{is_lt, nat_cmp}
+use Rattle.std.specs.Cmp.Lexicographic.{slice_cmp}
+use Rattle.std.specs.List.{list_any, list_all, starts_with}
 use Rattle.analysis.specs.Tokens.{tokens_of}
 use Rattle.doc.specs.declared.mapping.Kind.{Kind}
 use Rattle.doc.specs.declared.mapping.Kind.TheVariants.{Keyword, Text, Long, Boolean}
@@ -8,7 +10,11 @@ use Rattle.doc.specs.Fields.{Fields, kind_at}
 use Rattle.doc.specs.Mapping.{MappingData}
 use Rattle.doc.specs.Scalar.{Scalar, text, long, flag, is_scalar}
 use Rattle.doc.specs.Document.{Values, values_at, all_values}
-use Rattle.query.specs.Query.{Query, match_all, nothing, term}
+use Rattle.query.specs.declared.query.Operator.{Operator}
+use Rattle.query.specs.declared.query.Operator.TheVariants.{Or, And}
+use Rattle.query.specs.Query.{Query, Queries, Bounds, match_all, nothing, term, terms as any_of, match_tokens, prefix, range, exists, bool, none, more, count_of}
+
+-- ---- terms
 
 -- the tokens of a text
 abbrev pub cut : Scalar → List Scalar
@@ -32,15 +38,78 @@ terms_at fields vs name = terms_by (kind_at name fields) (values_at name vs)
 abbrev pub terms : MappingData → List ℕ → List ℕ → List Scalar
 terms m source name = terms_at m.fields (all_values m source) name
 
+-- ---- what is asked of a term
+
 -- whether one of the terms is this value
 abbrev pub has : List Scalar → Scalar → Bool
 has ts v = list_any (is_scalar v) ts
 
--- what a query means of the values of a document
-abbrev pub matches : Fields → Values → Query → Bool
-matches fields vs match_all = true
-matches fields vs nothing = false
-matches fields vs (term field v) = has (terms_at fields vs field) v
+-- whether a term is one of the values
+abbrev pub is_one_of : List Scalar → Scalar → Bool
+is_one_of vs t = list_any (λ v. is_scalar v t) vs
+
+-- whether a term begins with a text
+abbrev pub begins_with : List ℕ → Scalar → Bool
+begins_with p (text s) = starts_with nat_eq s p
+begins_with p (long z) = false
+begins_with p (flag b) = false
+
+-- texts by bytes, numbers as numbers
+abbrev pub is_less : Scalar → Scalar → Bool
+is_less (text s) (text t) = is_lt (slice_cmp nat_cmp s t)
+is_less (text s) (long z) = false
+is_less (text s) (flag b) = false
+is_less (long y) (text t) = false
+is_less (long y) (long z) = int_lt y z
+is_less (long y) (flag b) = false
+is_less (flag a) v = false
+
+-- a bound that is not given holds of every term
+abbrev pub meets : Option Scalar → (Scalar → Bool) → Bool
+meets None test = true
+meets (Some bound) test = test bound
+
+-- whether a term lies within the bounds
+abbrev pub is_within : Bounds → Scalar → Bool
+is_within b t = meets b.gt (λ v. is_less v t) && meets b.gte (λ v. not (is_less t v)) && meets b.lt (λ v. is_less t v) && meets b.lte (λ v. not (is_less v t))
+
+-- whether one token is a term, or there is one and all are
+abbrev pub has_tokens : Operator → List Scalar → List Scalar → Bool
+has_tokens Or ts tokens = list_any (is_one_of tokens) ts
+has_tokens And ts tokens = nat_lt 0 (length tokens) && list_all (has ts) tokens
+
+-- ---- queries
+
+-- how many of `should` are wanted: at least one where nothing else is asked for
+abbrev pub wanted : (filter must should minimum : ℕ) → ℕ
+wanted filter must should minimum = if minimum == 0 && filter + must == 0 && nat_lt 0 should then 1 else minimum
+
+module _ (fields : Fields) (vs : Values) where
+  abbrev mutual
+    -- what a query means of the values of a document
+    pub matches : Query → Bool
+    matches match_all = true
+    matches nothing = false
+    matches (term field v) = has (terms_at fields vs field) v
+    matches (any_of field values) = list_any (is_one_of values) (terms_at fields vs field)
+    matches (match_tokens field operator tokens) = has_tokens operator (terms_at fields vs field) tokens
+    matches (prefix field p) = list_any (begins_with p) (terms_at fields vs field)
+    matches (range field bounds) = list_any (is_within bounds) (terms_at fields vs field)
+    matches (exists field) = nat_lt 0 (length (values_at field vs))
+    matches (bool filter must must_not should minimum) = all_match filter && all_match must && none_matches must_not && nat_le (wanted (count_of filter) (count_of must) (count_of should) minimum) (matching should)
+
+    pub all_match : Queries → Bool
+    all_match none = true
+    all_match (more q qs) = matches q && all_match qs
+
+    pub none_matches : Queries → Bool
+    none_matches none = true
+    none_matches (more q qs) = not (matches q) && none_matches qs
+
+    -- how many match
+    pub matching : Queries → ℕ
+    matching none = 0
+    matching (more q qs) = (if matches q then 1 else 0) + matching qs
 
 -- what a query means of a source under a mapping
 abbrev pub means : MappingData → List ℕ → Query → Bool

@@ -1,106 +1,78 @@
--- The query of a JSON value, or its first fault.
-use Rattle.std.specs.Prelude.{ℕ, Bool, List, codes, Option, Some, None, Result, Ok, Err, if◌then◌else◌, ⊤}
+-- The query of a JSON value, or its first fault in preorder: at each query depth, number of clauses, shape and kind, and then its parts.
+use Rattle.std.specs.Prelude.{ℕ, zero, suc, ◌-◌, ◌==◌, List, [], ◌∷◌, codes, Option, Some, None, Result, Ok, Err, if◌then◌else◌}
 use Rattle.std.specs.Str.{bytes_eq}
-use Rattle.serde_json.specs.Data.{Data, null, boolean, number, string, array, object, Members, no_members, member}
+use Rattle.serde_json.specs.Data.{Data, null, boolean, number, string, array, object}
 use Rattle.serde_json.specs.Find.{get}
-use Rattle.doc.specs.declared.mapping.Kind.{Kind}
+use Rattle.doc.specs.Entries.{elements}
+use Rattle.doc.specs.Mapping.{MappingData}
 use Rattle.doc.specs.Outcome.{◌>>=◌}
-use Rattle.doc.specs.Fields.{kind_at}
-use Rattle.doc.specs.Mapping.{MappingData, all_keys}
-use Rattle.doc.specs.Scalar.{Converted, wrong, nothing as no_value, value, converted}
-use Rattle.query.specs.declared.page.Page.{Page}
-use Rattle.query.specs.Fault.{Fault, parsing, wrong_kind}
-use Rattle.query.specs.Query.{Query, match_all, nothing, term}
+use Rattle.query.specs.Fault.{Fault, parsing, too_many_clauses, too_deep}
+use Rattle.query.specs.Leaves.{leaf_of}
+use Rattle.query.specs.Query.{Query, bool, queries_of}
+use Rattle.query.specs.Shape.{only_of, whole_number, named, is_bool_key}
 
--- ---- shapes
+-- the greatest depth of a query, and the greatest number of queries in it
+abbrev pub max_depth : ℕ
+max_depth = 20
 
-abbrev pub members_of : Data → Result Members Fault
-members_of null = Err parsing
-members_of (boolean b) = Err parsing
-members_of (number n) = Err parsing
-members_of (string s) = Err parsing
-members_of (array ds) = Err parsing
-members_of (object ms) = Ok ms
+abbrev pub max_clauses : ℕ
+max_clauses = 1024
 
--- the one member of an object
-abbrev pub only : Members → Result (List ℕ × Data) Fault
-only no_members = Err parsing
-only (member k d no_members) = Ok (k, d)
-only (member k d (member l e ms)) = Err parsing
+-- one after another; each is told how many clauses are left, and tells how many are left after it
+abbrev pub thread : {A B F : Type 0} → (ℕ → A → Result (B × ℕ) F) → ℕ → List A → Result (List B × ℕ) F
+thread f left [] = Ok ([], left)
+thread f left (x ∷ xs) = f left x >>= λ y. thread f y.1 xs >>= λ ys. Ok (y.0 ∷ ys.0, ys.1)
 
-unfoldable pub only_of : Data → Result (List ℕ × Data) Fault
-only_of d = do
-  ms ← members_of d
-  only ms
+-- a query or an array of queries, none where the key is absent
+abbrev pub parts_in : Option Data → Result (List Data) Fault
+parts_in None = Ok []
+parts_in (Some null) = Err parsing
+parts_in (Some (boolean b)) = Err parsing
+parts_in (Some (number n)) = Err parsing
+parts_in (Some (string s)) = Err parsing
+parts_in (Some (array ds)) = Ok (elements ds)
+parts_in (Some (object ms)) = Ok (object ms ∷ [])
 
--- a value is neither null nor an object nor an array
-abbrev pub plain : Data → Result Data Fault
-plain null = Err parsing
-plain (boolean b) = Ok (boolean b)
-plain (number n) = Ok (number n)
-plain (string s) = Ok (string s)
-plain (array ds) = Err parsing
-plain (object ms) = Err parsing
+-- the parts of a `bool`, in the order in which they are read, and its minimum
+pub record Parts : Type 0 where
+  pub filter : List Data
+  pub must : List Data
+  pub must_not : List Data
+  pub should : List Data
+  pub minimum : ℕ
 
--- ---- queries
+unfoldable pub parts_of : Data → Result Parts Fault
+parts_of d = do
+  known ← named is_bool_key d
+  filter ← parts_in (get (codes "filter") d)
+  must ← parts_in (get (codes "must") d)
+  must_not ← parts_in (get (codes "must_not") d)
+  should ← parts_in (get (codes "should") d)
+  minimum ← whole_number 0 (get (codes "minimum_should_match") d)
+  Ok (record { filter = filter; must = must; must_not = must_not; should = should; minimum = minimum })
 
-abbrev pub no_keys : Members → Result Query Fault
-no_keys no_members = Ok match_all
-no_keys (member k d ms) = Err parsing
+unfoldable pub bool_of : (ℕ → Data → Result (Query × ℕ) Fault) → ℕ → Data → Result (Query × ℕ) Fault
+bool_of f left d = do
+  parts ← parts_of d
+  filter ← thread f left parts.filter
+  must ← thread f filter.1 parts.must
+  must_not ← thread f must.1 parts.must_not
+  should ← thread f must_not.1 parts.should
+  Ok (bool (queries_of filter.0) (queries_of must.0) (queries_of must_not.0) (queries_of should.0) parts.minimum, should.1)
 
--- `match_all` has an empty object
-unfoldable pub match_all_of : Data → Result Query Fault
-match_all_of d = do
-  ms ← members_of d
-  no_keys ms
+abbrev pub and_left : ℕ → Result Query Fault → Result (Query × ℕ) Fault
+and_left left read = read >>= λ q. Ok (q, left)
 
--- a value that can't be converted, or that gives no value, is of the wrong kind
-abbrev pub term_with : List ℕ → Converted → Result Query Fault
-term_with field wrong = Err (wrong_kind field)
-term_with field no_value = Err (wrong_kind field)
-term_with field (value s) = Ok (term field s)
+abbrev pub named_query : MappingData → (ℕ → Data → Result (Query × ℕ) Fault) → ℕ → List ℕ × Data → Result (Query × ℕ) Fault
+named_query m f left at = if bytes_eq at.0 (codes "bool") then bool_of f left at.1 else and_left left (leaf_of m at.0 at.1)
 
--- a field that is not mapped has no terms
-abbrev pub term_at : List ℕ → Option Kind → Data → Result Query Fault
-term_at field None d = Ok nothing
-term_at field (Some k) d = term_with field (converted k d)
+-- the query of a value below which `room` levels are left, where `left` more clauses are allowed, and how many are allowed after it
+unfoldable pub query_at : MappingData → ℕ → ℕ → Data → Result (Query × ℕ) Fault
+query_at m zero left d = Err too_deep
+query_at m (suc room) left d = if left == 0 then Err too_many_clauses else (only_of d >>= λ at. named_query m (query_at m room) (left - 1) at)
 
--- `term` has a field and its value
-unfoldable pub term_of : MappingData → Data → Result Query Fault
-term_of m d = do
-  at ← only_of d
-  v ← plain at.1
-  term_at at.0 (kind_at at.0 m.fields) v
-
-abbrev pub query_named : MappingData → List ℕ → Data → Result Query Fault
-query_named m name d = if bytes_eq name (codes "match_all") then match_all_of d else (if bytes_eq name (codes "term") then term_of m d else Err parsing)
-
--- the query of a value: an object with one key, its name
+-- the query of a value
 unfoldable pub query_of : MappingData → Data → Result Query Fault
 query_of m d = do
-  at ← only_of d
-  query_named m at.0 at.1
-
--- ---- search bodies
-
-abbrev pub query_or_all : MappingData → Option Data → Result Query Fault
-query_or_all m None = Ok match_all
-query_or_all m (Some d) = query_of m d
-
-abbrev pub is_body_key : List ℕ → Bool
-is_body_key k = bytes_eq k (codes "query")
-
-abbrev pub known_keys : Members → Result ⊤ Fault
-known_keys ms = if all_keys is_body_key ms then Ok tt else Err parsing
-
--- the first ten hits
-abbrev pub first_page : Page
-first_page = record { from = 0; size = 10 }
-
--- the query and the page of a search body: an object whose one key may be `query`, and without it `match_all`
-unfoldable pub body_of : MappingData → Data → Result (Query × Page) Fault
-body_of m d = do
-  ms ← members_of d
-  known ← known_keys ms
-  q ← query_or_all m (get (codes "query") d)
-  Ok (q, first_page)
+  read ← query_at m max_depth max_clauses d
+  Ok read.0

@@ -1,12 +1,26 @@
 -- A query as it is kept.
-use Rattle.std.specs.Prelude.{string_bytes}
-use Rattle.doc.specs.ScalarView.{scalar_view}
-use Rattle.query.specs.declared.query.Query.{Query}
-use Rattle.query.specs.declared.query.Query.TheVariants.{MatchAll, Nothing, Term}
+use Rattle.std.specs.Prelude.{option_map, string_bytes}
+use Rattle.doc.specs.ScalarView.{scalar_view, scalars_view}
+use Rattle.query.specs.declared.query.Bounds.{Bounds}
+use Rattle.query.specs.declared.query.Query.{Query, fold-Query}
+use Rattle.query.specs.declared.query.Query.TheOpen.{Query-F}
 use Rattle.query.specs.Query as spec
-use Rattle.query.specs.Query.{match_all, nothing, term}
+use Rattle.query.specs.Query.{match_all, nothing, term, terms, match_tokens, prefix, range, exists, bool, queries_of}
+
+abbrev pub bounds_view : Bounds → spec.Bounds
+bounds_view b = record { gt = option_map scalar_view b.gt; gte = option_map scalar_view b.gte; lt = option_map scalar_view b.lt; lte = option_map scalar_view b.lte }
+
+-- one level, where each query inside is seen already
+abbrev pub view_step : Query-F spec.Query → spec.Query
+view_step Query-F.MatchAll = match_all
+view_step Query-F.Nothing = nothing
+view_step (Query-F.Term field value) = term (string_bytes field) (scalar_view value)
+view_step (Query-F.Terms field values) = terms (string_bytes field) (scalars_view values.items)
+view_step (Query-F.Match field operator tokens) = match_tokens (string_bytes field) operator (scalars_view tokens.items)
+view_step (Query-F.Prefix field text) = prefix (string_bytes field) (string_bytes text)
+view_step (Query-F.Range field bounds) = range (string_bytes field) (bounds_view bounds)
+view_step (Query-F.Exists field) = exists (string_bytes field)
+view_step (Query-F.Bool filter must must_not should minimum) = bool (queries_of filter.items) (queries_of must.items) (queries_of must_not.items) (queries_of should.items) minimum
 
 abbrev pub query_view : Query → spec.Query
-query_view MatchAll = match_all
-query_view Nothing = nothing
-query_view (Term field value) = term (string_bytes field) (scalar_view value)
+query_view = fold-Query spec.Query view_step

@@ -1,20 +1,23 @@
 //! Search bodies.
-ghost use Rattle.std.specs.Prelude.{option_map, codes};
+ghost use Rattle.std.specs.Prelude.{◌≡◌, option_map};
 ghost use Rattle.serde_json.specs.View.{view, members_view};
+ghost use Rattle.doc.specs.Mapping.{all_keys};
 ghost use Rattle.doc.specs.Outcome.{Gives};
+ghost use Rattle.query.specs.Body as spec;
 ghost use Rattle.query.specs.Fault.{fault_of};
+ghost use Rattle.query.specs.Shape.{check};
 ghost use Rattle.query.specs.View.{query_view};
-ghost use Rattle.query.specs.Reading as spec;
 
 use crate::fault::QueryFault;
 use crate::page::Page;
 use crate::query::Query;
-use crate::reading::members_of;
+use crate::shape::{members_of, whole_number};
 use doc::Mapping;
 use serde_json::{Map, Value};
 use std::alloc::Global;
 
-/// The body of a search: the Elasticsearch search API's `query`, and `match_all` where it is absent.
+/// The body of a search, as the Elasticsearch search API has it: `query` (absent: `match_all`), `from` (0), `size` (10), and `track_total_hits`,
+/// which changes nothing, as totals are exact.
 #[derive(Drop)]
 pub struct SearchBody {
     pub query: Query,
@@ -22,27 +25,36 @@ pub struct SearchBody {
 }
 
 impl SearchBody {
-    /// The body that a JSON value is. Another key than `query` is `Parsing`, looked for before the query's own faults.
-    #[tactic(auto, unfolding(crate::specs::Reading::body_of))]
+    /// The body that a JSON value is. Another key, and a `from` or `size` that is no whole number from 0 up, is `Parsing`, looked for before the
+    /// query's own faults; `WindowTooLarge` is looked for after them.
+    #[tactic(auto, unfolding(crate::specs::Body::body_of))]
     pub fn read(alloc: Global, mapping: &Mapping, value: &Value) -> Result<SearchBody, QueryFault>
         ensures { Gives fault_of (λ b. (query_view b.query, b.page)) result (spec.body_of mapping.now (view value.now)) }
     {
         check_keys(members_of(value)?)?;
+        let from = whole_number(0, value.get("from"))?;
+        let size = whole_number(10, value.get("size"))?;
         let query = query_or_all(alloc, mapping, value.get("query"))?;
-        let page = Page::first();
+        let page = Page::new(from, size)?;
         Ok(SearchBody { query, page })
     }
 }
 
 fn check_keys(members: &Map<String, Value>) -> Result<(), QueryFault>
-    ensures { Gives fault_of (λ u. u) result (spec.known_keys (members_view members.now.entries)) }
+    ensures { Gives fault_of (λ u. u) result (check (all_keys spec.is_body_key (members_view members.now.entries))) }
 {
     for (name, _) in members {
-        if name.as_str() != "query" {
-            return Err(QueryFault::Parsing("a search body has no key but `query`"));
+        if !is_body_key(name.as_str()) {
+            return Err(QueryFault::Parsing("this key isn't known in a search body"));
         }
     }
     Ok(())
+}
+
+fn is_body_key(name: &str) -> bool
+    ensures { result ≡ spec.is_body_key name.now }
+{
+    name == "query" || name == "from" || name == "size" || name == "track_total_hits"
 }
 
 fn query_or_all(

@@ -11,10 +11,16 @@ use thiserror::Error;
 pub enum QueryFault {
     #[error("bad query: {0}")]
     Parsing(&'static str),
+    #[error("a query has more than 1,024 clauses, or `terms` more than 65,536 values")]
+    TooManyClauses,
+    #[error("queries nest more than 20 deep")]
+    TooDeep,
     #[error("a value doesn't fit the type of field {0}")]
     WrongKind(String),
     #[error("out of memory")]
     NoMemory,
+    #[error("`from` plus `size` is above 10,000")]
+    WindowTooLarge,
 }
 
 impl QueryFault {
@@ -24,8 +30,11 @@ impl QueryFault {
     {
         match self {
             QueryFault::Parsing(_) => "Parsing",
+            QueryFault::TooManyClauses => "TooManyClauses",
+            QueryFault::TooDeep => "TooDeep",
             QueryFault::WrongKind(_) => "WrongKind",
             QueryFault::NoMemory => "NoMemory",
+            QueryFault::WindowTooLarge => "WindowTooLarge",
         }
     }
 }

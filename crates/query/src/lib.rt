@@ -1,16 +1,21 @@
 //! Queries: how a search body is read, and what a query means of a document.
 #![tactic(auto)]
 
+mod asked;
 pub mod body;
 pub mod fault;
+pub mod laws;
+mod leaves;
 pub mod meaning;
 pub mod page;
 pub mod query;
 pub mod reading;
+mod shape;
+mod terms;
 #[cfg(test)]
 mod tests;
 
 pub use body::SearchBody;
 pub use fault::QueryFault;
 pub use page::Page;
-pub use query::Query;
+pub use query::{Bounds, Operator, Query};

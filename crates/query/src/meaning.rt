@@ -1,13 +1,16 @@
 //! What a query means of a document.
-ghost use Rattle.std.specs.Prelude.{◌≡◌, ◌∷◌, [], IfOk, flat_map};
-ghost use Rattle.doc.specs.ScalarView.{scalar_view, scalars_view, values_view};
+ghost use Rattle.std.specs.Prelude.{◌≡◌, ◌≤◌, IfOk, length, map, flat_map, nat_lt};
+ghost use Rattle.std.specs.List.{list_any, list_all};
 ghost use Rattle.doc.specs.Document.{values_at};
-ghost use Rattle.doc.specs.Scalar.{text as spec_text};
-ghost use Rattle.query.specs.View.{query_view};
+ghost use Rattle.doc.specs.ScalarView.{scalar_view, scalars_view, values_view};
+ghost use Rattle.query.specs.Asked.{passes};
 ghost use Rattle.query.specs.Meaning as spec;
+ghost use Rattle.query.specs.Query.{queries_of, count_of};
+ghost use Rattle.query.specs.View.{query_view};
 
-use crate::query::Query;
-use analysis::tokens;
+use crate::asked::Asked;
+use crate::query::{Operator, Query};
+use crate::terms::cut;
 use doc::{Doc, FieldValues, Kind, Mapping, Scalar};
 use std::alloc::{AllocError, Global};
 
@@ -16,105 +19,244 @@ impl Query {
     pub fn matches(&self, alloc: Global, mapping: &Mapping, doc: &Doc) -> Result<bool, AllocError>
         ensures { IfOk result (λ b. b ≡ spec.matches mapping.now.fields doc.now.values (query_view self.now)) }
     {
-        match self {
-            Query::MatchAll => Ok(true),
-            Query::Nothing => Ok(false),
-            Query::Term(field, value) => { has_term(alloc, mapping, doc, field.as_str(), value) }
+        matches(alloc, mapping, doc, self)
+    }
+}
+
+#[cycle(matches)]
+fn matches(alloc: Global, mapping: &Mapping, doc: &Doc, query: &Query) -> Result<bool, AllocError>
+    ensures { IfOk result (λ b. b ≡ spec.matches mapping.now.fields doc.now.values (query_view query.now)) }
+{
+    match query {
+        Query::MatchAll => Ok(true),
+        Query::Nothing => Ok(false),
+        Query::Term(field, value) => some_term(alloc, mapping, doc, field, Asked::Is(value)),
+        Query::Terms(field, values) => {
+            some_term(alloc, mapping, doc, field, Asked::IsOneOf(values))
+        }
+        Query::Match(field, operator, tokens) => {
+            has_tokens(alloc, mapping, doc, field, *operator, tokens)
+        }
+        Query::Prefix(field, text) => {
+            some_term(alloc, mapping, doc, field, Asked::BeginsWith(text.as_str()))
+        }
+        Query::Range(field, bounds) => {
+            some_term(alloc, mapping, doc, field, Asked::IsWithin(bounds))
+        }
+        Query::Exists(field) => Ok(has_value(doc.fields(), field)),
+        Query::Bool {
+            filter,
+            must,
+            must_not,
+            should,
+            minimum_should_match,
+        } => {
+            if !all_match(alloc, mapping, doc, filter)? {
+                return Ok(false);
+            }
+            if !all_match(alloc, mapping, doc, must)? {
+                return Ok(false);
+            }
+            if !none_matches(alloc, mapping, doc, must_not)? {
+                return Ok(false);
+            }
+            let found = matching(alloc, mapping, doc, should)?;
+            let wanted = wanted(
+                count(filter),
+                count(must),
+                count(should),
+                *minimum_should_match,
+            );
+            Ok(wanted <= found)
         }
     }
 }
 
-fn has_term(
+#[cycle(matches)]
+fn all_match(
+    alloc: Global,
+    mapping: &Mapping,
+    doc: &Doc,
+    queries: &[Query],
+) -> Result<bool, AllocError>
+    ensures { IfOk result (λ b. b ≡ spec.all_match mapping.now.fields doc.now.values (queries_of (map query_view queries.now))) }
+{
+    for query in queries {
+        if !matches(alloc, mapping, doc, query)? {
+            return Ok(false);
+        }
+    }
+    Ok(true)
+}
+
+#[cycle(matches)]
+fn none_matches(
+    alloc: Global,
+    mapping: &Mapping,
+    doc: &Doc,
+    queries: &[Query],
+) -> Result<bool, AllocError>
+    ensures { IfOk result (λ b. b ≡ spec.none_matches mapping.now.fields doc.now.values (queries_of (map query_view queries.now))) }
+{
+    for query in queries {
+        if matches(alloc, mapping, doc, query)? {
+            return Ok(false);
+        }
+    }
+    Ok(true)
+}
+
+/// How many queries mean the document.
+#[cycle(matches)]
+fn matching(
+    alloc: Global,
+    mapping: &Mapping,
+    doc: &Doc,
+    queries: &[Query],
+) -> Result<u64, AllocError>
+    ensures { IfOk result (λ n. n ≡ spec.matching mapping.now.fields doc.now.values (queries_of (map query_view queries.now))) }
+{
+    let mut found = 0u64;
+    for query in queries {
+        if matches(alloc, mapping, doc, query)? {
+            found += 1;
+        }
+    }
+    Ok(found)
+}
+
+/// How many queries of `should` are wanted.
+fn wanted(filter: usize, must: usize, should: usize, minimum: u64) -> u64
+    ensures { result ≡ spec.wanted filter must should minimum }
+{
+    if minimum == 0 && filter == 0 && must == 0 && should > 0 {
+        1
+    } else {
+        minimum
+    }
+}
+
+fn count(queries: &[Query]) -> usize
+    ensures { result ≡ count_of (queries_of (map query_view queries.now)) }
+{
+    queries.len()
+}
+
+/// Whether some term of the field passes.
+fn some_term(
     alloc: Global,
     mapping: &Mapping,
     doc: &Doc,
     name: &str,
-    value: &Scalar,
+    asked: Asked<'_>,
 ) -> Result<bool, AllocError>
-    ensures { IfOk result (λ b. b ≡ spec.has (spec.terms_at mapping.now.fields doc.now.values name.now) (scalar_view value.now)) }
+    ensures { IfOk result (λ b. b ≡ list_any (passes asked.entry) (spec.terms_at mapping.now.fields doc.now.values name.now)) }
 {
     match mapping.kind(name) {
         None => Ok(false),
-        Some(Kind::Text) => text_has(alloc, doc.fields(), name, value),
-        Some(_) => Ok(field_has(doc.fields(), name, value)),
+        Some(Kind::Text) => some_token(alloc, doc.fields(), name, asked),
+        Some(_) => Ok(some_value(doc.fields(), name, asked)),
     }
 }
 
-/// Whether a field has the value.
-fn field_has(fields: &[FieldValues], name: &str, value: &Scalar) -> bool
-    ensures { result ≡ spec.has (values_at name.now (values_view fields.now)) (scalar_view value.now) }
+/// Whether one of the tokens is a term of the field, or there is one and all are.
+fn has_tokens(
+    alloc: Global,
+    mapping: &Mapping,
+    doc: &Doc,
+    name: &str,
+    operator: Operator,
+    tokens: &[Scalar],
+) -> Result<bool, AllocError>
+    ensures { IfOk result (λ b. b ≡ spec.has_tokens operator (spec.terms_at mapping.now.fields doc.now.values name.now) (scalars_view tokens.now)) }
+{
+    match operator {
+        Operator::Or => some_term(alloc, mapping, doc, name, Asked::IsOneOf(tokens)),
+        Operator::And => {
+            if tokens.is_empty() {
+                return Ok(false);
+            }
+            all_terms(alloc, mapping, doc, name, tokens)
+        }
+    }
+}
+
+/// Whether all values are terms of the field.
+fn all_terms(
+    alloc: Global,
+    mapping: &Mapping,
+    doc: &Doc,
+    name: &str,
+    values: &[Scalar],
+) -> Result<bool, AllocError>
+    ensures { IfOk result (λ b. b ≡ list_all (spec.has (spec.terms_at mapping.now.fields doc.now.values name.now)) (scalars_view values.now)) }
+{
+    for value in values {
+        if !some_term(alloc, mapping, doc, name, Asked::Is(value))? {
+            return Ok(false);
+        }
+    }
+    Ok(true)
+}
+
+/// Whether the field has a value.
+fn has_value(fields: &[FieldValues], name: &str) -> bool
+    ensures { result ≡ nat_lt 0 (length (values_at name.now (values_view fields.now))) }
 {
     for field in fields {
-        if field.name.as_str() == name && has(&field.values, value) {
+        if field.name.as_str() == name && !field.values.is_empty() {
             return true;
         }
     }
     false
 }
 
-/// Whether a field has the value among the tokens of its values.
-fn text_has(
+/// Whether some value of the field passes.
+fn some_value(fields: &[FieldValues], name: &str, asked: Asked<'_>) -> bool
+    ensures { result ≡ list_any (passes asked.entry) (values_at name.now (values_view fields.now)) }
+{
+    for field in fields {
+        if field.name.as_str() == name && some_passes(&field.values, asked) {
+            return true;
+        }
+    }
+    false
+}
+
+/// Whether some token of the field's values passes.
+fn some_token(
     alloc: Global,
     fields: &[FieldValues],
     name: &str,
-    value: &Scalar,
+    asked: Asked<'_>,
 ) -> Result<bool, AllocError>
-    ensures { IfOk result (λ b. b ≡ spec.has (flat_map spec.cut (values_at name.now (values_view fields.now))) (scalar_view value.now)) }
+    ensures { IfOk result (λ b. b ≡ list_any (passes asked.entry) (flat_map spec.cut (values_at name.now (values_view fields.now)))) }
 {
     for field in fields {
-        if field.name.as_str() == name && any_token_is(alloc, &field.values, value)? {
+        if field.name.as_str() == name && some_token_of(alloc, &field.values, asked)? {
             return Ok(true);
         }
     }
     Ok(false)
 }
 
-fn any_token_is(alloc: Global, values: &[Scalar], value: &Scalar) -> Result<bool, AllocError>
-    ensures { IfOk result (λ b. b ≡ spec.has (flat_map spec.cut (scalars_view values.now)) (scalar_view value.now)) }
+fn some_token_of(alloc: Global, values: &[Scalar], asked: Asked<'_>) -> Result<bool, AllocError>
+    ensures { IfOk result (λ b. b ≡ list_any (passes asked.entry) (flat_map spec.cut (scalars_view values.now))) }
 {
-    for other in values {
-        let terms = terms_of(alloc, other)?;
-        if has(&terms, value) {
+    for value in values {
+        let terms = cut(alloc, value)?;
+        if some_passes(&terms, asked) {
             return Ok(true);
         }
     }
     Ok(false)
 }
 
-/// The tokens of a text.
-fn terms_of(alloc: Global, value: &Scalar) -> Result<Vec<Scalar>, AllocError>
-    ensures { IfOk result (λ v. scalars_view v.items ≡ spec.cut (scalar_view value.now)) }
+fn some_passes(values: &[Scalar], asked: Asked<'_>) -> bool
+    ensures { result ≡ list_any (passes asked.entry) (scalars_view values.now) }
 {
-    match value {
-        Scalar::Text(text) => token_terms(alloc, text.as_str()),
-        Scalar::Long(number) => one(alloc, Scalar::Long(*number)),
-        Scalar::Flag(flag) => one(alloc, Scalar::Flag(*flag)),
-    }
-}
-
-fn token_terms(alloc: Global, text: &str) -> Result<Vec<Scalar>, AllocError>
-    ensures { IfOk result (λ v. scalars_view v.items ≡ spec.cut (spec_text text.now)) }
-{
-    let mut terms = Vec::new(alloc);
-    for token in tokens(alloc, text)? {
-        terms.push(Scalar::Text(token))?;
-    }
-    Ok(terms)
-}
-
-fn one(alloc: Global, value: Scalar) -> Result<Vec<Scalar>, AllocError>
-    ensures { IfOk result (λ v. v.items ≡ value ∷ []) }
-{
-    let mut values = Vec::new(alloc);
-    values.push(value)?;
-    Ok(values)
-}
-
-fn has(values: &[Scalar], value: &Scalar) -> bool
-    ensures { result ≡ spec.has (scalars_view values.now) (scalar_view value.now) }
-{
-    for other in values {
-        if value.is(other) {
+    for value in values {
+        if asked.passes(value) {
             return true;
         }
     }

@@ -1,121 +1,154 @@
-//! How a query is read.
-ghost use Rattle.std.specs.Prelude.{◌≡◌, IfSome};
-ghost use Rattle.serde_json.specs.View.{view, members_view};
+//! How a query is read: its levels, its clauses, and the parts of a `bool`.
+ghost use Rattle.std.specs.Prelude.{◌≡◌, map, option_map};
+ghost use Rattle.serde_json.specs.View.{view, items_view};
+ghost use Rattle.doc.specs.Entries.{elements};
 ghost use Rattle.doc.specs.Outcome.{Gives};
-ghost use Rattle.query.specs.Fault.{fault_of, wrong_kind as wrong_kind_of};
-ghost use Rattle.query.specs.View.{query_view};
+ghost use Rattle.query.specs.Fault.{fault_of};
+ghost use Rattle.query.specs.PartsView.{parts_view};
 ghost use Rattle.query.specs.Reading as spec;
+ghost use Rattle.query.specs.View.{query_view};
 
 use crate::fault::QueryFault;
+use crate::leaves::leaf_of;
 use crate::query::Query;
-use doc::{Converted, Kind, Mapping, convert};
-use serde_json::{Map, Value};
+use crate::shape::{Keys, check_keys, only_of, whole_number};
+use doc::Mapping;
+use serde_json::Value;
 use std::alloc::Global;
+use std::slice;
+
+/// The greatest depth of a query; its top has depth 1.
+pub const MAX_DEPTH: usize = 20;
+
+/// How many queries there may be in a query, itself among them.
+pub const MAX_CLAUSES: usize = 1024;
 
 impl Query {
-    /// The query that a JSON value is: `{"match_all":{}}` or `{"term":{FIELD:VALUE}}`. Else its first fault:
-    /// `Parsing` for its form, then `WrongKind` where the value doesn't fit the type of the field.
+    /// The query that a JSON value is, as the Elasticsearch reference's query language has it without scores: `match_all`, `term`, `terms`,
+    /// `match`, `prefix`, `range`, `exists` and `bool`. Else its first fault, each query before its parts, these in the order `filter`, `must`,
+    /// `must_not`, `should`: `TooDeep`, `TooManyClauses`, `Parsing` for its form, `WrongKind` where a value doesn't fit the type of the field.
     #[tactic(auto, unfolding(crate::specs::Reading::query_of))]
     pub fn read(alloc: Global, mapping: &Mapping, value: &Value) -> Result<Query, QueryFault>
         ensures { Gives fault_of query_view result (spec.query_of mapping.now (view value.now)) }
     {
-        let (name, body) = only_of(value)?;
-        if name == "match_all" {
-            match_all_of(body)
-        } else if name == "term" {
-            term_of(alloc, mapping, body)
-        } else {
-            Err(QueryFault::Parsing("this query isn't known"))
-        }
+        let mut left = MAX_CLAUSES;
+        query_at(alloc, mapping, MAX_DEPTH, &mut left, value)
     }
 }
 
-/// The members of an object.
-pub(crate) fn members_of(value: &Value) -> Result<&Map<String, Value>, QueryFault>
-    ensures { Gives fault_of (λ m. members_view m.now.entries) result (spec.members_of (view value.now)) }
-{
-    match value {
-        Value::Object(members) => Ok(members),
-        _ => Err(QueryFault::Parsing("an object is wanted")),
-    }
-}
-
-#[tactic(auto, unfolding(crate::specs::Reading::only_of))]
-fn only_of(value: &Value) -> Result<(&str, &Value), QueryFault>
-    ensures { Gives fault_of (λ x. (x.0.now, view x.1.now)) result (spec.only_of (view value.now)) }
-{
-    only(members_of(value)?)
-}
-
-fn only(members: &Map<String, Value>) -> Result<(&str, &Value), QueryFault>
-    ensures { Gives fault_of (λ x. (x.0.now, view x.1.now)) result (spec.only (members_view members.now.entries)) }
-{
-    let mut entries = members.iter();
-    let Some((name, body)) = entries.next() else {
-        return Err(QueryFault::Parsing("one key is wanted"));
-    };
-    if entries.next().is_some() {
-        return Err(QueryFault::Parsing("one key is wanted"));
-    }
-    Ok((name.as_str(), body))
-}
-
-#[tactic(auto, unfolding(crate::specs::Reading::match_all_of))]
-fn match_all_of(body: &Value) -> Result<Query, QueryFault>
-    ensures { Gives fault_of query_view result (spec.match_all_of (view body.now)) }
-{
-    let members = members_of(body)?;
-    if members.iter().next().is_some() {
-        return Err(QueryFault::Parsing("`match_all` has no key"));
-    }
-    Ok(Query::MatchAll)
-}
-
-#[tactic(auto, unfolding(crate::specs::Reading::term_of))]
-fn term_of(alloc: Global, mapping: &Mapping, body: &Value) -> Result<Query, QueryFault>
-    ensures { Gives fault_of query_view result (spec.term_of mapping.now (view body.now)) }
-{
-    let (field, value) = only_of(body)?;
-    let value = plain(value)?;
-    term_at(alloc, field, mapping.kind(field), value)
-}
-
-fn plain(value: &Value) -> Result<&Value, QueryFault>
-    ensures { Gives fault_of (λ v. view v.now) result (spec.plain (view value.now)) }
-{
-    match value {
-        Value::Null | Value::Array(_) | Value::Object(_) => {
-            Err(QueryFault::Parsing("a text, a number or a truth value is wanted"))
-        }
-        _ => Ok(value),
-    }
-}
-
-fn term_at(
+/// A query below which `room` levels are left, where `left` more clauses are allowed.
+#[cycle(read)]
+#[tactic(auto, unfolding(crate::specs::Reading::query_at))]
+fn query_at(
     alloc: Global,
-    field: &str,
-    kind: Option<Kind>,
+    mapping: &Mapping,
+    room: usize,
+    left: &mut usize,
     value: &Value,
 ) -> Result<Query, QueryFault>
-    ensures { Gives fault_of query_view result (spec.term_at field.now kind (view value.now)) }
+    ensures { Gives fault_of (λ q. (query_view q, left.new)) result
+        (spec.query_at mapping.now room left.old (view value.now)) }
 {
-    let Some(kind) = kind else {
-        return Ok(Query::Nothing);
-    };
-    match convert(alloc, kind, value)? {
-        Converted::Value(scalar) => {
-            let field = String::from_str(alloc, field)?;
-            Ok(Query::Term(field, scalar))
-        }
-        _ => Err(wrong_kind(alloc, field)),
+    if room == 0 {
+        return Err(QueryFault::TooDeep);
+    }
+    if *left == 0 {
+        return Err(QueryFault::TooManyClauses);
+    }
+    let (name, body) = only_of(value)?;
+    *left -= 1;
+    if name == "bool" {
+        bool_of(alloc, mapping, room - 1, left, body)
+    } else {
+        leaf_of(alloc, mapping, name, body)
     }
 }
 
-fn wrong_kind(alloc: Global, field: &str) -> QueryFault
-    ensures { IfSome (fault_of result) (λ f. f ≡ wrong_kind_of field.now) }
+#[cycle(read)]
+#[tactic(auto, unfolding(crate::specs::Reading::bool_of))]
+fn bool_of(
+    alloc: Global,
+    mapping: &Mapping,
+    room: usize,
+    left: &mut usize,
+    body: &Value,
+) -> Result<Query, QueryFault>
+    ensures { Gives fault_of (λ q. (query_view q, left.new)) result
+        (spec.bool_of (spec.query_at mapping.now room) left.old (view body.now)) }
 {
-    match String::from_str(alloc, field) {
-        Ok(field) => QueryFault::WrongKind(field),
-        Err(_) => QueryFault::NoMemory,
+    let parts = parts_of(body)?;
+    let filter = queries_at(alloc, mapping, room, left, parts.filter)?;
+    let must = queries_at(alloc, mapping, room, left, parts.must)?;
+    let must_not = queries_at(alloc, mapping, room, left, parts.must_not)?;
+    let should = queries_at(alloc, mapping, room, left, parts.should)?;
+    Ok(Query::Bool {
+        filter,
+        must,
+        must_not,
+        should,
+        minimum_should_match: parts.minimum,
+    })
+}
+
+#[cycle(read)]
+fn queries_at(
+    alloc: Global,
+    mapping: &Mapping,
+    room: usize,
+    left: &mut usize,
+    values: &[Value],
+) -> Result<Vec<Query>, QueryFault>
+    ensures { Gives fault_of (λ v. (map query_view v.items, left.new)) result
+        (spec.thread (spec.query_at mapping.now room) left.old (elements (items_view values.now))) }
+{
+    let mut found = Vec::new(alloc);
+    for value in values {
+        let query = query_at(alloc, mapping, room, left, value)?;
+        found.push(query)?;
+    }
+    Ok(found)
+}
+
+/// The parts of a `bool`.
+#[derive(Clone, Copy)]
+struct Parts<'a> {
+    filter: &'a [Value],
+    must: &'a [Value],
+    must_not: &'a [Value],
+    should: &'a [Value],
+    minimum: u64,
+}
+
+#[tactic(auto, unfolding(crate::specs::Reading::parts_of))]
+fn parts_of(body: &Value) -> Result<Parts<'_>, QueryFault>
+    ensures { Gives fault_of parts_view result (spec.parts_of (view body.now)) }
+{
+    check_keys(Keys::Bool, body)?;
+    let filter = parts_in(body.get("filter"))?;
+    let must = parts_in(body.get("must"))?;
+    let must_not = parts_in(body.get("must_not"))?;
+    let should = parts_in(body.get("should"))?;
+    let minimum = whole_number(0, body.get("minimum_should_match"))?;
+    Ok(Parts {
+        filter,
+        must,
+        must_not,
+        should,
+        minimum,
+    })
+}
+
+/// A query or an array of queries, none where the key is absent.
+fn parts_in(value: Option<&Value>) -> Result<&[Value], QueryFault>
+    ensures { Gives fault_of (λ s. elements (items_view s.now)) result
+        (spec.parts_in (option_map (λ v. view v.now) value.entry)) }
+{
+    match value {
+        None => Ok(&[]),
+        Some(value) => match value {
+            Value::Array(items) => Ok(items),
+            Value::Object(_) => Ok(slice::from_ref(value)),
+            _ => Err(QueryFault::Parsing("a query or an array of queries is wanted")),
+        },
     }
 }

@@ -1,168 +1,53 @@
-use crate::{Page, Query, QueryFault, SearchBody};
+use crate::{Page, Query, SearchBody};
 use doc::{Doc, Mapping};
 use serde_json::Value;
 use std::alloc::Global;
 use std::test::Fail;
 
 const FIELDS: &str =
-    "{\"properties\":{\"b\":{\"type\":\"boolean\"},\"k\":{\"type\":\"keyword\"},\"l\":{\"type\":\"keyword\"},\"n\":{\"type\":\"long\"},\"t\":{\"type\":\"text\"}}}";
+    "{\"properties\":{\"k\":{\"type\":\"keyword\"},\"n\":{\"type\":\"long\"},\"t\":{\"type\":\"text\"}}}";
 
-fn mapping_of(alloc: Global, text: &str) -> Result<Mapping, Fail> {
-    let value = Value::from_str(alloc, text)?;
-    Ok(Mapping::from_value(alloc, &value)?)
-}
+const SOURCE: &str = "{\"t\":\"The quick Fox\",\"n\":[\"12\",-3],\"k\":7}";
 
-// The name of a body's fault, or of the form of its query.
-fn body_read(alloc: Global, mapping: &Mapping, text: &str) -> Result<&'static str, Fail> {
-    let value = Value::from_str(alloc, text)?;
-    match SearchBody::read(alloc, mapping, &value) {
-        Ok(body) => Ok(form(&body.query)),
-        Err(fault) => Ok(fault.name()),
-    }
-}
-
-fn form(query: &Query) -> &'static str {
-    match query {
-        Query::MatchAll => "all",
-        Query::Nothing => "nothing",
-        Query::Term(_, _) => "term",
-    }
-}
-
-// Whether the query of a text means the document of another.
-fn means(alloc: Global, mapping: &Mapping, query: &str, source: &str) -> Result<bool, Fail> {
-    let value = Value::from_str(alloc, query)?;
-    let query = Query::read(alloc, mapping, &value)?;
-    let doc = Doc::read(alloc, mapping, source.as_bytes())?;
-    Ok(query.matches(alloc, mapping, &doc)?)
+// Whether the query of a text means the document.
+fn means(alloc: Global, query: &str) -> Result<bool, Fail> {
+    let mapping = Mapping::from_value(alloc, &Value::from_str(alloc, FIELDS)?)?;
+    let doc = Doc::read(alloc, &mapping, SOURCE.as_bytes())?;
+    let query = Query::read(alloc, &mapping, &Value::from_str(alloc, query)?)?;
+    Ok(query.matches(alloc, &mapping, &doc)?)
 }
 
 #[test]
-fn reads_bodies(rt: HostRuntime) -> Result<(), Fail> {
-    let mapping = mapping_of(rt.alloc(), FIELDS)?;
+fn reads_and_means_each_query(rt: HostRuntime) -> Result<(), Fail> {
     let cases = [
-        ("{}", "all"),
-        ("{\"query\":{\"match_all\":{}}}", "all"),
-        ("{\"query\":{\"term\":{\"k\":\"x\"}}}", "term"),
-        ("{\"query\":{\"term\":{\"z\":\"x\"}}}", "nothing"),
-        ("{\"query\":{\"term\":{\"z\":1.5}}}", "nothing"),
-        ("{\"query\":{\"term\":{\"z\":true}}}", "nothing"),
-        ("[]", "Parsing"),
-        ("{\"size\":1}", "Parsing"),
-        ("{\"query\":{\"term\":{\"k\":1}},\"size\":1}", "Parsing"),
-        ("{\"query\":null}", "Parsing"),
-        ("{\"query\":{}}", "Parsing"),
-        ("{\"query\":{\"match\":{\"k\":\"x\"}}}", "Parsing"),
+        ("{\"match_all\":{}}", true),
+        ("{\"term\":{\"n\":12}}", true),
+        ("{\"term\":{\"t\":\"Fox\"}}", false),
+        ("{\"terms\":{\"k\":[\"6\",7]}}", true),
         (
-            "{\"query\":{\"match_all\":{},\"term\":{\"k\":\"x\"}}}",
-            "Parsing",
+            "{\"match\":{\"t\":{\"query\":\"FOX quick\",\"operator\":\"and\"}}}",
+            true,
         ),
-        ("{\"query\":{\"match_all\":{\"boost\":1}}}", "Parsing"),
-        ("{\"query\":{\"match_all\":[]}}", "Parsing"),
-        ("{\"query\":{\"term\":{}}}", "Parsing"),
+        ("{\"match\":{\"t\":\"!!\"}}", false),
+        ("{\"prefix\":{\"t\":{\"value\":\"qu\"}}}", true),
+        ("{\"range\":{\"n\":{\"gt\":-3,\"lte\":\"12\"}}}", true),
+        ("{\"exists\":{\"field\":\"z\"}}", false),
         (
-            "{\"query\":{\"term\":{\"k\":{\"value\":\"x\"}}}}",
-            "Parsing",
+            "{\"bool\":{\"should\":[{\"term\":{\"n\":1}}],\"must_not\":{\"exists\":{\"field\":\"z\"}}}}",
+            false,
         ),
-        ("{\"query\":{\"term\":{\"k\":null}}}", "Parsing"),
-        ("{\"query\":{\"term\":{\"k\":[\"x\"]}}}", "Parsing"),
-        (
-            "{\"query\":{\"term\":{\"k\":\"x\",\"l\":\"x\"}}}",
-            "Parsing",
-        ),
-        ("{\"query\":{\"term\":{\"z\":null}}}", "Parsing"),
-        ("{\"query\":{\"term\":{\"k\":1}}}", "term"),
-        ("{\"query\":{\"term\":{\"k\":true}}}", "term"),
-        ("{\"query\":{\"term\":{\"k\":1.5}}}", "WrongKind"),
-        ("{\"query\":{\"term\":{\"n\":\"12\"}}}", "term"),
-        ("{\"query\":{\"term\":{\"n\":\"x\"}}}", "WrongKind"),
-        ("{\"query\":{\"term\":{\"n\":\"\"}}}", "WrongKind"),
-        ("{\"query\":{\"term\":{\"n\":true}}}", "WrongKind"),
-        ("{\"query\":{\"term\":{\"b\":\"\"}}}", "term"),
-        ("{\"query\":{\"term\":{\"b\":1}}}", "WrongKind"),
-        ("{\"query\":{\"term\":{\"t\":7}}}", "term"),
     ];
-    for (text, want) in cases {
-        assert_eq!(rt; body_read(rt.alloc(), &mapping, text)?, want, "{text}");
+    for (query, want) in cases {
+        assert_eq!(rt; means(rt.alloc(), query)?, want, "{query}");
     }
     Ok(())
 }
 
 #[test]
-fn names_the_field_of_a_wrong_kind(rt: HostRuntime) -> Result<(), Fail> {
-    let mapping = mapping_of(rt.alloc(), FIELDS)?;
-    let value = Value::from_str(rt.alloc(), "{\"term\":{\"k\":1.5}}")?;
-    match Query::read(rt.alloc(), &mapping, &value) {
-        Err(QueryFault::WrongKind(field)) => assert_eq!(rt; field.as_str(), "k"),
-        _other => assert!(rt; false, "a fraction is no keyword"),
-    }
-    Ok(())
-}
-
-#[test]
-fn asks_for_ten_hits(rt: HostRuntime) -> Result<(), Fail> {
-    let mapping = mapping_of(rt.alloc(), FIELDS)?;
-    let value = Value::from_str(rt.alloc(), "{}")?;
+fn reads_a_search_body(rt: HostRuntime) -> Result<(), Fail> {
+    let mapping = Mapping::from_value(rt.alloc(), &Value::from_str(rt.alloc(), FIELDS)?)?;
+    let value = Value::from_str(rt.alloc(), "{\"from\":9990,\"track_total_hits\":7}")?;
     let body = SearchBody::read(rt.alloc(), &mapping, &value)?;
-    assert_eq!(rt; body.page, Page { from: 0, size: 10 });
-    Ok(())
-}
-
-#[test]
-fn matches_documents(rt: HostRuntime) -> Result<(), Fail> {
-    let mapping = mapping_of(rt.alloc(), FIELDS)?;
-    let alloc = rt.alloc();
-    let source = "{\"l\":\"cat\",\"k\":\"fox\",\"z\":\"fox\"}";
-    for query in [
-        "{\"match_all\":{}}",
-        "{\"term\":{\"k\":\"fox\"}}",
-        "{\"term\":{\"l\":\"cat\"}}",
-    ] {
-        assert!(rt; means(alloc, &mapping, query, source)?, "{query}");
-    }
-    for query in [
-        "{\"term\":{\"k\":\"cat\"}}",
-        "{\"term\":{\"k\":\"Fox\"}}",
-        "{\"term\":{\"l\":\"fox\"}}",
-        "{\"term\":{\"z\":\"fox\"}}",
-    ] {
-        assert!(rt; !means(alloc, &mapping, query, source)?, "{query}");
-    }
-    assert!(rt;
-        !means(
-            alloc,
-            &mapping,
-            "{\"term\":{\"k\":\"fox\"}}",
-            "{\"k\":null}"
-        )?
-    );
-    Ok(())
-}
-
-#[test]
-fn matches_by_type(rt: HostRuntime) -> Result<(), Fail> {
-    let mapping = mapping_of(rt.alloc(), FIELDS)?;
-    let alloc = rt.alloc();
-    let source = "{\"t\":[\"The Fox\",\"ran\"],\"n\":[\"12\",-3],\"b\":\"\",\"k\":7}";
-    for query in [
-        "{\"term\":{\"t\":\"fox\"}}",
-        "{\"term\":{\"t\":\"ran\"}}",
-        "{\"term\":{\"n\":\"12\"}}",
-        "{\"term\":{\"n\":-3}}",
-        "{\"term\":{\"b\":false}}",
-        "{\"term\":{\"k\":\"7\"}}",
-        "{\"term\":{\"k\":7}}",
-    ] {
-        assert!(rt; means(alloc, &mapping, query, source)?, "{query}");
-    }
-    for query in [
-        "{\"term\":{\"t\":\"Fox\"}}",
-        "{\"term\":{\"t\":\"the fox\"}}",
-        "{\"term\":{\"n\":3}}",
-        "{\"term\":{\"b\":true}}",
-        "{\"term\":{\"k\":\"12\"}}",
-    ] {
-        assert!(rt; !means(alloc, &mapping, query, source)?, "{query}");
-    }
+    assert_eq!(rt; body.page, Page::new(9990, 10)?);
     Ok(())
 }

@@ -1,5 +1,6 @@
-//! Reads documents, or cuts lines into words, and prints how many there are: what bench/read.sh measures.
-//! Its words are `documents` or `words`, and `count` or `time`. The first line of standard input is a mapping.
+//! Reads documents or queries, cuts lines into words, or finds the documents of a query, and prints how many there are: what
+//! bench/read.sh measures. Its words are `documents`, `words`, `queries` or `found`, and `count` or `time`. The first line of
+//! standard input is a mapping; for `found` the second is a query.
 #![tactic(auto)]
 
 ghost use Rattle.std.specs.Prelude.{◌≡◌, IfOk, is_ok, count_by, sum_by, length, string_bytes};
@@ -9,6 +10,7 @@ ghost use Rattle.analysis.specs.Tokens.{tokens_of};
 use analysis::tokens;
 use anyhow::{Context, Result, bail};
 use doc::{Doc, DocFault, Mapping};
+use query::Query;
 use serde_json::Value;
 use std::alloc::{AllocError, Global};
 use std::env;
@@ -20,6 +22,8 @@ use std::time::Instant;
 enum Task {
     Documents,
     Words,
+    Queries,
+    Found,
 }
 
 /// Whether a line is a document that fits the mapping.
@@ -58,11 +62,44 @@ fn words(alloc: Global, lines: &[String]) -> Result<usize>
     Ok(count)
 }
 
+fn read_query(alloc: Global, mapping: &Mapping, line: &str) -> Result<Query> {
+    Ok(Query::read(alloc, mapping, &Value::from_str(alloc, line)?)?)
+}
+
+/// How many queries there are; each is read.
+fn queries(alloc: Global, mapping: &Mapping, lines: &[String]) -> Result<usize> {
+    for line in lines {
+        read_query(alloc, mapping, line)?;
+    }
+    Ok(lines.len())
+}
+
+fn read_documents(alloc: Global, mapping: &Mapping, lines: &[String]) -> Result<Vec<Doc>> {
+    let mut found = Vec::new(alloc);
+    for line in lines {
+        found.push(Doc::read(alloc, mapping, line.as_bytes())?)?;
+    }
+    Ok(found)
+}
+
+/// How many of the documents the query means.
+fn found(alloc: Global, mapping: &Mapping, query: &Query, docs: &[Doc]) -> Result<usize> {
+    let mut count: usize = 0;
+    for doc in docs {
+        if query.matches(alloc, mapping, doc)? {
+            count = count.checked_add(1).context("too many documents")?;
+        }
+    }
+    Ok(count)
+}
+
 fn task_named(name: &str) -> Result<Task> {
     match name {
         "documents" => Ok(Task::Documents),
         "words" => Ok(Task::Words),
-        _ => bail!("`documents` or `words` is wanted"),
+        "queries" => Ok(Task::Queries),
+        "found" => Ok(Task::Found),
+        _ => bail!("`documents`, `words`, `queries` or `found` is wanted"),
     }
 }
 
@@ -78,6 +115,31 @@ fn read_lines<R: BufRead + Drop>(alloc: Global, input: R) -> Result<Vec<String>>
     Ok(lines)
 }
 
+/// Does the task, and tells how many there are and how many microseconds it took.
+fn measured(
+    rt: &HostRuntime,
+    task: Task,
+    mapping: &Mapping,
+    lines: &[String],
+) -> Result<(usize, u128)> {
+    let alloc = rt.alloc();
+    if let Task::Found = task {
+        let (first, rest) = lines.split_first().context("a query is wanted")?;
+        let query = read_query(alloc, mapping, first)?;
+        let docs = read_documents(alloc, mapping, rest)?;
+        let start = Instant::now(rt)?;
+        let count = found(alloc, mapping, &query, &docs)?;
+        return Ok((count, start.elapsed(rt)?.as_micros()));
+    }
+    let start = Instant::now(rt)?;
+    let count = match task {
+        Task::Documents => documents(alloc, mapping, lines)?,
+        Task::Words => words(alloc, lines)?,
+        _ => queries(alloc, mapping, lines)?,
+    };
+    Ok((count, start.elapsed(rt)?.as_micros()))
+}
+
 fn main(rt: HostRuntime) -> Result<()> {
     let alloc = rt.alloc();
     let arguments: Vec<String> = env::args(&rt)?.collect(alloc)?;
@@ -85,15 +147,10 @@ fn main(rt: HostRuntime) -> Result<()> {
     let lines = read_lines(alloc, BufReader::new(alloc, rt.reader())?)?;
     let (first, rest) = lines.split_first().context("a mapping is wanted")?;
     let mapping = read_mapping(alloc, first)?;
-    let start = Instant::now(&rt)?;
-    let count = match task {
-        Task::Documents => documents(alloc, &mapping, rest)?,
-        Task::Words => words(alloc, rest)?,
-    };
-    let taken = start.elapsed(&rt)?;
+    let (count, micros) = measured(&rt, task, &mapping, rest)?;
     println!(rt; "{count}")?;
     if arguments.get(2).is_some_and(|word| word.as_str() == "time") {
-        println!(rt; "{} microseconds", taken.as_micros())?;
+        println!(rt; "{micros} microseconds")?;
     }
     Ok(())
 }

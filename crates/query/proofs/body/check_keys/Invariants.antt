@@ -1,7 +1,7 @@
 use Rattle.std.proofs.Common.{◌≡◌}
 use Rattle.serde_json.specs.View.{members_view}
 use Rattle.doc.specs.Mapping.{all_keys}
-use Rattle.query.specs.Reading.{is_body_key}
+use Rattle.query.specs.Body.{is_body_key}
 use Rattle.query.proofs.body.check_keys.Given as goal
 
 abbrev pub invariant-loop-name : goal.invariant-loop-name

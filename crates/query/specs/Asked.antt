@@ -1,0 +1,15 @@
+-- What is asked of the terms of a field, as it is handed on.
+use Rattle.std.specs.Prelude.{Bool}
+use Rattle.doc.specs.Scalar.{Scalar, is_scalar}
+use Rattle.doc.specs.ScalarView.{scalar_view, scalars_view}
+use Rattle.query.specs.declared.asked.Asked.{Asked}
+use Rattle.query.specs.declared.asked.Asked.TheVariants.{Is, IsOneOf, BeginsWith, IsWithin}
+use Rattle.query.specs.Meaning.{is_one_of, begins_with, is_within}
+use Rattle.query.specs.View.{bounds_view}
+
+-- whether a term is what is asked for
+abbrev pub passes : Asked → Scalar → Bool
+passes (Is v) t = is_scalar (scalar_view v.now) t
+passes (IsOneOf vs) t = is_one_of (scalars_view vs.now) t
+passes (BeginsWith p) t = begins_with p.now t
+passes (IsWithin b) t = is_within (bounds_view b.now) t

@@ -1,0 +1,8 @@
+-- The bounds of a range as they are handed on.
+use Rattle.std.specs.Prelude.{option_map}
+use Rattle.serde_json.specs.View.{view}
+use Rattle.query.specs.declared.leaves.Written.{Written}
+use Rattle.query.specs.Leaves as spec
+
+abbrev pub written_view : Written → spec.Written
+written_view w = record { gt = option_map (λ v. view v.now) w.gt; gte = option_map (λ v. view v.now) w.gte; lt = option_map (λ v. view v.now) w.lt; lte = option_map (λ v. view v.now) w.lte }
