@@ -4,3 +4,4 @@ pub mod Json
 pub mod Parts
 pub mod Long
 pub mod Outcomes
+pub mod Short

@@ -52,7 +52,7 @@ impl Doc {
             return Err(DocFault::NotObject);
         };
         let fields = fields_of(alloc, mapping, members)?;
-        let source = Source::new(alloc, text)?;
+        let source = Source::keep(alloc, text)?;
         Ok(Doc { source, fields })
     }
 

@@ -1,5 +1,5 @@
 -- Records, and the operations that a list of them leaves.
-use Rattle.std.specs.Prelude.{◌≡◌, ℕ, ℤ, negsuc, suc, ◌<◌, ◌≤◌, ◌^◌, ◌≤ℤ◌, List, [], ◌∷◌, ◌++◌, fold, take}
+use Rattle.std.specs.Prelude.{◌≡◌, ℕ, negsuc, suc, ◌<◌, ◌≤◌, ◌^◌, ◌≤ℤ◌, List, [], ◌∷◌, ◌++◌, fold, take}
 use Rattle.std.specs.List.{AllByRecursion}
 use Rattle.op.specs.declared.operation.Op.{Op}
 use Rattle.op.specs.declared.operation.Body.{Body}

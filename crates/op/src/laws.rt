@@ -1,11 +1,16 @@
 //! Laws of operations and documents. The functions do nothing: each has a law as its contract.
 
-ghost use Rattle.std.specs.Prelude.{◌≡◌, ◌≢◌, ℕ, ◌<◌, Bool, true, not, ◌&&◌, List, None, is_some, IsTrue, if◌then◌else◌};
+ghost use Rattle.std.specs.Prelude.{◌≡◌, ◌≢◌, ℕ, ◌<◌, Bool, true, not, ◌&&◌, ◌↔◌, ◌^◌, List, None, Ok, length, is_some, IsTrue, if◌then◌else◌};
 ghost use Rattle.std.specs.FinMap.Entries.{is_sorted};
 ghost use Rattle.doc.specs.Id.{Id, id_cmp};
 ghost use Rattle.op.specs.declared.operation.Op.{Op};
+ghost use Rattle.op.specs.declared.record.Record.{Record};
 ghost use Rattle.op.specs.Operations.{IsAscending, op_at, add, is_on, is_newer, last_on, local_count};
 ghost use Rattle.op.specs.Documents.{document_at, document_of, documents, left_by};
+ghost use Rattle.op.specs.Records.{IsRecord};
+ghost use Rattle.op.specs.Rules.{is_record};
+ghost use Rattle.op.specs.Format.{AreBytes, spelling, record_length, IsTyped};
+ghost use Rattle.op.specs.Reading.{record_of};
 
 /// The document at an id is what the last operation on it leaves.
 pub fn last_operation_decides()
@@ -32,4 +37,24 @@ pub fn documents_are_sorted()
 pub fn checkpoint_counts_what_is_there()
     ensures counted { (os : List Op) → IsAscending os → (n : ℕ) → n < local_count os → is_some (op_at os n) ≡ true }
     ensures no_more { (os : List Op) → IsAscending os → op_at os (local_count os) ≡ None }
+{}
+
+/// The test of the rules is yes exactly for a record that keeps them.
+pub fn rules_are_tested()
+    ensures { (r : Record) → IsTrue (is_record r) ↔ IsRecord r }
+{}
+
+/// What is read is spelt so, each byte of it, and keeps the rules: each record has one spelling.
+pub fn read_is_spelt()
+    ensures { (bytes : List ℕ) (r : Record) → AreBytes bytes → record_of bytes ≡ Ok r → (spelling r ≡ bytes) × IsRecord r × IsTyped r }
+{}
+
+/// What is spelt is read as the record that it was, where that keeps the rules.
+pub fn spelt_is_read()
+    ensures { (r : Record) → IsRecord r → IsTyped r → length (spelling r) < 2 ^ 32 → record_of (spelling r) ≡ Ok r }
+{}
+
+/// The length of a record's spelling.
+pub fn length_of_a_spelling()
+    ensures { (r : Record) → length (spelling r) ≡ record_length r }
 {}

@@ -1,0 +1,14 @@
+-- Why a record can't be written or read, apart from want of memory.
+use Rattle.std.specs.Prelude.{Option, Some, None}
+use Rattle.op.specs.declared.fault.OpFault.{OpFault}
+use Rattle.op.specs.declared.fault.OpFault.TheVariants.{Malformed, NoMemory, TooLarge}
+
+pub data Fault : Type 0 where
+  malformed : Fault
+  too_large : Fault
+
+-- nothing for want of memory
+abbrev pub fault_of : OpFault → Option Fault
+fault_of Malformed = Some malformed
+fault_of NoMemory = None
+fault_of TooLarge = Some too_large

@@ -1,0 +1,47 @@
+-- The rules of records as tests.
+use Rattle.std.specs.Prelude.{ℕ, ℤ, negsuc, suc, ◌^◌, Bool, true, false, ◌&&◌, ◌==◌, nat_lt, nat_le, int_le, List, [], ◌∷◌}
+use Rattle.op.specs.declared.operation.Op.{Op}
+use Rattle.op.specs.declared.operation.Body.{Body}
+use Rattle.op.specs.declared.operation.Body.TheVariants.{Index, Delete, NoOp}
+use Rattle.op.specs.declared.record.Record.{Record}
+use Rattle.op.specs.declared.record.Record.TheVariants.{Op as Kept, Resync, Recover}
+use Rattle.op.specs.Checkpoint.{known}
+
+-- at most 9,223,372,036,854,775,807
+abbrev pub is_small : ℕ → Bool
+is_small n = nat_lt n (2 ^ 63)
+
+abbrev pub is_term : ℕ → Bool
+is_term n = nat_lt 0 n && is_small n
+
+-- a checkpoint is at least -1
+abbrev pub is_checkpoint : ℤ → Bool
+is_checkpoint g = int_le (negsuc 0) g
+
+-- versions begin at 1; an operation that does nothing has none
+abbrev pub is_version : Body → ℕ → Bool
+is_version (Index id source) version = nat_lt 0 version
+is_version (Delete id) version = nat_lt 0 version
+is_version NoOp version = version == 0
+
+abbrev pub is_write : Body → Bool
+is_write (Index id source) = true
+is_write (Delete id) = true
+is_write NoOp = false
+
+abbrev pub is_operation : Op → Bool
+is_operation o = is_small o.seq && (is_term o.term && (is_version o.body o.version && is_small o.version))
+
+-- an operation of number n, of this term or an older one
+abbrev pub is_next : ℕ → ℕ → Op → Bool
+is_next term n o = (o.seq == n) && (is_operation o && nat_le o.term term)
+
+-- operations from number n up without a gap
+abbrev pub is_history : ℕ → ℕ → List Op → Bool
+is_history term n [] = true
+is_history term n (o ∷ os) = is_next term n o && is_history term (suc n) os
+
+abbrev pub is_record : Record → Bool
+is_record (Kept g o) = is_checkpoint g && (is_operation o && is_write o.body)
+is_record (Resync term g os) = is_checkpoint g && (is_term term && is_history term (known g) os)
+is_record (Recover term os) = is_term term && is_history term 0 os

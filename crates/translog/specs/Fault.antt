@@ -1,0 +1,24 @@
+-- What is wrong with a log or a content, apart from want of memory and a device's failure.
+use Rattle.std.specs.Prelude.{ℕ, Option, Some, None}
+use Rattle.translog.specs.declared.fault.LogFault.{LogFault}
+use Rattle.translog.specs.declared.fault.LogFault.TheVariants.{BadMagic, Damaged, Device, NoMemory, TooLarge}
+use Rattle.translog.specs.declared.device.DeviceFault.{DeviceFault}
+use Rattle.translog.specs.declared.device.DeviceFault.TheVariants as devices
+
+pub data Fault : Type 0 where
+  bad_magic : Fault
+  damaged : ℕ → Fault
+  too_large : Fault
+
+-- nothing for want of memory and for a device's failure
+abbrev pub fault_of : LogFault → Option Fault
+fault_of BadMagic = Some bad_magic
+fault_of (Damaged offset) = Some (damaged offset)
+fault_of Device = None
+fault_of NoMemory = None
+fault_of TooLarge = Some too_large
+
+-- what a device's fault is to a log
+abbrev pub of_device : DeviceFault → LogFault
+of_device devices.NoMemory = NoMemory
+of_device devices.Failed = Device

@@ -1,0 +1,5 @@
+pub mod Device
+pub mod Memory
+pub mod Fault
+pub mod Frames
+pub mod Kept

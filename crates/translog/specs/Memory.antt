@@ -1,0 +1,7 @@
+-- A device in memory.
+use Rattle.std.specs.Prelude.{ℕ, ◌-◌, vec_len, vec_capacity}
+use Rattle.translog.specs.declared.memory.MemDevice.{MemDevice}
+
+-- how many bytes can be appended without growth
+abbrev pub spare : MemDevice → ℕ
+spare m = vec_capacity m.bytes - vec_len m.bytes

@@ -1,0 +1,74 @@
+//! What holds a log.
+ghost use Rattle.std.specs.Prelude.{◌≡◌, ◌≤◌, ◌++◌, Bool, true, List, ℕ, ◌⊎◌, length, take, IfOk, IsOk, OnOk, OnErr, IsErrOf};
+ghost use Rattle.translog.specs.declared.device.DeviceFault.TheVariants.{Failed as Broken};
+ghost use Rattle.translog.specs.Device.{AddsFront, Rises};
+
+use std::alloc::{AllocError, Global};
+
+/// The device failed, and counted it.
+#[derive(Clone, Copy, Debug, PartialEq, Eq)]
+pub struct Failed;
+
+/// Why the bytes of a device couldn't be read.
+#[derive(Clone, Copy, Debug, PartialEq, Eq)]
+pub enum DeviceFault {
+    NoMemory,
+    Failed,
+}
+
+impl From<AllocError> for DeviceFault {
+    ghost use Rattle.translog.specs.declared.device.DeviceFault.TheVariants.{NoMemory};
+
+    ghost from_gives = { λ _ e. e ≡ NoMemory };
+
+    fn from(_refused: AllocError) -> DeviceFault {
+        DeviceFault::NoMemory
+    }
+}
+
+/// A list of bytes that grows at its end, in memory or in a file.
+pub trait LogDevice: Drop {
+    /// The bytes that it holds.
+    ghost held: { Self → List ℕ };
+
+    /// How many bytes the room that was made takes.
+    ghost room: { Self → ℕ };
+
+    /// How often it has failed, up to the greatest `u64`.
+    ghost failures: { Self → ℕ };
+
+    /// Whether it is in memory: then an append within the room doesn't fail.
+    ghost in_memory: { Bool };
+
+    /// Makes room for so many bytes more. A device that isn't in memory has nothing to do.
+    fn reserve(&mut self, additional: usize) -> Result<(), AllocError>
+        ensures held { held self.new ≡ held self.old }
+        ensures failures { failures self.new ≡ failures self.old }
+        ensures room { OnOk result (additional ≤ room self.new) };
+
+    /// Adds a piece at the end, for good: at `Ok` it is there after a crash too. Where it fails, a front of the piece may be added.
+    fn append(&mut self, piece: &[u8]) -> Result<(), Failed>
+        ensures ok { OnOk result (held self.new ≡ held self.old ++ piece.now) }
+        ensures err { OnErr result (AddsFront (held self.old) piece.now (held self.new)) }
+        ensures risen { OnErr result (Rises (failures self.old) (failures self.new)) }
+        ensures counts { failures self.old ≤ failures self.new }
+        ensures in_memory { in_memory ≡ true → length piece.now ≤ room self.old → IsOk result };
+
+    /// All its bytes.
+    fn read_all(&mut self, alloc: Global) -> Result<Vec<u8>, DeviceFault>
+        ensures bytes { IfOk result (λ bytes. bytes.items ≡ held self.old) }
+        ensures held { held self.new ≡ held self.old }
+        ensures risen { IsErrOf result Broken → Rises (failures self.old) (failures self.new) }
+        ensures counts { failures self.old ≤ failures self.new };
+
+    /// Keeps its first bytes, so many, and drops the others. Where it fails, all of them or those are left.
+    fn cut(&mut self, len: usize) -> Result<(), Failed>
+        ensures ok { OnOk result (held self.new ≡ take len (held self.old)) }
+        ensures err { OnErr result ((held self.new ≡ held self.old) ⊎ (held self.new ≡ take len (held self.old))) }
+        ensures risen { OnErr result (Rises (failures self.old) (failures self.new)) }
+        ensures counts { failures self.old ≤ failures self.new };
+
+    /// How often it has failed. At its greatest value the count stays.
+    fn faults(&self) -> u64
+        ensures { result ≡ failures self.now };
+}

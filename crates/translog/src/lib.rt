@@ -1,0 +1,15 @@
+//! Logs on a device: frames behind a header, and the translog, whose frames are records.
+#![tactic(auto)]
+
+pub mod device;
+pub mod fault;
+pub mod frames;
+pub mod laws;
+pub mod log;
+pub mod memory;
+
+pub use device::{DeviceFault, Failed, LogDevice};
+pub use fault::LogFault;
+pub use frames::{Frame, Frames};
+pub use log::Translog;
+pub use memory::MemDevice;
