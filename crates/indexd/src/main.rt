@@ -3,7 +3,6 @@
 
 mod command;
 mod fault;
-pub mod laws;
 mod playing;
 mod program;
 mod refusal;
