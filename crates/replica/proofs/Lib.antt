@@ -1,0 +1,4 @@
+pub mod Writes
+pub mod Settled
+pub mod LogLaws
+pub mod Steps
