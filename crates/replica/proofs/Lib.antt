@@ -2,3 +2,4 @@ pub mod Writes
 pub mod Settled
 pub mod LogLaws
 pub mod Steps
+pub mod Versions

@@ -1,5 +1,6 @@
 -- A copy with its log, and a step that is ready.
-use Rattle.std.specs.Prelude.{◌≡◌, ◌<◌, ◌⊎◌, length, ℕ, Bool, true, false, List, Result, Ok, Err}
+use Rattle.std.specs.Prelude.{◌≡◌, ◌<◌, ◌⊎◌, length, ℕ, Bool, true, false, List, Option, Some, None, Result, Ok, Err}
+use Rattle.engine.specs.Answer.{SnapshotData}
 use Rattle.engine.specs.Staged.{Fits, records_of}
 use Rattle.op.specs.declared.record.Record.{Record}
 use Rattle.translog.specs.Fault as log
@@ -41,6 +42,13 @@ output_of (Answered output) = output
 output_of (Kept frame p) = p.output
 output_of (Shown staged output) = output
 output_of (Restarted r output) = output
+
+-- what searches show then, where that is new
+abbrev pub new_snapshot : Prepared → Option SnapshotData
+new_snapshot (Answered output) = None
+new_snapshot (Kept frame p) = None
+new_snapshot (Shown staged output) = Some staged.snapshot
+new_snapshot (Restarted r output) = Some r.staged.snapshot
 
 -- what the step gives, once it is done
 abbrev pub prepared_step : Copy → Prepared → Stepped

@@ -1,5 +1,5 @@
 //! A copy of the shard.
-ghost use Rattle.std.specs.Prelude.{◌≡◌, ◌⊎◌, ◌||◌, true, false, [], Ok, Err, IfOk, IfErr, IsErrOf, IfSome, IfNone, OnOk};
+ghost use Rattle.std.specs.Prelude.{◌≡◌, ◌⊎◌, ◌||◌, true, false, [], is_some, IsOk, Ok, Err, IfOk, IfErr, IsErrOf, IfSome, IfNone, OnOk};
 ghost use Rattle.std.specs.Arc.{arc_value};
 ghost use Rattle.op.specs.Documents.{documents};
 ghost use Rattle.op.specs.Records.{shown};
@@ -44,7 +44,7 @@ impl<D: LogDevice> Model for Copy<D> {
 }
 
 impl<D: LogDevice> Copy<D> {
-    ghost use Rattle.replica.specs.Logged.{HasRecords, IsClosed, IsFound, IsReady, IsRefused, IsSame, is_restart, output_of, prepared_copy, prepared_step};
+    ghost use Rattle.replica.specs.Logged.{HasRecords, IsClosed, IsFound, IsReady, IsRefused, IsSame, is_restart, new_snapshot, output_of, prepared_copy, prepared_step};
     ghost use Rattle.replica.specs.Copy.{begun, opened};
     ghost use Rattle.replica.specs.Standing.{placed};
     ghost use Rattle.replica.specs.Step.{copy_step, stepped};
@@ -232,6 +232,7 @@ impl<D: LogDevice> Copy<D> {
         ensures copy { OnOk result (self.new.copy ≡ prepared_copy self.old.copy prepared) }
         ensures open { OnOk result (self.old.closed ≡ false → self.new.closed ≡ false) }
         ensures cause { IfErr result (λ e. (e ≡ NoMemory) ⊎ (e ≡ Log Device)) }
+        ensures shown { is_some (new_snapshot prepared) ≡ true → IsOk result }
         ensures memory { IsErrOf result NoMemory → self.new ≡ self.old }
         ensures closed { IsErrOf result (Log Device) → IsClosed self.old self.new (prepared_copy self.old.copy prepared) }
     {

@@ -4,12 +4,15 @@
 pub mod copy;
 pub mod fault;
 pub mod input;
+pub mod laws;
 mod opening;
 pub mod output;
 pub mod planned;
 pub mod prepared;
 pub mod role;
 mod state;
+#[cfg(test)]
+mod tests;
 mod writing;
 
 pub use copy::Copy;

@@ -1,10 +1,14 @@
 //! A step that is ready.
 ghost use Rattle.std.specs.Prelude.{◌≡◌};
-ghost use Rattle.replica.specs.Logged.{output_of};
+ghost use Rattle.std.specs.Option.{option_map};
+ghost use Rattle.std.specs.Arc.{arc_value};
+ghost use Rattle.replica.specs.Logged.{new_snapshot, output_of};
 
 use crate::output::Output;
 use crate::planned::{Planned, Reopened};
-use engine::Staged;
+use engine::{Snapshot, Staged};
+use std::alloc::Global;
+use std::sync::Arc;
 use translog::Frame;
 
 /// A step that is ready, and changes nothing until it is committed.
@@ -30,6 +34,18 @@ impl Prepared {
             Prepared::Kept(_, planned) => &planned.output,
             Prepared::Shown(_, output) => output,
             Prepared::Restarted(_, output) => output,
+        }
+    }
+
+    /// What searches show once the step is committed, where it is a refresh or a restart.
+    pub fn snapshot(&self) -> Option<&Arc<Snapshot, Global>>
+        ensures { option_map (λ s. arc_value s.now) result ≡ new_snapshot self.now }
+    {
+        match self {
+            Prepared::Answered(_) => None,
+            Prepared::Kept(_, _) => None,
+            Prepared::Shown(staged, _) => Some(staged.snapshot()),
+            Prepared::Restarted(reopened, _) => Some(reopened.staged.snapshot()),
         }
     }
 }
