@@ -8,9 +8,9 @@ use Rattle.std.proofs.lemmas.List.{append-nil, take_at, drop_at, take-append-dro
 use Rattle.std.proofs.Math.Seq.{take-append-add}
 use Rattle.std.proofs.lemmas.Nat.{from_le_bytes-to_le_bytes_4}
 use Rattle.std.proofs.lemmas.Slice.Eq.{bytes_eq-Decides}
-use Rattle.std.specs.Prelude.{◌⊎◌}
+use Rattle.std.specs.Prelude.{◌⊎◌, Result}
 use Rattle.translog.specs.Device.{AddsFront}
-use Rattle.translog.specs.Fault.{bad_magic}
+use Rattle.translog.specs.Fault.{Fault, bad_magic}
 use Rattle.translog.specs.Frames.{framed, log_of, first_frame, and_then, contents_within, contents_of, contents_in, AreContents, IsLog}
 
 -- a whole frame in front is read again
@@ -124,6 +124,24 @@ after_cut header held read new cs rest four is small found (inr e) = ap (content
 
 pub cut_log : (header held read new : List ℕ) (cs : List (List ℕ)) (rest : List ℕ) → read ≡ held → AreContents cs → held ≡ log_of header cs ++ rest → new ≡ take (length read - length rest) held → IsLog header new cs
 cut_log header held read new cs rest is small whole e = record { whole = e ∙ log_front header cs rest held (length read - length rest) whole (front_length header held read cs rest is whole); small = small }
+
+-- ---- a log of whole frames stays
+
+same_contents : (cs ds : List (List ℕ)) → (let r : Result (List (List ℕ)) Fault = Ok cs in r) ≡ Ok ds → cs ≡ ds
+same_contents cs ds e = cc
+
+pub not_short : (header held read : List ℕ) (cs : List (List ℕ)) → length header ≡ 4 → read ≡ held → IsLog header held cs → length read < 4 → ⊥
+not_short header held read cs four is log lt = omega (arith, ap length is, ap length log.whole, length-append header (flat_map framed cs))
+
+pub stays_cut : (header held read new : List ℕ) (cs found : List (List ℕ)) (rest : List ℕ) → length header ≡ 4 → read ≡ held → IsLog header held cs
+    → (contents_in header held ≡ Ok found) × (held ≡ log_of header found ++ rest) → (new ≡ held) ⊎ (new ≡ take (length read - length rest) held) → new ≡ held
+stays_cut header held read new cs found rest four is log was (inl e) = e
+stays_cut header held read new cs found rest four is log was (inr e) =
+    let own : contents_in header held ≡ Ok cs = ap (contents_in header) log.whole ∙ whole_log header cs four log.small in
+    let same : found ≡ cs = same_contents found cs (sym was.0 ∙ own) in
+    let one : length held ≡ length (log_of header found ++ rest) = ap length was.1 in
+    let other : length held ≡ length (log_of header found) = ap length (log.whole ∙ ap (log_of header) (sym same)) in
+    e ∙ take_all (length read - length rest) held (omega (arith, ap length is, one, other, length-append (log_of header found) rest))
 
 -- ---- a front of a frame that isn't the whole of it
 

@@ -167,3 +167,7 @@ log_kept h new bytes held cs named is log found =
 pub on_err_is : {T E P : Type 0} (r : Result T E) → P → OnErr r P
 on_err_is (Ok x) p = tt
 on_err_is (Err e) p = p
+
+-- a translog is a log of the spellings of its records
+pub log_of_translog : (h bytes held : List ℕ) (rs : List Record) → h ≡ header → bytes ≡ held → IsTranslog held rs → IsLog h bytes (map spelling rs)
+log_of_translog h bytes held rs named is log = record { whole = is ∙ log.whole ∙ ap (λ x. log_of x (map spelling rs)) (sym named); small = small_contents rs log.each }

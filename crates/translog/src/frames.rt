@@ -93,13 +93,15 @@ impl<D: LogDevice> Frames<D> {
         Ok((frames, contents))
     }
 
-    /// Opens the log again, as after a failed `append`. Where it is refused, the device's bytes stand for the same contents or fault as before.
+    /// Opens the log again, as after a failed `append`. Where it is refused, the device's bytes stand for the same contents or fault as before;
+    /// those of whole frames stay as they are.
     pub fn reopen(&mut self, alloc: Global) -> Result<Vec<Vec<u8>>, LogFault>
         ensures found { Gives fault_of (λ cs. map (λ c. c.items) cs.items) result (contents_in self.old.header (D.held self.old.device)) }
         ensures whole { IfOk result (λ cs. IsLog self.old.header (D.held self.new.device) (map (λ c. c.items) cs.items)) }
         ensures offsets { OnOk result (length (D.held self.new.device) < 2 ^ 64) }
         ensures header { self.new.header ≡ self.old.header }
         ensures err { OnErr result (contents_in self.old.header (D.held self.new.device) ≡ contents_in self.old.header (D.held self.old.device)) }
+        ensures stays { (cs : List (List ℕ)) → IsLog self.old.header (D.held self.old.device) cs → D.held self.new.device ≡ D.held self.old.device }
         ensures failed { IsErrOf result Device → Rises (D.failures self.old.device) (D.failures self.new.device) }
         ensures counts { D.failures self.old.device ≤ D.failures self.new.device }
     {
@@ -162,6 +164,7 @@ fn opened<D: LogDevice>(
     ensures whole { IfOk result (λ cs. IsLog header.now (D.held device.new) (map (λ c. c.items) cs.items)) }
     ensures offsets { OnOk result (length (D.held device.new) < 2 ^ 64) }
     ensures err { OnErr result (contents_in header.now (D.held device.new) ≡ contents_in header.now (D.held device.old)) }
+    ensures stays { (cs : List (List ℕ)) → IsLog header.now (D.held device.old) cs → D.held device.new ≡ D.held device.old }
     ensures failed { IsErrOf result Device → Rises (D.failures device.old) (D.failures device.new) }
     ensures counts { D.failures device.old ≤ D.failures device.new }
 {

@@ -1,7 +1,8 @@
 //! The translog: a log of records.
-ghost use Rattle.std.specs.Prelude.{◌≡◌, ◌≤◌, ◌<◌, ◌+◌, ◌^◌, ◌++◌, true, length, map, All, Ok, Err, if◌then◌else◌, IfOk, IsOk, IfErr, OnOk, OnErr, IsErrOf};
+ghost use Rattle.std.specs.Prelude.{◌≡◌, ◌≤◌, ◌<◌, ◌+◌, ◌^◌, ◌++◌, true, List, length, map, All, Ok, Err, if◌then◌else◌, IfOk, IsOk, IfErr, OnOk, OnErr, IsErrOf};
 ghost use Rattle.std.specs.List.{flat_map, AllByRecursion};
 ghost use Rattle.doc.specs.Outcome.{Gives};
+ghost use Rattle.op.specs.declared.record.Record.{Record};
 ghost use Rattle.op.specs.Format.{spelling, is_too_large};
 ghost use Rattle.op.specs.Reading.{record_of};
 ghost use Rattle.op.specs.Records.{IsRecord};
@@ -55,12 +56,14 @@ impl<D: LogDevice> Translog<D> {
         Ok((log, records))
     }
 
-    /// Opens it again, as after a failed `append`. Where it is refused, the device's bytes stand for the same records or fault as before.
+    /// Opens it again, as after a failed `append`. Where it is refused, the device's bytes stand for the same records or fault as before;
+    /// those of whole frames stay as they are.
     pub fn reopen(&mut self, alloc: Global) -> Result<Vec<Record>, LogFault>
         ensures found { Gives fault_of (λ rs. rs.items) result (kept (D.held self.old)) }
         ensures whole { IfOk result (λ rs. IsTranslog (D.held self.new) rs.items) }
         ensures rules { IfOk result (λ rs. All IsRecord rs.items) }
         ensures err { OnErr result (kept (D.held self.new) ≡ kept (D.held self.old)) }
+        ensures stays { (rs : List Record) → IsTranslog (D.held self.old) rs → D.held self.new ≡ D.held self.old }
         ensures failed { IsErrOf result Device → Rises (D.failures self.old) (D.failures self.new) }
         ensures counts { D.failures self.old ≤ D.failures self.new }
     {

@@ -1,8 +1,9 @@
-use Rattle.std.proofs.Common.{◌≡◌, ap, map}
+use Rattle.std.proofs.Common.{◌≡◌, ap, ◌∙◌, map}
 use Rattle.std.proofs.lemmas.Result.{err_from_is_err_and}
+use Rattle.op.specs.Format.{spelling}
 use Rattle.translog.specs.Fault.{fault_of}
 use Rattle.translog.specs.Kept.{kept, records_from}
-use Rattle.translog.proofs.RecordsLaws.{fails_kept, same_kept, found_kept, on_err_is, log_kept}
+use Rattle.translog.proofs.RecordsLaws.{fails_kept, same_kept, found_kept, on_err_is, log_kept, log_of_translog}
 use Rattle.translog.proofs.log.Translog.reopen.Goals as goal
 
 pub returns-in_err-contents-clause-found : goal.returns-in_err-contents-clause-found
@@ -23,3 +24,13 @@ returns-clause-found g c =
 pub returns-clause-err : goal.returns-clause-err
 returns-clause-err g c =
     on_err_is c.records_of.result (log_kept c.self.inside.frames.header _ _ _ _ c.self.invariant (ap g.D.LogDevice.held c.self.view_is) c.in_ok-contents.ensures.whole c.in_ok-contents.ensures.found)
+
+pub returns-in_err-contents-clause-stays : goal.returns-in_err-contents-clause-stays
+returns-in_err-contents-clause-stays g c rs log =
+    let held = ap g.D.LogDevice.held c.self.view_is in
+    c.in_err-contents.ensures.stays (map spelling rs) (log_of_translog c.self.inside.frames.header _ _ rs c.self.invariant held log) ∙ held
+
+pub returns-clause-stays : goal.returns-clause-stays
+returns-clause-stays g c rs log =
+    let held = ap g.D.LogDevice.held c.self.view_is in
+    c.in_ok-contents.ensures.stays (map spelling rs) (log_of_translog c.self.inside.frames.header _ _ rs c.self.invariant held log) ∙ held

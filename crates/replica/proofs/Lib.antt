@@ -1,0 +1,5 @@
+pub mod Writes
+pub mod Settled
+pub mod LogLaws
+pub mod Steps
+pub mod Versions

@@ -1,0 +1,61 @@
+use Rattle.std.proofs.Common.{◌≡◌, ◌∙◌, List, option_map, Ok, subst, ap, sym}
+use Rattle.std.specs.Prelude.{Bool}
+use Rattle.std.proofs.lemmas.Result.{err_from_is_err_and}
+use Rattle.op.specs.Operations.{last_on}
+use Rattle.engine.specs.Last.{last_of}
+use Rattle.replica.specs.declared.fault.CopyFault.{CopyFault}
+use Rattle.replica.specs.declared.role.Role.TheVariants.{Primary}
+use Rattle.replica.specs.Copy.{Copy, operations}
+use Rattle.replica.specs.Planned.{faults_by, plan_faults}
+use Rattle.replica.specs.Standing.{IsStanding}
+use Rattle.doc.specs.Outcome.{Fails}
+use Rattle.replica.specs.Fault.{fault_of}
+use Rattle.replica.specs.Step.{first_fault}
+use Rattle.replica.proofs.Writes.{write_refused, write_accepted, faults-last, next_op, version_of-last, is_live-last}
+use Rattle.replica.proofs.state.State.plan.Goals as goal
+
+pub returns-in_err-check-clause-gives : goal.returns-in_err-check-clause-gives
+returns-in_err-check-clause-gives c =
+    let s = c.args.self.now in
+    let w = c.args.write in
+    let known : c.self.inside.known ≡ s.known = ap (λ (x : Copy). x.known) c.self.view_is in
+    let last : c.last-last.result ≡ option_map last_of (last_on (operations s) w.id) = c.last-last.ensures ∙ ap (λ (x : Copy). option_map last_of (last_on (operations x) w.id)) c.self.view_is in
+    let primary : s.role ≡ Primary c.in-Primary.lead = sym (ap (λ (x : Copy). x.role) c.self.view_is) ∙ c.in-Primary.is in
+    let p = err_from_is_err_and c.from_residual.result c.from_residual.ensures.1 in
+    let same : faults_by c.self.inside.known c.next_seq-seq.result c.last-last.result w.kind ≡ plan_faults s w = rw (known, c.next_seq-seq.ensures.next, last) (faults-last s w) in
+    rw (p.1, p.2) (write_refused s c.in-Primary.lead w c.in_err-check.field-0.0 primary (subst (λ (fs : List (Bool × CopyFault)). Fails fault_of c.in_err-check.field-0.0 (first_fault fs)) same c.in_err-check.ensures.gives))
+
+pub planned-requires : goal.planned-requires
+planned-requires c =
+    let s = c.args.self.now in
+    let w = c.args.write in
+    let known : c.self.inside.known ≡ s.known = ap (λ (x : Copy). x.known) c.self.view_is in
+    let term : c.self.inside.term ≡ s.term = ap (λ (x : Copy). x.term) c.self.view_is in
+    let last : c.last-last.result ≡ option_map last_of (last_on (operations s) w.id) = c.last-last.ensures ∙ ap (λ (x : Copy). option_map last_of (last_on (operations x) w.id)) c.self.view_is in
+    let primary : s.role ≡ Primary c.in-Primary.lead = sym (ap (λ (x : Copy). x.role) c.self.view_is) ∙ c.in-Primary.is in
+    let stands : IsStanding s = subst (λ (x : Copy). IsStanding x) c.self.view_is c.self.invariant in
+    let same : faults_by c.self.inside.known c.next_seq-seq.result c.last-last.result w.kind ≡ plan_faults s w = rw (known, c.next_seq-seq.ensures.next, last) (faults-last s w) in
+    let none = subst (λ (fs : List (Bool × CopyFault)). first_fault fs ≡ Ok c.in_ok-check.field-0) same c.in_ok-check.ensures.gives in
+    rw (c.next_seq-seq.ensures.next, term, c.version_after.ensures, last, version_of-last (last_on (operations s) w.id), c.body.ensures)
+    (next_op s c.in-Primary.lead w c.in_ok-check.field-0 stands primary c.next_seq-seq.ensures.up none)
+
+pub returns-clause-gives : goal.returns-clause-gives
+returns-clause-gives c =
+    let s = c.args.self.now in
+    let w = c.args.write in
+    let known : c.self.inside.known ≡ s.known = ap (λ (x : Copy). x.known) c.self.view_is in
+    let term : c.self.inside.term ≡ s.term = ap (λ (x : Copy). x.term) c.self.view_is in
+    let last : c.last-last.result ≡ option_map last_of (last_on (operations s) w.id) = c.last-last.ensures ∙ ap (λ (x : Copy). option_map last_of (last_on (operations x) w.id)) c.self.view_is in
+    let primary : s.role ≡ Primary c.in-Primary.lead = sym (ap (λ (x : Copy). x.role) c.self.view_is) ∙ c.in-Primary.is in
+    let same : faults_by c.self.inside.known c.next_seq-seq.result c.last-last.result w.kind ≡ plan_faults s w = rw (known, c.next_seq-seq.ensures.next, last) (faults-last s w) in
+    let none = subst (λ (fs : List (Bool × CopyFault)). first_fault fs ≡ Ok c.in_ok-check.field-0) same c.in_ok-check.ensures.gives in
+    let gives = rw (c.next_seq-seq.ensures.next, term, c.version_after.ensures, c.outcome-outcome.ensures, c.is_live.ensures, last, version_of-last (last_on (operations s) w.id), is_live-last (last_on (operations s) w.id), c.body.ensures) at c.in_ok-planned.ensures.gives in
+    write_accepted s c.in-Primary.lead w c.in_ok-check.field-0 primary none ∙ ap Ok (sym gives)
+
+pub returns-clause-kept : goal.returns-clause-kept
+returns-clause-kept c =
+    let s = c.args.self.now in
+    let w = c.args.write in
+    let term : c.self.inside.term ≡ s.term = ap (λ (x : Copy). x.term) c.self.view_is in
+    let last : c.last-last.result ≡ option_map last_of (last_on (operations s) w.id) = c.last-last.ensures ∙ ap (λ (x : Copy). option_map last_of (last_on (operations x) w.id)) c.self.view_is in
+    rw (c.next_seq-seq.ensures.next, term, c.version_after.ensures, last, version_of-last (last_on (operations s) w.id), c.body.ensures) at c.in_ok-planned.ensures.kept

@@ -1,0 +1,48 @@
+-- The refusals of a step, apart from want of memory and faults of the log.
+use Rattle.std.specs.Prelude.{Bool, true, false, Option, Some, None}
+use Rattle.translog.specs.declared.fault.LogFault.{LogFault}
+use Rattle.translog.specs.declared.fault.LogFault.TheVariants.{BadMagic, Damaged, Device, NoMemory as OutOfMemory, TooLarge}
+use Rattle.translog.specs.Fault as log
+use Rattle.replica.specs.declared.fault.CopyFault.{CopyFault}
+use Rattle.replica.specs.declared.fault.CopyFault.TheVariants.{NotPrimary, VersionConflict, WindowFull, Mismatch, Closed, Log, NoMemory, Exhausted}
+
+-- nothing for want of memory and for a fault of the log
+abbrev pub fault_of : CopyFault → Option CopyFault
+fault_of NotPrimary = Some NotPrimary
+fault_of VersionConflict = Some VersionConflict
+fault_of WindowFull = Some WindowFull
+fault_of Mismatch = Some Mismatch
+fault_of Closed = Some Closed
+fault_of (Log f) = None
+fault_of NoMemory = None
+fault_of Exhausted = Some Exhausted
+
+-- what a fault of the log is to a copy
+abbrev pub of_log : LogFault → CopyFault
+of_log BadMagic = Log BadMagic
+of_log (Damaged offset) = Log (Damaged offset)
+of_log Device = Log Device
+of_log OutOfMemory = NoMemory
+of_log TooLarge = Exhausted
+
+-- whether a fault is one of the log
+abbrev pub is_log : CopyFault → Bool
+is_log NotPrimary = false
+is_log VersionConflict = false
+is_log WindowFull = false
+is_log Mismatch = false
+is_log Closed = false
+is_log (Log f) = true
+is_log NoMemory = false
+is_log Exhausted = false
+
+-- why the log gives no records; nothing for want of memory, for a failure of its device, and for refusals of other kinds
+abbrev pub log_fault_of : CopyFault → Option log.Fault
+log_fault_of NotPrimary = None
+log_fault_of VersionConflict = None
+log_fault_of WindowFull = None
+log_fault_of Mismatch = None
+log_fault_of Closed = None
+log_fault_of (Log f) = log.fault_of f
+log_fault_of NoMemory = None
+log_fault_of Exhausted = Some log.too_large

@@ -1,0 +1,95 @@
+-- A copy with its log, and a step that is ready.
+use Rattle.std.specs.Prelude.{◌≡◌, ◌<◌, ◌⊎◌, length, ℕ, Bool, true, false, List, Option, Some, None, Result, Ok, Err}
+use Rattle.engine.specs.Answer.{SnapshotData}
+use Rattle.engine.specs.Staged.{Fits, records_of}
+use Rattle.op.specs.declared.record.Record.{Record}
+use Rattle.translog.specs.Fault as log
+use Rattle.translog.specs.Device.{Rises}
+use Rattle.translog.specs.Kept.{kept, IsTranslog, IsSpelt, record_frame}
+use Rattle.replica.specs.declared.fault.CopyFault.{CopyFault}
+use Rattle.replica.specs.declared.fault.CopyFault.TheVariants.{Closed}
+use Rattle.replica.specs.declared.input.Input.{Input}
+use Rattle.replica.specs.declared.input.Input.TheVariants.{Write, Refresh, Get, Restart}
+use Rattle.replica.specs.declared.output.Output.{Output}
+use Rattle.replica.specs.declared.prepared.Prepared.{Prepared}
+use Rattle.replica.specs.declared.prepared.Prepared.TheVariants.{Answered, Kept, Shown, Restarted}
+use Rattle.replica.specs.Copy.{Copy, opened}
+use Rattle.replica.specs.Planned.{IsPlanned}
+use Rattle.replica.specs.Staged.{contents, reopened_by, shown_by}
+use Rattle.replica.specs.Standing.{IsStanding, placed}
+use Rattle.replica.specs.Step.{Stepped, stepped}
+
+-- a copy, whether its log has failed, the bytes of the log, and how often its device has failed
+pub record Logged : Type 0 where
+  pub copy : Copy
+  pub closed : Bool
+  pub log : List ℕ
+  pub failures : ℕ
+
+-- the log is that of the copy's records
+abbrev pub IsLogged : Logged → Type 0
+IsLogged l = l.closed ≡ false → IsTranslog l.log l.copy.records
+
+-- what is ready to be done to the copy
+abbrev pub prepared_copy : Copy → Prepared → Copy
+prepared_copy c (Answered output) = c
+prepared_copy c (Kept frame p) = placed c p.kept p.known p.role
+prepared_copy c (Shown staged output) = shown_by c staged
+prepared_copy c (Restarted r output) = reopened_by c r
+
+abbrev pub output_of : Prepared → Output
+output_of (Answered output) = output
+output_of (Kept frame p) = p.output
+output_of (Shown staged output) = output
+output_of (Restarted r output) = output
+
+-- what searches show then, where that is new
+abbrev pub new_snapshot : Prepared → Option SnapshotData
+new_snapshot (Answered output) = None
+new_snapshot (Kept frame p) = None
+new_snapshot (Shown staged output) = Some staged.snapshot
+new_snapshot (Restarted r output) = Some r.staged.snapshot
+
+-- what the step gives, once it is done
+abbrev pub prepared_step : Copy → Prepared → Stepped
+prepared_step c p = stepped (prepared_copy c p) (output_of p)
+
+-- the step is ready for this copy: it was prepared last
+abbrev pub IsReady : Logged → Prepared → Type 0
+IsReady l (Answered output) = Unit {0}
+IsReady l (Kept frame p) = (l.closed ≡ false) × IsPlanned l.copy p × (record_frame p.kept ≡ Ok frame) × IsSpelt p.kept
+IsReady l (Shown staged output) = Fits (contents l.copy) staged × (records_of l.copy.records staged.records ≡ l.copy.records)
+IsReady l (Restarted r output) = Fits (contents l.copy) r.staged × IsStanding (reopened_by l.copy r) × IsTranslog l.log (reopened_by l.copy r).records
+
+abbrev pub is_restart : Input → Bool
+is_restart (Write w) = false
+is_restart Refresh = false
+is_restart (Get id) = false
+is_restart Restart = true
+
+-- while it is closed a copy takes a restart alone
+abbrev pub IsRefused : Input → Result Prepared CopyFault → Type 0
+IsRefused input result = is_restart input ≡ false → result ≡ Err Closed
+
+-- a restart takes the records that the log keeps
+pub record IsFound (l : Logged) (p : Prepared) : Type 0 where
+  pub records : kept l.log ≡ Ok (prepared_copy l.copy p).records
+  pub copy : prepared_copy l.copy p ≡ opened l.copy.id l.copy.birth l.copy.mapping (prepared_copy l.copy p).records
+
+-- the log failed at the append: it is closed, and keeps the records without the step's or with it
+pub record IsClosed (old new : Logged) (after : Copy) : Type 0 where
+  pub closed : new.closed ≡ true
+  pub records : (kept new.log ≡ Ok old.copy.records) ⊎ (kept new.log ≡ Ok after.records)
+  pub risen : Rises old.failures new.failures
+
+-- nothing has changed that a later step can tell
+pub record IsSame (old new : Logged) : Type 0 where
+  pub copy : new.copy ≡ old.copy
+  pub closed : new.closed ≡ old.closed
+  pub log : new.log ≡ old.log
+
+-- a log that isn't that of a new copy
+pub record HasRecords (found : Result (List Record) log.Fault) : Type 0 where
+  pub records : List Record
+  pub is : found ≡ Ok records
+  pub some : 0 < length records

@@ -1,0 +1,51 @@
+//! A step that is ready.
+ghost use Rattle.std.specs.Prelude.{◌≡◌};
+ghost use Rattle.std.specs.Option.{option_map};
+ghost use Rattle.std.specs.Arc.{arc_value};
+ghost use Rattle.replica.specs.Logged.{new_snapshot, output_of};
+
+use crate::output::Output;
+use crate::planned::{Planned, Reopened};
+use engine::{Snapshot, Staged};
+use std::alloc::Global;
+use std::sync::Arc;
+use translog::Frame;
+
+/// A step that is ready, and changes nothing until it is committed.
+#[derive(Drop)]
+pub enum Prepared {
+    /// A get.
+    Answered(Output),
+    /// A write, with the frame of its record.
+    Kept(Frame, Planned),
+    /// A refresh.
+    Shown(Staged, Output),
+    /// A restart.
+    Restarted(Reopened, Output),
+}
+
+impl Prepared {
+    /// What the step gives.
+    pub fn output(&self) -> &Output
+        ensures { result.now ≡ output_of self.now }
+    {
+        match self {
+            Prepared::Answered(output) => output,
+            Prepared::Kept(_, planned) => &planned.output,
+            Prepared::Shown(_, output) => output,
+            Prepared::Restarted(_, output) => output,
+        }
+    }
+
+    /// What searches show once the step is committed, where it is a refresh or a restart.
+    pub fn snapshot(&self) -> Option<&Arc<Snapshot, Global>>
+        ensures { option_map (λ s. arc_value s.now) result ≡ new_snapshot self.now }
+    {
+        match self {
+            Prepared::Answered(_) => None,
+            Prepared::Kept(_, _) => None,
+            Prepared::Shown(staged, _) => Some(staged.snapshot()),
+            Prepared::Restarted(reopened, _) => Some(reopened.staged.snapshot()),
+        }
+    }
+}
