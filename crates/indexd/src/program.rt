@@ -30,10 +30,24 @@ pub fn program<R: Files + AllocGlobal, I: BufRead, O: Write, E: Write>(
 ) -> u8
     ensures { result < 3 }
 {
-    let file = match file_of(rt.alloc(), words) {
-        Ok(file) => file,
-        Err(error) => return explain(&error, output, errors),
-    };
+    match file_of(rt.alloc(), words) {
+        Ok(file) => run(rt, file, input, output, errors),
+        Err(error) => explain(&error, output, errors),
+    }
+}
+
+/// Plays a script, and answers the exit status: 0, or 1 with one line on `errors`.
+fn run<R: Files + AllocGlobal, I: BufRead, O: Write, E: Write>(
+    rt: &R,
+    file: &str,
+    input: &mut I,
+    output: &mut O,
+    errors: &mut E,
+) -> u8
+    ensures status { result < 2 }
+    ensures whole { result ≡ 0 → file.now ≡ codes "-" → IfSome (I.remaining input.old) (λ script.
+        Appends (O.contents output.old) (O.contents output.new) (lines script)) }
+{
     match play(rt, file, input, output) {
         Ok(()) => 0,
         Err(fault) => {
