@@ -25,7 +25,7 @@ number_then text = option_and_then (λ at. option_map (λ n. (n, at.1)) (number_
 
 -- the numbers of a condition, and the text behind them
 abbrev pub condition_then : List ℕ → Option (Condition × List ℕ)
-condition_then text = option_and_then (λ at. option_map (λ then. (record { seq = at.0; term = then.0 }, then.1)) (number_then at.1)) (number_then text)
+condition_then text = option_and_then (λ at. option_map (λ next. (record { seq = at.0; term = next.0 }, next.1)) (number_then at.1)) (number_then text)
 
 -- `open N MAPPING`
 abbrev pub open_of : List ℕ → Option Command

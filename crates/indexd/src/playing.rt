@@ -45,7 +45,7 @@ pub fn replay<R: BufRead, W: Write>(
 fn played(alloc: Global, index: &mut Option<OneCopy>, line: &[u8]) -> Result<String, AllocError>
     requires { IsOpen index.old }
     ensures text { IfOk result (λ text. spec.played (copy_in index.old) line.now ≡ (copy_in index.new, string_bytes text)) }
-    ensures open { OnOk result (IsOpen index.new) }
+    ensures unfailed { OnOk result (IsOpen index.new) }
 {
     if is_passed_over(line) {
         return Ok(String::new(alloc));

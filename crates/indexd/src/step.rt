@@ -152,12 +152,7 @@ fn take(alloc: Global, copy: &mut OneCopy, input: Input) -> Result<Reply, Refusa
 }
 
 #[tactic(auto, unfolding(crate::specs::Step::write_at))]
-fn write(
-    alloc: Global,
-    copy: &mut OneCopy,
-    id: &str,
-    change: Change<'_>,
-) -> Result<Reply, Refusal>
+fn write(alloc: Global, copy: &mut OneCopy, id: &str, change: Change<'_>) -> Result<Reply, Refusal>
     requires { copy.old.closed ≡ false }
     ensures gives { Gives refusal_of (λ r. (copy.new.copy, reply_view r)) result (spec.write_at copy.old.copy id.now (change_view change.entry)) }
     ensures keeps { KeepsCopy result copy.old copy.new }

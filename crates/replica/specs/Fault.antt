@@ -1,5 +1,5 @@
 -- The refusals of a step, apart from want of memory and faults of the log.
-use Rattle.std.specs.Prelude.{Bool, true, false, Option, Some, None}
+use Rattle.std.specs.Prelude.{ℕ, Bool, true, false, List, codes, Option, Some, None}
 use Rattle.translog.specs.declared.fault.LogFault.{LogFault}
 use Rattle.translog.specs.declared.fault.LogFault.TheVariants.{BadMagic, Damaged, Device, NoMemory as OutOfMemory, TooLarge}
 use Rattle.translog.specs.Fault as log
@@ -46,3 +46,14 @@ log_fault_of Closed = None
 log_fault_of (Log f) = log.fault_of f
 log_fault_of NoMemory = None
 log_fault_of Exhausted = Some log.too_large
+
+-- the name of a fault
+abbrev pub name_of : CopyFault → List ℕ
+name_of NotPrimary = codes "NotPrimary"
+name_of VersionConflict = codes "VersionConflict"
+name_of WindowFull = codes "WindowFull"
+name_of Mismatch = codes "Mismatch"
+name_of Closed = codes "Closed"
+name_of (Log f) = codes "Log"
+name_of NoMemory = codes "NoMemory"
+name_of Exhausted = codes "Exhausted"

@@ -97,6 +97,13 @@ impl<D: LogDevice> Copy<D> {
         })
     }
 
+    /// The mapping that the index's documents are read under.
+    pub fn mapping(&self) -> &Mapping
+        ensures { result.now ≡ self.now.copy.mapping }
+    {
+        self.state.mapping()
+    }
+
     pub fn term(&self) -> u64
         ensures { result ≡ self.now.copy.term }
     {

@@ -1,5 +1,8 @@
 //! What a copy refuses.
 
+ghost use Rattle.std.specs.Prelude.{◌≡◌};
+ghost use Rattle.replica.specs.Fault.{name_of};
+
 use std::alloc::{AllocError, AllocFailed};
 use thiserror::Error;
 use translog::LogFault;
@@ -23,6 +26,24 @@ pub enum CopyFault {
     NoMemory,
     #[error("a number would pass 9,223,372,036,854,775,807")]
     Exhausted,
+}
+
+impl CopyFault {
+    /// The name of the fault, without what it says beside.
+    pub fn name(&self) -> &'static str
+        ensures { result.now ≡ name_of self.now }
+    {
+        match self {
+            CopyFault::NotPrimary => "NotPrimary",
+            CopyFault::VersionConflict => "VersionConflict",
+            CopyFault::WindowFull => "WindowFull",
+            CopyFault::Mismatch => "Mismatch",
+            CopyFault::Closed => "Closed",
+            CopyFault::Log(_) => "Log",
+            CopyFault::NoMemory => "NoMemory",
+            CopyFault::Exhausted => "Exhausted",
+        }
+    }
 }
 
 impl From<AllocError> for CopyFault {

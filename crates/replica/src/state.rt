@@ -76,6 +76,12 @@ impl State {
     ghost use Rattle.replica.specs.Staged.{contents, reopened_by, shown_by};
     ghost use Rattle.replica.specs.Standing.{IsNext, IsStanding, placed};
 
+    pub(crate) fn mapping(&self) -> &Mapping
+        ensures { result.now ≡ self.now.mapping }
+    {
+        self.engine.mapping()
+    }
+
     pub(crate) fn term(&self) -> u64
         ensures { result ≡ self.now.term }
     {

@@ -24,5 +24,4 @@ loop-preserved g c =
     let step = rw c.deref.ensures.value at c.in_ok-text.ensures.text in
     let text : c.as_bytes.result.now ≡ (played s line).1 = c.as_bytes.ensures.value ∙ sym (ap (λ (p : State × List ℕ). p.1) step) in
     let after : copy_in c.played.new.index ≡ (played s line).0 = sym (ap (λ (p : State × List ℕ). p.0) step) in
-    let going = rw after (goes_on (g.R.Read.remaining c.args.reader.now) (g.W.Write.contents c.args.writer.now) (g.W.Write.contents c.loop.writer) (g.W.Write.contents c.write_whole.new.writer) (g.R.Read.remaining c.loop.reader) (g.R.Read.remaining c.read_line.new.reader) s line c.loop.invariant.going (rw c.in-Some.is at c.in_ok-line.ensures.some) (rw text at c.in_ok-write_whole.ensures.ok)) in
-    record { going = going; open = c.in_ok-text.ensures.open }
+    record { going = rw after (goes_on (g.R.Read.remaining c.args.reader.now) (g.W.Write.contents c.args.writer.now) (g.W.Write.contents c.loop.writer) (g.W.Write.contents c.write_whole.new.writer) (g.R.Read.remaining c.loop.reader) (g.R.Read.remaining c.read_line.new.reader) s line c.loop.invariant.going (rw c.in-Some.is at c.in_ok-line.ensures.some) (rw text at c.in_ok-write_whole.ensures.ok)); unfailed = c.in_ok-text.ensures.unfailed }

@@ -7,5 +7,5 @@ use Rattle.indexd.proofs.playing.replay.Given as goal
 abbrev pub invariant-loop : goal.invariant-loop
 invariant-loop g l = record {
   going : IfSome (g.R.Read.remaining l.fn.reader) (Going (g.W.Write.contents l.fn.writer) (g.W.Write.contents l.writer) (g.R.Read.remaining l.reader) (copy_in l.index));
-  open : IsOpen l.index;
+  unfailed : IsOpen l.index;
 }
