@@ -93,3 +93,14 @@ pub record HasRecords (found : Result (List Record) log.Fault) : Type 0 where
   pub records : List Record
   pub is : found ≡ Ok records
   pub some : 0 < length records
+
+abbrev pub is_restarted : Prepared → Bool
+is_restarted (Answered output) = false
+is_restarted (Kept frame p) = false
+is_restarted (Shown staged output) = false
+is_restarted (Restarted r output) = true
+
+-- after a restart the copy is that of the records that its log kept
+pub record IsReopened (old new : Logged) : Type 0 where
+  pub records : kept old.log ≡ Ok new.copy.records
+  pub copy : new.copy ≡ opened old.copy.id old.copy.birth old.copy.mapping new.copy.records

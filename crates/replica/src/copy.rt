@@ -1,9 +1,10 @@
 //! A copy of the shard.
-ghost use Rattle.std.specs.Prelude.{◌≡◌, ◌⊎◌, ◌||◌, true, false, [], is_some, IsOk, Ok, Err, IfOk, IfErr, IsErrOf, IfSome, IfNone, OnOk};
+ghost use Rattle.std.specs.Prelude.{◌≡◌, ◌⊎◌, ◌||◌, ◌&&◌, not, true, false, [], is_some, IsOk, Ok, Err, IfOk, IfErr, IsErrOf, IfSome, IfNone, OnOk};
 ghost use Rattle.std.specs.Arc.{arc_value};
 ghost use Rattle.op.specs.Documents.{documents};
 ghost use Rattle.op.specs.Records.{shown};
 ghost use Rattle.doc.specs.Outcome.{Fails, Gives};
+ghost use Rattle.translog.specs.Device.{Rises};
 ghost use Rattle.translog.specs.Kept.{kept, IsTranslog};
 ghost use Rattle.replica.specs.declared.fault.CopyFault.TheVariants.{Closed, Log, Mismatch, NoMemory};
 ghost use Rattle.translog.specs.declared.fault.LogFault.TheVariants.{Device};
@@ -44,7 +45,7 @@ impl<D: LogDevice> Model for Copy<D> {
 }
 
 impl<D: LogDevice> Copy<D> {
-    ghost use Rattle.replica.specs.Logged.{HasRecords, IsClosed, IsFound, IsReady, IsRefused, IsSame, is_restart, new_snapshot, output_of, prepared_copy, prepared_step};
+    ghost use Rattle.replica.specs.Logged.{HasRecords, IsClosed, IsFound, IsReady, IsRefused, IsSame, is_restart, is_restarted, IsReopened, new_snapshot, output_of, prepared_copy, prepared_step};
     ghost use Rattle.replica.specs.Copy.{begun, opened};
     ghost use Rattle.replica.specs.Standing.{placed};
     ghost use Rattle.replica.specs.Step.{copy_step, stepped};
@@ -104,12 +105,14 @@ impl<D: LogDevice> Copy<D> {
         self.state.mapping()
     }
 
+    /// The term that the copy is in.
     pub fn term(&self) -> u64
         ensures { result ≡ self.now.copy.term }
     {
         self.state.term()
     }
 
+    /// What the copy does in the index.
     pub fn role(&self) -> &Role
         ensures { result.now ≡ self.now.copy.role }
     {
@@ -146,6 +149,8 @@ impl<D: LogDevice> Copy<D> {
         ensures closes { IfErr result (λ e. self.new.closed ≡ (self.old.closed || is_log e)) }
         ensures same { is_restart input ≡ false → self.new ≡ self.old }
         ensures found { is_restart input ≡ true → IfOk result (IsFound self.old) }
+        ensures kind { IfOk result (λ p. is_restarted p ≡ is_restart input) }
+        ensures failed { IsErrOf result (Log Device) → Rises self.old.failures self.new.failures }
     {
         match input {
             Input::Write(write) => self.prepare_write(alloc, write),
@@ -159,6 +164,7 @@ impl<D: LogDevice> Copy<D> {
         ensures step { self.now.closed ≡ false → Gives fault_of (prepared_step self.now.copy) result (copy_step self.now.copy (Get id.now)) }
         ensures closed { self.now.closed ≡ true → result ≡ Err Closed }
         ensures ready { IfOk result (IsReady self.now) }
+        ensures kind { IfOk result (λ p. is_restarted p ≡ false) }
         ensures no_log { IfErr result (λ e. is_log e ≡ false) }
     {
         if self.closed {
@@ -172,6 +178,7 @@ impl<D: LogDevice> Copy<D> {
         ensures step { self.now.closed ≡ false → Gives fault_of (prepared_step self.now.copy) result (copy_step self.now.copy Refresh) }
         ensures closed { self.now.closed ≡ true → result ≡ Err Closed }
         ensures ready { IfOk result (IsReady self.now) }
+        ensures kind { IfOk result (λ p. is_restarted p ≡ false) }
         ensures no_log { IfErr result (λ e. is_log e ≡ false) }
     {
         if self.closed {
@@ -186,6 +193,7 @@ impl<D: LogDevice> Copy<D> {
         ensures closed { self.old.closed ≡ true → result ≡ Err Closed }
         ensures ready { IfOk result (IsReady self.new) }
         ensures same { self.new ≡ self.old }
+        ensures kind { IfOk result (λ p. is_restarted p ≡ false) }
         ensures no_log { IfErr result (λ e. is_log e ≡ false) }
     {
         if self.closed {
@@ -199,6 +207,8 @@ impl<D: LogDevice> Copy<D> {
     fn prepare_restart(&mut self, alloc: Global) -> Result<Prepared, CopyFault>
         ensures step { self.old.closed ≡ false → Gives fault_of (prepared_step self.old.copy) result (copy_step self.old.copy Restart) }
         ensures found { IfOk result (IsFound self.old) }
+        ensures kind { IfOk result (λ p. is_restarted p ≡ true) }
+        ensures failed { IsErrOf result (Log Device) → Rises self.old.failures self.new.failures }
         ensures ready { IfOk result (IsReady self.new) }
         ensures copy { self.new.copy ≡ self.old.copy }
         ensures log { self.old.closed ≡ false → self.new.log ≡ self.old.log }
@@ -220,6 +230,7 @@ impl<D: LogDevice> Copy<D> {
         ensures stays { OnOk result (self.new.closed ≡ self.old.closed) }
         ensures closes { IfErr result (λ e. self.new.closed ≡ (self.old.closed || is_log e)) }
         ensures cause { IfErr result (λ e. (e ≡ NoMemory) ⊎ (is_log e ≡ true)) }
+        ensures failed { IsErrOf result (Log Device) → Rises self.old.failures self.new.failures }
     {
         match self.log.reopen(alloc) {
             Ok(records) => Ok(records),
@@ -237,7 +248,7 @@ impl<D: LogDevice> Copy<D> {
         requires { IsReady self.old prepared }
         ensures output { IfOk result (λ o. o ≡ output_of prepared) }
         ensures copy { OnOk result (self.new.copy ≡ prepared_copy self.old.copy prepared) }
-        ensures open { OnOk result (self.old.closed ≡ false → self.new.closed ≡ false) }
+        ensures open { OnOk result (self.new.closed ≡ (self.old.closed && not (is_restarted prepared))) }
         ensures cause { IfErr result (λ e. (e ≡ NoMemory) ⊎ (e ≡ Log Device)) }
         ensures shown { is_some (new_snapshot prepared) ≡ true → IsOk result }
         ensures memory { IsErrOf result NoMemory → self.new ≡ self.old }
@@ -295,7 +306,9 @@ impl<D: LogDevice> Copy<D> {
         ensures closed { self.old.closed ≡ true → is_restart input ≡ false → result ≡ Err Closed }
         ensures refused { self.old.closed ≡ false → IfErr result (λ e. is_log e ≡ false → IsSame self.old self.new) }
         ensures closes { IfErr result (λ e. is_log e ≡ true → self.new.closed ≡ true) }
-        ensures opens { OnOk result (self.old.closed ≡ false → self.new.closed ≡ false) }
+        ensures open { OnOk result (self.new.closed ≡ false) }
+        ensures found { is_restart input ≡ true → OnOk result (IsReopened self.old self.new) }
+        ensures failed { IsErrOf result (Log Device) → Rises self.old.failures self.new.failures }
     {
         let prepared = self.prepare(alloc, input)?;
         self.commit(alloc, prepared)
