@@ -3,3 +3,4 @@ pub mod Settled
 pub mod LogLaws
 pub mod Steps
 pub mod Versions
+pub mod Accepted
