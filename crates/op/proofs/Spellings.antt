@@ -1,8 +1,8 @@
 -- The laws of the format: what is read is spelt so, and what is spelt so is read.
-use Rattle.std.proofs.Common.{◌≡◌, ℕ, zero, suc, ◌^◌, ◌<◌, Bool, true, false, cond, eqb, List, [], ◌∷◌, ◌++◌, length, Ok, Err, refl, sym, ap, subst, ◌∙◌, append_assoc, arith}
+use Rattle.std.proofs.Common.{◌≤◌, ◌≡◌, ℕ, zero, suc, ◌^◌, ◌<◌, Bool, true, false, cond, eqb, List, [], ◌∷◌, ◌++◌, length, Ok, Err, refl, sym, ap, subst, ◌∙◌, append_assoc, arith, ltb}
 use Rattle.std.specs.List.{flat_map, AllByRecursion}
 use Rattle.std.specs.Int.{w32, w64, to_le_bytes}
-use Rattle.std.proofs.lemmas.Bool.{eqb-true}
+use Rattle.std.proofs.lemmas.Bool.{eqb-true, ltb-false, le-ltb}
 use Rattle.std.proofs.lemmas.List.{append-nil, nil_from_length}
 use Rattle.doc.specs.Outcome.{◌>>=◌}
 use Rattle.op.specs.declared.operation.Op.{Op}
@@ -13,7 +13,7 @@ use Rattle.op.specs.declared.record.Record.TheVariants.{Op as Kept, Resync, Reco
 use Rattle.op.specs.FormatFault.{malformed}
 use Rattle.op.specs.Rules.{is_record}
 use Rattle.op.specs.Format.{AreBytes, number, signed, id_bytes, source_bytes, body_bytes, operation_bytes, operations_bytes, spelling, HasTexts, IsTyped}
-use Rattle.op.specs.Reading.{number_at, signed_at, id_at, source_at, body_at, operation_at, so_many_at, operations_at, kept_at, resync_at, recover_at, record_at, record_of}
+use Rattle.op.specs.Reading.{number_at, signed_at, id_at, source_at, body_at, operation_at, so_many_at, operations_at, kept_at, resync_at, recover_at, record_at, content_of, record_of}
 use Rattle.op.specs.Records.{IsOperation, IsUpTo, IsRecord}
 use Rattle.op.proofs.Lengths.{operations_count}
 use Rattle.op.proofs.RulesLaws.{record_is, record_test}
@@ -169,16 +169,24 @@ guard_ended true true x y e = (refl, refl, ok_is x y e)
 guard_ended true false x y e = absurd cc
 guard_ended false c x y e = absurd cc
 
+-- a content that fits a frame
+fits_frame : (b : Bool) (x y : List ℕ) → cond b (Err malformed) (Ok x) ≡ Ok y → (b ≡ false) × (x ≡ y)
+fits_frame true x y e = absurd cc
+fits_frame false x y e = (refl, cc)
+
 -- what is read is spelt so, and keeps the rules
-pub record_spelt : (bytes : List ℕ) (r : Record) → AreBytes bytes → record_of bytes ≡ Ok r → (spelling r ≡ bytes) × (is_record r ≡ true) × IsTyped r
+pub record_spelt : (bytes : List ℕ) (r : Record) → AreBytes bytes → record_of bytes ≡ Ok r → (spelling r ≡ bytes) × (is_record r ≡ true) × IsTyped r × (length bytes < 2 ^ 32)
 unfolding record_of
 record_spelt bytes r fits e =
-    let a = bind_ok (record_at bytes) (λ x. cond (eqb (length x.1) 0) (cond (is_record x.0) (Ok x.0) (Err malformed)) (Err malformed)) r e in
+    let w = bind_ok (content_of bytes) (λ content. record_at content >>= λ x. cond (eqb (length x.1) 0) (cond (is_record x.0) (Ok x.0) (Err malformed)) (Err malformed)) r e in
+    let f = fits_frame (ltb 4294967295 (length bytes)) bytes w.0 w.1 in
+    let few : length bytes ≤ 4294967295 = ltb-false _ _ f.0 in
+    let a = bind_ok (record_at w.0) (λ x. cond (eqb (length x.1) 0) (cond (is_record x.0) (Ok x.0) (Err malformed)) (Err malformed)) r w.2 in
     let g = guard_ended (eqb (length a.0.1) 0) (is_record a.0.0) a.0.0 r a.2 in
-    let t = record_takes bytes a.0 fits a.1 in
+    let t = record_takes bytes a.0 fits (ap record_at f.1 ∙ a.1) in
     let nothing : a.0.1 ≡ [] = nil_from_length a.0.1 (eqb-true _ _ g.0) in
     let whole : spelling a.0.0 ≡ bytes = sym (t.0.parts ∙ ap (λ (l : List ℕ). spelling a.0.0 ++ l) nothing ∙ append-nil (spelling a.0.0)) in
-    subst (λ (y : Record). (spelling y ≡ bytes) × (is_record y ≡ true) × IsTyped y) g.2 (whole, g.1, t.1)
+    subst (λ (y : Record). (spelling y ≡ bytes) × (is_record y ≡ true) × IsTyped y × (length bytes < 2 ^ 32)) g.2 (whole, g.1, t.1, omega arith)
 
 words_of : (o : Op) → IsOperation o → HasTexts o.body → HasWords o
 words_of o h texts = record { seq = omega arith; term = omega arith; version = omega arith; texts = texts }
@@ -203,7 +211,8 @@ pub spelling_read : (r : Record) → IsRecord r → IsTyped r → length (spelli
 unfolding record_of
 spelling_read r h typed few =
     let again : record_at (spelling r) ≡ Ok (r, []) = ap record_at (sym (append-nil (spelling r))) ∙ record_again r [] h typed few in
-    rw (again, record_test r h) refl
+    let short : ltb 4294967295 (length (spelling r)) ≡ false = le-ltb _ _ (omega arith) in
+    rw (short, again, record_test r h) refl
 
 pub decoded : (bytes : List ℕ) (r : Result Record OpFault) → AreBytes bytes → Gives fault_of (λ x. x) r (record_of bytes) → IfOk r (λ x. (spelling x ≡ bytes) × IsRecord x)
 decoded bytes (Ok x) fits given = let s = record_spelt bytes x fits given in (s.0, record_is x s.1)

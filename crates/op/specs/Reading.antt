@@ -109,8 +109,13 @@ record_at (suc (suc zero) ∷ rest) = resync_at rest
 record_at (suc (suc (suc zero)) ∷ rest) = recover_at rest
 record_at (suc (suc (suc (suc n))) ∷ rest) = Err malformed
 
--- the record that some bytes are: they are all read, and it keeps the rules
+-- the content of a frame has at most 4,294,967,295 bytes
+abbrev pub content_of : List ℕ → Result (List ℕ) Fault
+content_of bytes = if nat_lt 4294967295 (length bytes) then Err malformed else Ok bytes
+
+-- the record that some bytes are: they fit a frame, they are all read, and it keeps the rules
 unfoldable pub record_of : List ℕ → Result Record Fault
 record_of bytes = do
-  r ← record_at bytes
+  content ← content_of bytes
+  r ← record_at content
   if length r.1 == 0 then (if is_record r.0 then Ok r.0 else Err malformed) else Err malformed

@@ -46,7 +46,7 @@ pub fn rules_are_tested()
 
 /// What is read is spelt so, each byte of it, and keeps the rules: each record has one spelling.
 pub fn read_is_spelt()
-    ensures { (bytes : List ℕ) (r : Record) → AreBytes bytes → record_of bytes ≡ Ok r → (spelling r ≡ bytes) × IsRecord r × IsTyped r }
+    ensures { (bytes : List ℕ) (r : Record) → AreBytes bytes → record_of bytes ≡ Ok r → (spelling r ≡ bytes) × IsRecord r × IsTyped r × (length bytes < 2 ^ 32) }
 {}
 
 /// What is spelt is read as the record that it was, where that keeps the rules.

@@ -9,6 +9,8 @@ pub mod operations;
 pub mod reading;
 pub mod record;
 mod rules;
+#[cfg(test)]
+mod tests;
 pub mod writing;
 
 pub use fault::OpFault;

@@ -16,11 +16,12 @@ use crate::operation::{Body, Op};
 use crate::operations::Operations;
 use crate::record::Record;
 use crate::rules::is_record;
+use crate::writing::MAX_SPELLING;
 use doc::{DocFault, DocId, Source};
 use std::alloc::Global;
 use std::str;
 
-/// The record that the bytes spell, all of them. `Malformed` where they spell none that keeps the rules of the format.
+/// The record that the bytes spell, all of them. `Malformed` where they spell none that keeps the rules of the format, or are more than a frame has.
 pub fn decode(alloc: Global, bytes: &[u8]) -> Result<Record, OpFault>
     ensures exact { Gives fault_of (λ r. r) result (spec.record_of bytes.now) }
     ensures spelt { IfOk result (λ r. (spelling r ≡ bytes.now) × IsRecord r) }
@@ -32,6 +33,9 @@ pub fn decode(alloc: Global, bytes: &[u8]) -> Result<Record, OpFault>
 fn whole_record(alloc: Global, bytes: &[u8]) -> Result<Record, OpFault>
     ensures { Gives fault_of (λ r. r) result (spec.record_of bytes.now) }
 {
+    if bytes.len() > MAX_SPELLING {
+        return Err(OpFault::Malformed);
+    }
     let (found, rest) = record_at(alloc, bytes)?;
     if !rest.is_empty() {
         return Err(OpFault::Malformed);

@@ -15,7 +15,7 @@ use doc::{DocId, Source};
 use std::alloc::{AllocError, Global};
 
 /// The greatest length of a spelling.
-const MAX_SPELLING: usize = 4_294_967_295;
+pub(crate) const MAX_SPELLING: usize = 4_294_967_295;
 
 /// The one spelling of a record: its tag and its fields, numbers little-endian. `Malformed` where it breaks a rule of the format,
 /// which is looked for first; `TooLarge` past 4,294,967,295 bytes.

@@ -85,6 +85,7 @@ impl<D: LogDevice> Frames<D> {
     ) -> Result<(Frames<D>, Vec<Vec<u8>>), LogFault>
         ensures found { Gives fault_of (λ x. map (λ c. c.items) x.1.items) result (contents_in header (D.held device)) }
         ensures whole { IfOk result (λ x. IsLog header (D.held x.0.device) (map (λ c. c.items) x.1.items)) }
+        ensures offsets { IfOk result (λ x. length (D.held x.0.device) < 2 ^ 64) }
         ensures header { IfOk result (λ x. x.0.header ≡ header) }
         ensures failed { IsErrOf result Device → (left : D) × Rises (D.failures device) (D.failures left) }
     {
