@@ -19,9 +19,5 @@ pub fn from_count(count: u64) -> i64
     requires { count ≤ 2 ^ 63 }
     ensures { result ≡ checkpoint_of count }
 {
-    if count == 0 {
-        -1
-    } else {
-        (count - 1) as i64
-    }
+    if count == 0 { -1 } else { (count - 1) as i64 }
 }
