@@ -1,10 +1,12 @@
 #!/bin/bash
 # bench/read.sh [N]: how fast documents and queries are read, words are cut, and documents are matched, over N product documents
-# (10000 by default) of some 300 bytes and N queries, each a `bool` of 20 clauses.
+# (10000 by default) of some 300 bytes and N queries, each a `bool` of 20 clauses; and how fast 100,000 records of such documents
+# are appended to a translog in memory, which is then opened again.
 #
 # Prints a line for each of `Doc::read`, `tokens` over the same lines, Python's json.loads over them as a common yardstick, `Query::read`,
-# and `Query::matches` with one such query over all documents: the best of three runs, in MB (a million bytes) a second or in
-# queries or documents a second, by the clock inside the process, which has all that it needs in memory by then.
+# `Query::matches` with one such query over all documents, `Translog::append` (each record is prepared too) and `Translog::reopen`:
+# the best of three runs, in MB (a million bytes) a second or in queries, documents or records a second, by the clock inside the
+# process, which has all that it needs in memory by then.
 # READING_PROGRAM=FILE measures the executable FILE in place of crates/reading/out/reading, which rt builds first where it is absent.
 set -euo pipefail
 
@@ -104,3 +106,11 @@ measure_each() {
 echo "$documents queries of 20 clauses; one of them finds $("$program" found count <"$folder/asked") of the documents"
 measure_each "Query::read" "$folder/queries" "$program" queries time
 measure_each "Query::matches" "$folder/asked" "$program" found time
+
+# The document of each line is one record.
+documents=100000
+lines_of "$documents" >"$folder/lines"
+bytes=$("$program" reopened count <"$folder/lines")
+echo "$documents records in a translog of $bytes bytes"
+measure_each "Translog::append" "$folder/lines" "$program" appended time
+measure "Translog::reopen" "$program" reopened time

@@ -1,12 +1,20 @@
-//! Reads documents or queries, cuts lines into words, or finds the documents of a query, and prints how many there are: what
-//! bench/read.sh measures. Its words are `documents`, `words`, `queries` or `found`, and `count` or `time`. The first line of
-//! standard input is a mapping; for `found` the second is a query.
+//! Reads documents or queries, cuts lines into words, finds the documents of a query, or appends a record for each line to a
+//! translog and opens it again, and prints how many there are (for `reopened` the bytes of the translog): what bench/read.sh
+//! measures. Its words are `documents`, `words`, `queries`, `found`, `appended` or `reopened`, and `count` or `time`. The first line
+//! of standard input is a mapping; for `found` the second is a query.
+//!
+//! `openings` has no mapping: each line is a translog in hex, and what opening it gives is printed.
 #![tactic(auto)]
 
 ghost use Rattle.std.specs.Prelude.{◌≡◌, IfOk, is_ok, count_by, sum_by, length, string_bytes};
 ghost use Rattle.doc.specs.Document.{doc_of};
 ghost use Rattle.analysis.specs.Tokens.{tokens_of};
 
+mod appending;
+mod openings;
+
+use crate::appending::{append_all, empty_log, records_of};
+use crate::openings::print_openings;
 use analysis::tokens;
 use anyhow::{Context, Result, bail};
 use doc::{Doc, DocFault, Mapping};
@@ -24,6 +32,8 @@ enum Task {
     Words,
     Queries,
     Found,
+    Appended,
+    Reopened,
 }
 
 /// Whether a line is a document that fits the mapping.
@@ -99,7 +109,11 @@ fn task_named(name: &str) -> Result<Task> {
         "words" => Ok(Task::Words),
         "queries" => Ok(Task::Queries),
         "found" => Ok(Task::Found),
-        _ => bail!("`documents`, `words`, `queries` or `found` is wanted"),
+        "appended" => Ok(Task::Appended),
+        "reopened" => Ok(Task::Reopened),
+        _ => bail!(
+            "`documents`, `words`, `queries`, `found`, `appended`, `reopened` or `openings` is wanted"
+        ),
     }
 }
 
@@ -115,6 +129,42 @@ fn read_lines<R: BufRead + Drop>(alloc: Global, input: R) -> Result<Vec<String>>
     Ok(lines)
 }
 
+/// Finds the documents behind a query.
+fn measured_found(rt: &HostRuntime, mapping: &Mapping, lines: &[String]) -> Result<(usize, u128)> {
+    let alloc = rt.alloc();
+    let (first, rest) = lines.split_first().context("a query is wanted")?;
+    let query = read_query(alloc, mapping, first)?;
+    let docs = read_documents(alloc, mapping, rest)?;
+    let start = Instant::now(rt)?;
+    let count = found(alloc, mapping, &query, &docs)?;
+    Ok((count, start.elapsed(rt)?.as_micros()))
+}
+
+/// Prepares and appends a record for each line.
+fn measured_appended(rt: &HostRuntime, lines: &[String]) -> Result<(usize, u128)> {
+    let alloc = rt.alloc();
+    let records = records_of(alloc, lines)?;
+    let mut log = empty_log(alloc)?;
+    let start = Instant::now(rt)?;
+    append_all(alloc, &mut log, &records)?;
+    Ok((records.len(), start.elapsed(rt)?.as_micros()))
+}
+
+/// Opens the translog of the lines again; what it counts are bytes.
+fn measured_reopened(rt: &HostRuntime, lines: &[String]) -> Result<(usize, u128)> {
+    let alloc = rt.alloc();
+    let records = records_of(alloc, lines)?;
+    let mut log = empty_log(alloc)?;
+    append_all(alloc, &mut log, &records)?;
+    let start = Instant::now(rt)?;
+    let again = log.reopen(alloc)?;
+    let micros = start.elapsed(rt)?.as_micros();
+    if again.len() != records.len() {
+        bail!("another number of records was read than was written");
+    }
+    Ok((log.device().bytes().len(), micros))
+}
+
 /// Does the task, and tells how many there are and how many microseconds it took.
 fn measured(
     rt: &HostRuntime,
@@ -123,19 +173,14 @@ fn measured(
     lines: &[String],
 ) -> Result<(usize, u128)> {
     let alloc = rt.alloc();
-    if let Task::Found = task {
-        let (first, rest) = lines.split_first().context("a query is wanted")?;
-        let query = read_query(alloc, mapping, first)?;
-        let docs = read_documents(alloc, mapping, rest)?;
-        let start = Instant::now(rt)?;
-        let count = found(alloc, mapping, &query, &docs)?;
-        return Ok((count, start.elapsed(rt)?.as_micros()));
-    }
     let start = Instant::now(rt)?;
     let count = match task {
         Task::Documents => documents(alloc, mapping, lines)?,
         Task::Words => words(alloc, lines)?,
-        _ => queries(alloc, mapping, lines)?,
+        Task::Queries => queries(alloc, mapping, lines)?,
+        Task::Found => return measured_found(rt, mapping, lines),
+        Task::Appended => return measured_appended(rt, lines),
+        Task::Reopened => return measured_reopened(rt, lines),
     };
     Ok((count, start.elapsed(rt)?.as_micros()))
 }
@@ -143,8 +188,12 @@ fn measured(
 fn main(rt: HostRuntime) -> Result<()> {
     let alloc = rt.alloc();
     let arguments: Vec<String> = env::args(&rt)?.collect(alloc)?;
-    let task = task_named(arguments.get(1).context("two words are wanted")?)?;
+    let name = arguments.get(1).context("two words are wanted")?;
     let lines = read_lines(alloc, BufReader::new(alloc, rt.reader())?)?;
+    if name.as_str() == "openings" {
+        return print_openings(&rt, &lines);
+    }
+    let task = task_named(name)?;
     let (first, rest) = lines.split_first().context("a mapping is wanted")?;
     let mapping = read_mapping(alloc, first)?;
     let (count, micros) = measured(&rt, task, &mapping, rest)?;
