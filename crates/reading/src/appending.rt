@@ -24,7 +24,7 @@ fn record_of(alloc: Global, seq: u64, line: &str) -> Result<Record>
 }
 
 /// A record for each line.
-pub fn records_of(alloc: Global, lines: &[String]) -> Result<Vec<Record>>
+pub(crate) fn records_of(alloc: Global, lines: &[String]) -> Result<Vec<Record>>
     ensures { IfOk result (λ rs. All IsRecord rs.items) }
 {
     let mut records = Vec::new(alloc);
@@ -35,13 +35,17 @@ pub fn records_of(alloc: Global, lines: &[String]) -> Result<Vec<Record>>
 }
 
 /// A translog without records.
-pub fn empty_log(alloc: Global) -> Result<Translog<MemDevice>> {
+pub(crate) fn empty_log(alloc: Global) -> Result<Translog<MemDevice>> {
     let (log, _) = Translog::open(alloc, MemDevice::new(Vec::new(alloc)))?;
     Ok(log)
 }
 
 /// Prepares and appends each record.
-pub fn append_all(alloc: Global, log: &mut Translog<MemDevice>, records: &[Record]) -> Result<()>
+pub(crate) fn append_all(
+    alloc: Global,
+    log: &mut Translog<MemDevice>,
+    records: &[Record],
+) -> Result<()>
     requires { All IsRecord records.now }
 {
     for entry in records {

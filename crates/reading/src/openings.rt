@@ -16,7 +16,7 @@ fn opening(alloc: Global, line: &str) -> Result<String> {
 }
 
 /// Prints a line for each line.
-pub fn print_openings(rt: &HostRuntime, lines: &[String]) -> Result<()> {
+pub(crate) fn print_openings(rt: &HostRuntime, lines: &[String]) -> Result<()> {
     for line in lines {
         let told = opening(rt.alloc(), line)?;
         println!(rt; "{told}")?;
