@@ -17,7 +17,7 @@ use Rattle.replica.specs.Copy.{Copy, opened}
 use Rattle.replica.specs.Planned.{IsPlanned}
 use Rattle.replica.specs.Staged.{contents, reopened_by, shown_by}
 use Rattle.replica.specs.Standing.{IsStanding, placed}
-use Rattle.replica.specs.Step.{Stepped, stepped}
+use Rattle.replica.specs.Step.{Stepped, stepped, members_of}
 
 -- a copy, whether its log has failed, the bytes of the log, and how often its device has failed
 pub record Logged : Type 0 where
@@ -53,6 +53,10 @@ new_snapshot (Restarted r output) = Some r.staged.snapshot
 -- what the step gives, once it is done
 abbrev pub prepared_step : Copy → Prepared → Stepped
 prepared_step c p = stepped (prepared_copy c p) (output_of p)
+
+-- the output tells how many copies have to acknowledge the writes of the copy that the step leaves
+abbrev pub HasMembers : Copy → Prepared → Type 0
+HasMembers c p = (output_of p).members ≡ members_of (prepared_copy c p).role
 
 -- the step is ready for this copy: it was prepared last
 abbrev pub IsReady : Logged → Prepared → Type 0

@@ -1,5 +1,5 @@
 //! A copy of the shard.
-ghost use Rattle.std.specs.Prelude.{◌≡◌, ◌⊎◌, ◌||◌, ◌&&◌, not, true, false, [], is_some, IsOk, Ok, Err, IfOk, IfErr, IsErrOf, IfSome, IfNone, OnOk};
+ghost use Rattle.std.specs.Prelude.{◌≡◌, ◌⊎◌, ◌||◌, ◌&&◌, not, true, false, [], is_some, IsOk, Ok, Err, IfOk, IfErr, IsErrOf, IfSome, IfNone, OnOk, OnErr};
 ghost use Rattle.std.specs.Arc.{arc_value};
 ghost use Rattle.op.specs.Documents.{documents};
 ghost use Rattle.op.specs.Records.{shown};
@@ -45,10 +45,10 @@ impl<D: LogDevice> Model for Copy<D> {
 }
 
 impl<D: LogDevice> Copy<D> {
-    ghost use Rattle.replica.specs.Logged.{HasRecords, IsClosed, IsFound, IsReady, IsRefused, IsSame, is_restart, is_restarted, IsReopened, new_snapshot, output_of, prepared_copy, prepared_step};
+    ghost use Rattle.replica.specs.Logged.{HasMembers, HasRecords, IsClosed, IsFound, IsReady, IsRefused, IsSame, is_restart, is_restarted, IsReopened, new_snapshot, output_of, prepared_copy, prepared_step};
     ghost use Rattle.replica.specs.Copy.{begun, opened};
     ghost use Rattle.replica.specs.Standing.{placed};
-    ghost use Rattle.replica.specs.Step.{copy_step, stepped};
+    ghost use Rattle.replica.specs.Step.{copy_step, members_of, stepped};
 
     /// The copy of the records that its log keeps; the role isn't kept, and searches show all.
     pub fn open(
@@ -151,6 +151,7 @@ impl<D: LogDevice> Copy<D> {
         ensures found { is_restart input ≡ true → IfOk result (IsFound self.old) }
         ensures kind { IfOk result (λ p. is_restarted p ≡ is_restart input) }
         ensures failed { IsErrOf result (Log Device) → Rises self.old.failures self.new.failures }
+        ensures members { IfOk result (HasMembers self.old.copy) }
     {
         match input {
             Input::Write(write) => self.prepare_write(alloc, write),
@@ -166,6 +167,7 @@ impl<D: LogDevice> Copy<D> {
         ensures ready { IfOk result (IsReady self.now) }
         ensures kind { IfOk result (λ p. is_restarted p ≡ false) }
         ensures no_log { IfErr result (λ e. is_log e ≡ false) }
+        ensures members { IfOk result (HasMembers self.now.copy) }
     {
         if self.closed {
             return Err(CopyFault::Closed);
@@ -180,6 +182,7 @@ impl<D: LogDevice> Copy<D> {
         ensures ready { IfOk result (IsReady self.now) }
         ensures kind { IfOk result (λ p. is_restarted p ≡ false) }
         ensures no_log { IfErr result (λ e. is_log e ≡ false) }
+        ensures members { IfOk result (HasMembers self.now.copy) }
     {
         if self.closed {
             return Err(CopyFault::Closed);
@@ -195,6 +198,7 @@ impl<D: LogDevice> Copy<D> {
         ensures same { self.new ≡ self.old }
         ensures kind { IfOk result (λ p. is_restarted p ≡ false) }
         ensures no_log { IfErr result (λ e. is_log e ≡ false) }
+        ensures members { IfOk result (HasMembers self.old.copy) }
     {
         if self.closed {
             return Err(CopyFault::Closed);
@@ -214,6 +218,7 @@ impl<D: LogDevice> Copy<D> {
         ensures log { self.old.closed ≡ false → self.new.log ≡ self.old.log }
         ensures stays { OnOk result (self.new.closed ≡ self.old.closed) }
         ensures closes { IfErr result (λ e. self.new.closed ≡ (self.old.closed || is_log e)) }
+        ensures members { IfOk result (HasMembers self.old.copy) }
     {
         let records = self.reopen_log(alloc)?;
         let (reopened, output) = self.state.stage_reopen(alloc, records)?;
@@ -309,6 +314,8 @@ impl<D: LogDevice> Copy<D> {
         ensures open { OnOk result (self.new.closed ≡ false) }
         ensures found { is_restart input ≡ true → OnOk result (IsReopened self.old self.new) }
         ensures failed { IsErrOf result (Log Device) → Rises self.old.failures self.new.failures }
+        ensures members { IfOk result (λ o. o.members ≡ members_of self.new.copy.role) }
+        ensures stays { self.old.closed ≡ true → OnErr result (self.new.closed ≡ true) }
     {
         let prepared = self.prepare(alloc, input)?;
         self.commit(alloc, prepared)

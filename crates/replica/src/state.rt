@@ -188,7 +188,8 @@ impl State {
 
     /// What a get gives.
     pub(crate) fn answered(&self, alloc: Global, id: &DocId) -> Result<Output, AllocError>
-        ensures { IfOk result (λ o. copy_step self.now (Get id.now) ≡ Ok (stepped self.now o)) }
+        ensures gives { IfOk result (λ o. copy_step self.now (Get id.now) ≡ Ok (stepped self.now o)) }
+        ensures members { IfOk result (λ o. o.members ≡ members_of self.now.role) }
     {
         let answer = self.get(alloc, id)?;
         Ok(self.output(alloc, answer))
@@ -201,18 +202,7 @@ impl State {
         Output {
             answer,
             acknowledged: Operations::from_vec(Vec::new(alloc)),
-            members: self.members(),
-        }
-    }
-
-    /// How many copies have to acknowledge its writes, where it is the primary.
-    pub(crate) fn members(&self) -> usize
-        ensures { result ≡ members_of self.now.role }
-    {
-        match &self.role {
-            Role::Primary(lead) => lead.members.as_slice().len(),
-            Role::Empty => 0,
-            Role::Replica => 0,
+            members: members_of(&self.role),
         }
     }
 
@@ -221,6 +211,7 @@ impl State {
         ensures fits { IfOk result (λ x. Fits (contents self.now) x.0) }
         ensures records { IfOk result (λ x. records_of self.now.records x.0.records ≡ self.now.records) }
         ensures gives { IfOk result (λ x. copy_step self.now Refresh ≡ Ok (stepped (shown_by self.now x.0) x.1)) }
+        ensures members { IfOk result (λ x. x.1.members ≡ members_of self.now.role) }
     {
         let staged = self.engine.stage(alloc, Change::Refresh)?;
         let answer = Answer::Point(staged.point());
@@ -246,7 +237,7 @@ impl State {
         ensures fits { IfOk result (λ x. Fits (contents self.now) x.0.staged) }
         ensures standing { IfOk result (λ x. IsStanding (reopened_by self.now x.0)) }
         ensures opened { IfOk result (λ x. reopened_by self.now x.0 ≡ opened self.now.id self.now.birth self.now.mapping records.items) }
-        ensures gives { IfOk result (λ x. x.1 ≡ record { answer = Answer.Point (length records.items); acknowledged = []; members = 0 }) }
+        ensures gives { IfOk result (λ x. x.1 ≡ record { answer = Answer.Point (length records.items); acknowledged = []; members = members_of x.0.role }) }
     {
         let term = opening::term_of(self.birth, &records);
         let known = opening::known_of(&records);
@@ -255,7 +246,7 @@ impl State {
         let output = Output {
             answer: Answer::Point(staged.point()),
             acknowledged: Operations::from_vec(Vec::new(alloc)),
-            members: 0,
+            members: members_of(&role),
         };
         let reopened = Reopened {
             staged,
@@ -289,6 +280,7 @@ impl State {
         ensures gives { Gives fault_of (stepped_by self.now) result (settled (planned_write self.now write self.now.role)) }
         ensures planned { IfOk result (IsPlanned self.now) }
         ensures kept { IfOk result (λ p. p.kept ≡ record_of self.now (op_of self.now write)) }
+        ensures members { IfOk result (λ p. p.output.members ≡ members_of p.role) }
         ensures no_log { IfErr result (λ e. is_log e ≡ false) }
     {
         let Role::Primary(lead) = &self.role else {
@@ -327,6 +319,7 @@ impl State {
         ensures gives { IfOk result (λ p. stepped_by self.now p ≡ write_gives self.now lead.now op (wrote op outcome) (is_alone self.now lead.now)) }
         ensures planned { IfOk result (IsPlanned self.now) }
         ensures kept { IfOk result (λ p. p.kept ≡ record_of self.now op) }
+        ensures members { IfOk result (λ p. p.output.members ≡ members_of p.role) }
     {
         let answer = Answer::Wrote(Written {
             seq: op.seq,
@@ -354,6 +347,7 @@ impl State {
         ensures gives { IfOk result (λ p. stepped_by self.now p ≡ write_gives self.now lead.now op answer true) }
         ensures planned { IfOk result (IsPlanned self.now) }
         ensures kept { IfOk result (λ p. p.kept ≡ record_of self.now op) }
+        ensures members { IfOk result (λ p. p.output.members ≡ members_of p.role) }
     {
         let acknowledged = Operations::one(alloc, op.copy(alloc)?)?;
         let members = lead.members.copy(alloc)?;
@@ -386,6 +380,7 @@ impl State {
         ensures gives { IfOk result (λ p. stepped_by self.now p ≡ write_gives self.now lead.now op answer false) }
         ensures planned { IfOk result (IsPlanned self.now) }
         ensures kept { IfOk result (λ p. p.kept ≡ record_of self.now op) }
+        ensures members { IfOk result (λ p. p.output.members ≡ members_of p.role) }
     {
         let members = lead.members.copy(alloc)?;
         let pending = lead.pending.with(alloc, op.seq)?;
@@ -400,6 +395,17 @@ impl State {
             role: Role::Primary(Lead { members, pending }),
             output,
         })
+    }
+}
+
+/// How many copies have to acknowledge the writes of a copy in this role.
+fn members_of(role: &Role) -> usize
+    ensures { result ≡ members_of role.now }
+{
+    match role {
+        Role::Primary(lead) => lead.members.as_slice().len(),
+        Role::Empty => 0,
+        Role::Replica => 0,
     }
 }
 
