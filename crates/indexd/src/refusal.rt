@@ -40,7 +40,7 @@ impl Refusal {
         }
     }
 
-    /// Whether memory is wanting. A log in memory fails for nothing else.
+    /// Whether memory is wanting. A log in memory doesn't fail; if it did, the script would end too.
     pub(crate) fn is_memory(&self) -> bool
         ensures { result ≡ is_none (refusal_of self.now) }
     {

@@ -4,3 +4,4 @@ pub mod LogLaws
 pub mod Steps
 pub mod Versions
 pub mod Accepted
+pub mod Failures

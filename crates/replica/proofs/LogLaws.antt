@@ -1,13 +1,18 @@
 -- What a copy asks of its log.
-use Rattle.std.proofs.Common.{◌≡◌, ℕ, Bool, true, false, List, [], ◌∷◌, ◌++◌, sym, ap, ◌∙◌, Ok, Err}
+use Rattle.std.proofs.Common.{◌≡◌, inl, inr, refl, ℕ, Bool, true, false, List, [], ◌∷◌, ◌++◌, sym, ap, ◌∙◌, Ok, Err}
 use Rattle.std.specs.Prelude.{◌⊎◌, take, Result, if◌then◌else◌}
+use Rattle.doc.specs.Outcome.{Fails}
 use Rattle.op.specs.declared.record.Record.{Record}
 use Rattle.op.specs.Format.{spelling, is_too_large}
-use Rattle.translog.specs.Fault.{Fault, too_large}
+use Rattle.translog.specs.declared.fault.LogFault.{LogFault}
+use Rattle.translog.specs.declared.fault.LogFault.TheVariants.{BadMagic, Damaged, Device, NoMemory, TooLarge}
+use Rattle.translog.specs.Fault.{Fault, too_large, fault_of}
 use Rattle.translog.specs.Frames.{framed}
-use Rattle.translog.specs.Device.{AddsFront}
+use Rattle.translog.specs.Device.{AddsFront, Rises}
 use Rattle.translog.specs.Kept.{kept, record_frame, IsSpelt, IsTranslog}
-use Rattle.translog.proofs.RecordsLaws.{whole_kept, torn_or_whole}
+use Rattle.translog.proofs.RecordsLaws.{whole_kept, torn_or_whole, kept_not_large}
+use Rattle.replica.specs.Fault.{of_log}
+use Rattle.replica.specs.Logged.{IsUnread}
 
 same_frame : (b : Bool) (f g : List ℕ) → (let r : Result (List ℕ) Fault = if b then Err too_large else Ok g in r) ≡ Ok f → f ≡ g
 same_frame true f g e = absurd cc
@@ -27,9 +32,30 @@ same_bytes a b rs one other = one.whole ∙ sym other.whole
 pub same_records : (bytes : List ℕ) (rs found : List Record) → IsTranslog bytes rs → kept bytes ≡ Ok found → found ≡ rs
 same_records bytes rs found log e = same_ok rs found (sym (whole_kept bytes rs log) ∙ e)
 
--- after an append that failed the log keeps its records without the new one or with it
+-- after an append that failed the log keeps what it kept before, or also the new record
 pub torn_at : (new held bytes : List ℕ) (rs : List Record) (r : Record) (frame : List ℕ) → held ≡ bytes → IsTranslog bytes rs → record_frame r ≡ Ok frame → IsSpelt r → AddsFront held frame new
-    → (kept new ≡ Ok rs) ⊎ (kept new ≡ Ok (rs ++ r ∷ []))
+    → (kept new ≡ kept bytes) ⊎ (kept new ≡ Ok (rs ++ r ∷ []))
 torn_at new held bytes rs r frame is log spelt one added =
     let same : new ≡ bytes ++ take added.0 (framed (spelling r)) = added.1 ∙ ap (λ (x : List ℕ). x ++ take added.0 frame) is ∙ ap (λ (x : List ℕ). bytes ++ take added.0 x) (frame_is r frame spelt) in
-    rw same (torn_or_whole bytes rs r added.0 log one)
+    rw same (as_before (kept bytes) rs _ _ (whole_kept bytes rs log) (torn_or_whole bytes rs r added.0 log one))
+  where
+    as_before : (before : Result (List Record) Fault) (rs more : List Record) (now : Result (List Record) Fault) → before ≡ Ok rs → (now ≡ Ok rs) ⊎ (now ≡ Ok more) → (now ≡ before) ⊎ (now ≡ Ok more)
+    as_before before rs more now was (inl e) = inl (e ∙ sym was)
+    as_before before rs more now was (inr e) = inr e
+
+-- a log is refused for no other cause
+pub unread : (bytes : List ℕ) (before now : ℕ) (f : LogFault) → Fails fault_of f (kept bytes) → (f ≡ Device → Rises before now) → IsUnread bytes before now (of_log f)
+unread bytes before now BadMagic fails risen = fails
+unread bytes before now (Damaged offset) fails risen = fails
+unread bytes before now Device fails risen = risen refl
+unread bytes before now NoMemory fails risen = tt
+unread bytes before now TooLarge fails risen = absurd (kept_not_large bytes fails)
+
+-- a log that is refused at an opening
+pub unread_at_opening : {D : Type 0} (failures : D → ℕ) (device : D) (bytes : List ℕ) (f : LogFault) → Fails fault_of f (kept bytes) → (f ≡ Device → (left : D) × Rises (failures device) (failures left))
+    → (left : D) × IsUnread bytes (failures device) (failures left) (of_log f)
+unread_at_opening failures device bytes BadMagic fails risen = (device, fails)
+unread_at_opening failures device bytes (Damaged offset) fails risen = (device, fails)
+unread_at_opening failures device bytes Device fails risen = risen refl
+unread_at_opening failures device bytes NoMemory fails risen = (device, tt)
+unread_at_opening failures device bytes TooLarge fails risen = absurd (kept_not_large bytes fails)

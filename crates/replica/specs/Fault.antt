@@ -2,7 +2,6 @@
 use Rattle.std.specs.Prelude.{ℕ, Bool, true, false, List, codes, Option, Some, None}
 use Rattle.translog.specs.declared.fault.LogFault.{LogFault}
 use Rattle.translog.specs.declared.fault.LogFault.TheVariants.{BadMagic, Damaged, Device, NoMemory as OutOfMemory, TooLarge}
-use Rattle.translog.specs.Fault as log
 use Rattle.replica.specs.declared.fault.CopyFault.{CopyFault}
 use Rattle.replica.specs.declared.fault.CopyFault.TheVariants.{NotPrimary, VersionConflict, WindowFull, Mismatch, Closed, Log, NoMemory, Exhausted}
 
@@ -35,17 +34,6 @@ is_log Closed = false
 is_log (Log f) = true
 is_log NoMemory = false
 is_log Exhausted = false
-
--- why the log gives no records; nothing for want of memory, for a failure of its device, and for refusals of other kinds
-abbrev pub log_fault_of : CopyFault → Option log.Fault
-log_fault_of NotPrimary = None
-log_fault_of VersionConflict = None
-log_fault_of WindowFull = None
-log_fault_of Mismatch = None
-log_fault_of Closed = None
-log_fault_of (Log f) = log.fault_of f
-log_fault_of NoMemory = None
-log_fault_of Exhausted = Some log.too_large
 
 -- the name of a fault
 abbrev pub name_of : CopyFault → List ℕ

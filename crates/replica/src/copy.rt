@@ -3,13 +3,12 @@ ghost use Rattle.std.specs.Prelude.{◌≡◌, ◌⊎◌, ◌||◌, ◌&&◌, no
 ghost use Rattle.std.specs.Arc.{arc_value};
 ghost use Rattle.op.specs.Documents.{documents};
 ghost use Rattle.op.specs.Records.{shown};
-ghost use Rattle.doc.specs.Outcome.{Fails, Gives};
-ghost use Rattle.translog.specs.Device.{Rises};
+ghost use Rattle.doc.specs.Outcome.{Gives};
 ghost use Rattle.translog.specs.Kept.{kept, IsTranslog};
 ghost use Rattle.replica.specs.declared.fault.CopyFault.TheVariants.{Closed, Log, Mismatch, NoMemory};
 ghost use Rattle.translog.specs.declared.fault.LogFault.TheVariants.{Device};
 ghost use Rattle.replica.specs.declared.input.Input.TheVariants.{Write as Client, Refresh, Get, Restart};
-ghost use Rattle.replica.specs.Fault.{fault_of, is_log, log_fault_of};
+ghost use Rattle.replica.specs.Fault.{fault_of, is_log};
 
 use crate::fault::CopyFault;
 use crate::input::{Input, Write};
@@ -39,13 +38,13 @@ impl<D: LogDevice> Model for Copy<D> {
 
     ghost Value = { Logged };
 
-    ghost view = { λ c. record { copy = c.state; closed = c.closed; log = D.held c.log; failures = D.failures c.log } };
+    ghost view = { λ c. record { copy = c.state; closed = c.closed; log = D.held c.log; failures = D.failures c.log; room = D.room c.log } };
 
-    ghost invariant = { λ c. IsLogged (record { copy = c.state; closed = c.closed; log = D.held c.log; failures = D.failures c.log }) };
+    ghost invariant = { λ c. IsLogged (record { copy = c.state; closed = c.closed; log = D.held c.log; failures = D.failures c.log; room = D.room c.log }) };
 }
 
 impl<D: LogDevice> Copy<D> {
-    ghost use Rattle.replica.specs.Logged.{HasMembers, HasRecords, IsClosed, IsFound, IsReady, IsRefused, IsSame, is_restart, is_restarted, IsReopened, new_snapshot, output_of, prepared_copy, prepared_step};
+    ghost use Rattle.replica.specs.Logged.{HasMembers, HasRecords, IsClosed, IsFailed, IsFound, IsReady, IsRefused, IsReopened, IsSame, IsUnread, is_restart, is_restarted, new_snapshot, output_of, prepared_copy, prepared_step};
     ghost use Rattle.replica.specs.Copy.{begun, opened};
     ghost use Rattle.replica.specs.Standing.{placed};
     ghost use Rattle.replica.specs.Step.{copy_step, members_of, stepped};
@@ -61,7 +60,8 @@ impl<D: LogDevice> Copy<D> {
         ensures records { IfOk result (λ c. kept (D.held device) ≡ Ok c.copy.records) }
         ensures copy { IfOk result (λ c. c.copy ≡ opened id birth mapping c.copy.records) }
         ensures open { IfOk result (λ c. c.closed ≡ false) }
-        ensures refused { IfErr result (λ e. Fails log_fault_of e (kept (D.held device))) }
+        ensures refused { IfErr result (λ e. (left : D) × IsUnread (D.held device) (D.failures device) (D.failures left) e) }
+        ensures in_memory { D.in_memory ≡ true → IsErrOf result (Log Device) → ⊥ }
     {
         let (log, records) = Translog::open(alloc, device)?;
         let state = State::open(alloc, id, birth, mapping, records)?;
@@ -83,8 +83,9 @@ impl<D: LogDevice> Copy<D> {
         ensures empty { OnOk result (kept (D.held device) ≡ Ok []) }
         ensures copy { IfOk result (λ c. c.copy ≡ begun id copies mapping) }
         ensures open { IfOk result (λ c. c.closed ≡ false) }
-        ensures refused { IfErr result (λ e. Fails log_fault_of e (kept (D.held device))) }
+        ensures refused { IfErr result (λ e. (e ≡ Mismatch) ⊎ ((left : D) × IsUnread (D.held device) (D.failures device) (D.failures left) e)) }
         ensures mismatch { IsErrOf result Mismatch → HasRecords (kept (D.held device)) }
+        ensures in_memory { D.in_memory ≡ true → IsErrOf result (Log Device) → ⊥ }
     {
         let (log, records) = Translog::open(alloc, device)?;
         if !records.is_empty() {
@@ -144,14 +145,17 @@ impl<D: LogDevice> Copy<D> {
         ensures closed { self.old.closed ≡ true → IsRefused input result }
         ensures ready { IfOk result (IsReady self.new) }
         ensures copy { self.new.copy ≡ self.old.copy }
+        ensures records { kept self.new.log ≡ kept self.old.log }
         ensures log { self.old.closed ≡ false → self.new.log ≡ self.old.log }
         ensures stays { OnOk result (self.new.closed ≡ self.old.closed) }
         ensures closes { IfErr result (λ e. self.new.closed ≡ (self.old.closed || is_log e)) }
-        ensures same { is_restart input ≡ false → self.new ≡ self.old }
+        ensures failures { is_restart input ≡ false → self.new.failures ≡ self.old.failures }
+        ensures no_log { is_restart input ≡ false → IfErr result (λ e. is_log e ≡ false) }
         ensures found { is_restart input ≡ true → IfOk result (IsFound self.old) }
+        ensures unread { is_restart input ≡ true → IfErr result (IsUnread self.old.log self.old.failures self.new.failures) }
         ensures kind { IfOk result (λ p. is_restarted p ≡ is_restart input) }
-        ensures failed { IsErrOf result (Log Device) → Rises self.old.failures self.new.failures }
         ensures members { IfOk result (HasMembers self.old.copy) }
+        ensures in_memory { D.in_memory ≡ true → IsErrOf result (Log Device) → ⊥ }
     {
         match input {
             Input::Write(write) => self.prepare_write(alloc, write),
@@ -195,7 +199,10 @@ impl<D: LogDevice> Copy<D> {
         ensures step { self.old.closed ≡ false → Gives fault_of (prepared_step self.old.copy) result (copy_step self.old.copy (Client write)) }
         ensures closed { self.old.closed ≡ true → result ≡ Err Closed }
         ensures ready { IfOk result (IsReady self.new) }
-        ensures same { self.new ≡ self.old }
+        ensures copy { self.new.copy ≡ self.old.copy }
+        ensures stays { self.new.closed ≡ self.old.closed }
+        ensures log { self.new.log ≡ self.old.log }
+        ensures failures { self.new.failures ≡ self.old.failures }
         ensures kind { IfOk result (λ p. is_restarted p ≡ false) }
         ensures no_log { IfErr result (λ e. is_log e ≡ false) }
         ensures members { IfOk result (HasMembers self.old.copy) }
@@ -210,15 +217,17 @@ impl<D: LogDevice> Copy<D> {
 
     fn prepare_restart(&mut self, alloc: Global) -> Result<Prepared, CopyFault>
         ensures step { self.old.closed ≡ false → Gives fault_of (prepared_step self.old.copy) result (copy_step self.old.copy Restart) }
-        ensures found { IfOk result (IsFound self.old) }
-        ensures kind { IfOk result (λ p. is_restarted p ≡ true) }
-        ensures failed { IsErrOf result (Log Device) → Rises self.old.failures self.new.failures }
         ensures ready { IfOk result (IsReady self.new) }
         ensures copy { self.new.copy ≡ self.old.copy }
+        ensures records { kept self.new.log ≡ kept self.old.log }
         ensures log { self.old.closed ≡ false → self.new.log ≡ self.old.log }
         ensures stays { OnOk result (self.new.closed ≡ self.old.closed) }
         ensures closes { IfErr result (λ e. self.new.closed ≡ (self.old.closed || is_log e)) }
+        ensures found { IfOk result (IsFound self.old) }
+        ensures unread { IfErr result (IsUnread self.old.log self.old.failures self.new.failures) }
+        ensures kind { IfOk result (λ p. is_restarted p ≡ true) }
         ensures members { IfOk result (HasMembers self.old.copy) }
+        ensures in_memory { D.in_memory ≡ true → IsErrOf result (Log Device) → ⊥ }
     {
         let records = self.reopen_log(alloc)?;
         let (reopened, output) = self.state.stage_reopen(alloc, records)?;
@@ -231,18 +240,19 @@ impl<D: LogDevice> Copy<D> {
         ensures same { IfOk result (λ rs. self.old.closed ≡ false → rs.items ≡ self.old.copy.records) }
         ensures whole { IfOk result (λ rs. IsTranslog self.new.log rs.items) }
         ensures copy { self.new.copy ≡ self.old.copy }
+        ensures records { kept self.new.log ≡ kept self.old.log }
         ensures log { self.old.closed ≡ false → self.new.log ≡ self.old.log }
         ensures stays { OnOk result (self.new.closed ≡ self.old.closed) }
         ensures closes { IfErr result (λ e. self.new.closed ≡ (self.old.closed || is_log e)) }
-        ensures cause { IfErr result (λ e. (e ≡ NoMemory) ⊎ (is_log e ≡ true)) }
-        ensures failed { IsErrOf result (Log Device) → Rises self.old.failures self.new.failures }
+        ensures unread { IfErr result (IsUnread self.old.log self.old.failures self.new.failures) }
+        ensures in_memory { D.in_memory ≡ true → IsErrOf result (Log Device) → ⊥ }
     {
         match self.log.reopen(alloc) {
             Ok(records) => Ok(records),
-            Err(LogFault::NoMemory) => Err(CopyFault::NoMemory),
             Err(fault) => {
-                self.closed = true;
-                Err(CopyFault::Log(fault))
+                let refusal = CopyFault::from(fault);
+                self.closed = self.closed || refusal.is_log();
+                Err(refusal)
             }
         }
     }
@@ -258,6 +268,7 @@ impl<D: LogDevice> Copy<D> {
         ensures shown { is_some (new_snapshot prepared) ≡ true → IsOk result }
         ensures memory { IsErrOf result NoMemory → self.new ≡ self.old }
         ensures closed { IsErrOf result (Log Device) → IsClosed self.old self.new (prepared_copy self.old.copy prepared) }
+        ensures in_memory { D.in_memory ≡ true → IsErrOf result (Log Device) → ⊥ }
     {
         match prepared {
             Prepared::Answered(output) => Ok(output),
@@ -288,6 +299,7 @@ impl<D: LogDevice> Copy<D> {
         ensures cause { IfErr result (λ e. (e ≡ NoMemory) ⊎ (e ≡ Log Device)) }
         ensures memory { IsErrOf result NoMemory → self.new ≡ self.old }
         ensures closed { IsErrOf result (Log Device) → IsClosed self.old self.new (placed self.old.copy planned.kept planned.known planned.role) }
+        ensures in_memory { D.in_memory ≡ true → IsErrOf result (Log Device) → ⊥ }
     {
         let Planned {
             kept,
@@ -305,17 +317,17 @@ impl<D: LogDevice> Copy<D> {
         }
     }
 
-    /// Does a step: it is made ready and done.
+    /// Does a step: it is made ready and done. A fault of the log closes the copy.
     pub fn step(&mut self, alloc: Global, input: Input) -> Result<Output, CopyFault>
         ensures step { self.old.closed ≡ false → Gives fault_of (stepped self.new.copy) result (copy_step self.old.copy input) }
         ensures closed { self.old.closed ≡ true → is_restart input ≡ false → result ≡ Err Closed }
-        ensures refused { self.old.closed ≡ false → IfErr result (λ e. is_log e ≡ false → IsSame self.old self.new) }
-        ensures closes { IfErr result (λ e. is_log e ≡ true → self.new.closed ≡ true) }
         ensures open { OnOk result (self.new.closed ≡ false) }
-        ensures found { is_restart input ≡ true → OnOk result (IsReopened self.old self.new) }
-        ensures failed { IsErrOf result (Log Device) → Rises self.old.failures self.new.failures }
+        ensures refused { IfErr result (λ e. is_log e ≡ false → IsSame self.old self.new) }
+        ensures failed { IfErr result (λ e. is_log e ≡ true → IsFailed self.old self.new (copy_step self.old.copy input) e) }
+        ensures found { is_restart input ≡ true → IfOk result (IsReopened self.old self.new) }
+        ensures unread { is_restart input ≡ true → IfErr result (IsUnread self.old.log self.old.failures self.new.failures) }
         ensures members { IfOk result (λ o. o.members ≡ members_of self.new.copy.role) }
-        ensures stays { self.old.closed ≡ true → OnErr result (self.new.closed ≡ true) }
+        ensures in_memory { D.in_memory ≡ true → IsErrOf result (Log Device) → ⊥ }
     {
         let prepared = self.prepare(alloc, input)?;
         self.commit(alloc, prepared)

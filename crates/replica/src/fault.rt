@@ -1,7 +1,7 @@
 //! What a copy refuses.
 
 ghost use Rattle.std.specs.Prelude.{◌≡◌};
-ghost use Rattle.replica.specs.Fault.{name_of};
+ghost use Rattle.replica.specs.Fault.{is_log, name_of};
 
 use std::alloc::{AllocError, AllocFailed};
 use thiserror::Error;
@@ -24,7 +24,7 @@ pub enum CopyFault {
     Log(LogFault),
     #[error("out of memory")]
     NoMemory,
-    #[error("a number would pass 9,223,372,036,854,775,807")]
+    #[error("a number would pass 9,223,372,036,854,775,807, or a record 4,294,967,295 bytes")]
     Exhausted,
 }
 
@@ -43,6 +43,13 @@ impl CopyFault {
             CopyFault::NoMemory => "NoMemory",
             CopyFault::Exhausted => "Exhausted",
         }
+    }
+
+    /// Whether it is a fault of the log, which closes the copy.
+    pub fn is_log(&self) -> bool
+        ensures { result ≡ is_log self.now }
+    {
+        matches!(self, CopyFault::Log(_))
     }
 }
 

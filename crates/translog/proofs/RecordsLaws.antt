@@ -1,6 +1,6 @@
 -- Records of frames, one after the other, and what a translog keeps.
-use Rattle.std.proofs.Common.{◌≡◌, ◌⊎◌, inl, inr, ℕ, zero, suc, ◌+◌, ◌^◌, ◌<◌, ◌≤◌, List, [], ◌∷◌, ◌++◌, length, take, drop, get_or, map, add-one, length-append, Option, Some, None, Result, Ok, Err, refl, sym, ap, subst, ◌∙◌, append_assoc, arith}
-use Rattle.std.specs.Prelude.{IfSome, OnErr}
+use Rattle.std.proofs.Common.{◌≡◌, Bool, true, false, ◌⊎◌, inl, inr, ℕ, zero, suc, ◌+◌, ◌^◌, ◌<◌, ◌≤◌, List, [], ◌∷◌, ◌++◌, length, take, drop, get_or, map, add-one, length-append, Option, Some, None, Result, Ok, Err, refl, sym, ap, subst, ◌∙◌, append_assoc, arith}
+use Rattle.std.specs.Prelude.{IfSome, OnErr, if◌then◌else◌}
 use Rattle.std.specs.List.{flat_map, All, AllByRecursion}
 use Rattle.std.proofs.lemmas.List.{append-nil, map_push, take_all}
 use Rattle.std.proofs.lemmas.Bool.{cases_lt}
@@ -12,7 +12,7 @@ use Rattle.op.specs.Records.{IsRecord}
 use Rattle.op.specs.FormatFault as op
 use Rattle.op.specs.Format.{spelling}
 use Rattle.op.specs.Reading.{record_of}
-use Rattle.translog.specs.Fault.{Fault}
+use Rattle.translog.specs.Fault.{Fault, bad_magic, damaged, too_large}
 use Rattle.translog.specs.Frames.{framed, log_of, first_frame, contents_in, AreContents, IsLog}
 use Rattle.translog.specs.Kept.{header, or_damaged, records_from, kept, IsSpelt, IsTranslog}
 use Rattle.translog.proofs.FramesLaws.{whole_log, contents_in_log, torn_frame}
@@ -76,6 +76,36 @@ kept_same new old e = rw e refl
 pub whole_kept : (bytes : List ℕ) (rs : List Record) → IsTranslog bytes rs → kept bytes ≡ Ok rs
 whole_kept bytes rs log =
     ap kept log.whole ∙ kept_of (log_of header (map spelling rs)) (map spelling rs) (whole_log header (map spelling rs) refl (small_contents rs log.each)) ∙ spelt_records 4 rs log.each
+
+-- ---- opening finds no frame too large
+
+bad_or_found : (b : Bool) (cs : List (List ℕ)) → (let r : Result (List (List ℕ)) Fault = if b then Ok cs else Err bad_magic in r) ≡ Err too_large → ⊥
+bad_or_found true cs e = absurd cc
+bad_or_found false cs e = absurd cc
+
+contents_not_large : (bytes : List ℕ) → contents_in header bytes ≡ Err too_large → ⊥
+unfolding contents_in
+contents_not_large bytes e = bad_or_found _ _ e
+
+records_not_large : (offset : ℕ) (cs : List (List ℕ)) → records_from offset cs ≡ Err too_large → ⊥
+unfolding records_from
+records_not_large offset [] e = absurd cc
+records_not_large offset (c ∷ cs) e = step_not_large (record_of c) (records_from (offset + (4 + length c)) cs) (records_not_large (offset + (4 + length c)) cs) e
+  where
+    tail_not_large : (r : Record) (rest : Result (List Record) Fault) → (rest ≡ Err too_large → ⊥) → (rest >>= λ rs. Ok (r ∷ rs)) ≡ Err too_large → ⊥
+    tail_not_large r (Ok rs) h e = absurd cc
+    tail_not_large r (Err f) h e = h e
+    step_not_large : (read : Result Record op.Fault) (rest : Result (List Record) Fault) → (rest ≡ Err too_large → ⊥) → (or_damaged offset read >>= λ r. rest >>= λ rs. Ok (r ∷ rs)) ≡ Err too_large → ⊥
+    step_not_large (Ok r) rest h e = tail_not_large r rest h e
+    step_not_large (Err d) rest h e = absurd cc
+
+from_contents : (found : Result (List (List ℕ)) Fault) → (found ≡ Err too_large → ⊥) → (found >>= λ cs. records_from 4 cs) ≡ Err too_large → ⊥
+from_contents (Ok cs) h e = records_not_large 4 cs e
+from_contents (Err f) h e = h (ap (λ (x : Fault). Err x) cc)
+
+pub kept_not_large : (bytes : List ℕ) → kept bytes ≡ Err too_large → ⊥
+unfolding kept
+kept_not_large bytes e = from_contents (contents_in header bytes) (contents_not_large bytes) e
 
 pub all_rules : (rs : List Record) → AllByRecursion IsSpelt rs → All IsRecord rs
 all_rules rs each = All-from_recursion IsRecord rs (rules_of rs each)

@@ -37,7 +37,7 @@ pub trait LogDevice: Drop {
     /// How often it has failed, up to the greatest `u64`.
     ghost failures: { Self → ℕ };
 
-    /// Whether it is in memory: then an append within the room doesn't fail.
+    /// Whether it is in memory: then nothing fails but an append past the room.
     ghost in_memory: { Bool };
 
     /// Makes room for so many bytes more. A device that isn't in memory has nothing to do.
@@ -59,14 +59,17 @@ pub trait LogDevice: Drop {
         ensures bytes { IfOk result (λ bytes. bytes.items ≡ held self.old) }
         ensures held { held self.new ≡ held self.old }
         ensures risen { IsErrOf result Broken → Rises (failures self.old) (failures self.new) }
-        ensures counts { failures self.old ≤ failures self.new };
+        ensures counts { failures self.old ≤ failures self.new }
+        ensures in_memory { in_memory ≡ true → IsErrOf result Broken → ⊥ };
 
     /// Keeps its first bytes, so many, and drops the others. Where it fails, all of them or those are left.
     fn cut(&mut self, len: usize) -> Result<(), Failed>
         ensures ok { OnOk result (held self.new ≡ take len (held self.old)) }
         ensures err { OnErr result ((held self.new ≡ held self.old) ⊎ (held self.new ≡ take len (held self.old))) }
         ensures risen { OnErr result (Rises (failures self.old) (failures self.new)) }
-        ensures counts { failures self.old ≤ failures self.new };
+        ensures counts { failures self.old ≤ failures self.new }
+        ensures room { room self.old ≤ room self.new }
+        ensures in_memory { in_memory ≡ true → IsOk result };
 
     /// How often it has failed. At its greatest value the count stays.
     fn faults(&self) -> u64

@@ -88,6 +88,7 @@ impl<D: LogDevice> Frames<D> {
         ensures offsets { IfOk result (λ x. length (D.held x.0.device) < 2 ^ 64) }
         ensures header { IfOk result (λ x. x.0.header ≡ header) }
         ensures failed { IsErrOf result Device → (left : D) × Rises (D.failures device) (D.failures left) }
+        ensures in_memory { D.in_memory ≡ true → IsErrOf result Device → ⊥ }
     {
         let mut frames = Frames::over(header, device);
         let contents = frames.reopen(alloc)?;
@@ -105,6 +106,7 @@ impl<D: LogDevice> Frames<D> {
         ensures stays { (cs : List (List ℕ)) → IsLog self.old.header (D.held self.old.device) cs → D.held self.new.device ≡ D.held self.old.device }
         ensures failed { IsErrOf result Device → Rises (D.failures self.old.device) (D.failures self.new.device) }
         ensures counts { D.failures self.old.device ≤ D.failures self.new.device }
+        ensures in_memory { D.in_memory ≡ true → IsErrOf result Device → ⊥ }
     {
         opened(alloc, &self.header, &mut self.device)
     }
@@ -168,6 +170,7 @@ fn opened<D: LogDevice>(
     ensures stays { (cs : List (List ℕ)) → IsLog header.now (D.held device.old) cs → D.held device.new ≡ D.held device.old }
     ensures failed { IsErrOf result Device → Rises (D.failures device.old) (D.failures device.new) }
     ensures counts { D.failures device.old ≤ D.failures device.new }
+    ensures in_memory { D.in_memory ≡ true → IsErrOf result Device → ⊥ }
 {
     let bytes = read(alloc, device)?;
     let held = bytes.as_slice();
@@ -191,6 +194,7 @@ fn read<D: LogDevice>(alloc: Global, device: &mut D) -> Result<Vec<u8>, LogFault
     ensures cause { IfErr result (λ e. fault_of e ≡ None) }
     ensures failed { IsErrOf result Device → Rises (D.failures device.old) (D.failures device.new) }
     ensures counts { D.failures device.old ≤ D.failures device.new }
+    ensures in_memory { D.in_memory ≡ true → IsErrOf result Device → ⊥ }
 {
     Ok(device.read_all(alloc)?)
 }
@@ -249,6 +253,7 @@ fn write_header<D: LogDevice>(header: &[u8; 4], device: &mut D) -> Result<(), Lo
     ensures cause { IfErr result (λ e. fault_of e ≡ None) }
     ensures failed { IsErrOf result Device → Rises (D.failures device.old) (D.failures device.new) }
     ensures counts { D.failures device.old ≤ D.failures device.new }
+    ensures in_memory { D.in_memory ≡ true → IsErrOf result Device → ⊥ }
 {
     device.reserve(HEADER)?;
     device.cut(0)?;
@@ -264,6 +269,7 @@ fn cut_rest<D: LogDevice>(device: &mut D, rest: &[u8], len: usize) -> Result<(),
     ensures cause { IfErr result (λ e. e ≡ Device) }
     ensures failed { OnErr result (Rises (D.failures device.old) (D.failures device.new)) }
     ensures counts { D.failures device.old ≤ D.failures device.new }
+    ensures in_memory { D.in_memory ≡ true → IsOk result }
 {
     if !rest.is_empty() {
         device.cut(len)?;

@@ -48,6 +48,7 @@ impl<D: LogDevice> Translog<D> {
         ensures whole { IfOk result (λ x. IsTranslog (D.held x.0) x.1.items) }
         ensures rules { IfOk result (λ x. All IsRecord x.1.items) }
         ensures failed { IsErrOf result Device → (left : D) × Rises (D.failures device) (D.failures left) }
+        ensures in_memory { D.in_memory ≡ true → IsErrOf result Device → ⊥ }
     {
         let mut log = Translog {
             frames: Frames::over(RSX1, device),
@@ -66,6 +67,7 @@ impl<D: LogDevice> Translog<D> {
         ensures stays { (rs : List Record) → IsTranslog (D.held self.old) rs → D.held self.new ≡ D.held self.old }
         ensures failed { IsErrOf result Device → Rises (D.failures self.old) (D.failures self.new) }
         ensures counts { D.failures self.old ≤ D.failures self.new }
+        ensures in_memory { D.in_memory ≡ true → IsErrOf result Device → ⊥ }
     {
         let contents = self.frames.reopen(alloc)?;
         records_of(alloc, contents.as_slice())

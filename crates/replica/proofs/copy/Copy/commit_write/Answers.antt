@@ -1,5 +1,6 @@
-use Rattle.std.proofs.Common.{refl, ap, subst}
+use Rattle.std.proofs.Common.{refl, ap, subst, ◌∙◌}
 use Rattle.replica.specs.Logged.{Logged, IsLogged}
+use Rattle.replica.specs.Standing.{placed}
 use Rattle.replica.proofs.LogLaws.{torn_at}
 use Rattle.replica.proofs.copy.Copy.commit_write.Goals as goal
 
@@ -11,6 +12,7 @@ returns-clause-closed g c failed =
     let failures = ap (λ (l : Logged). l.failures) c.self.view_is in
     record {
       closed = refl;
+      copy = c.in_ok-place.ensures.ok ∙ ap (λ (l : Logged). placed l.copy c.args.planned.kept c.args.planned.known c.args.planned.role) c.self.view_is;
       records = torn_at _ _ _ s.copy.records c.args.planned.kept c.args.frame log (logged c.requires.0) c.requires.2 c.requires.3 c.in-Err.ensures.err;
       risen = rw failures at c.in-Err.ensures.failed;
     }
