@@ -1,12 +1,12 @@
 //! The rules of records.
 ghost use Rattle.std.specs.Prelude.{◌≡◌};
-ghost use Rattle.op.specs.Checkpoint.{known};
 ghost use Rattle.op.specs.Rules as spec;
 
+use crate::checkpoint::count;
 use crate::operation::{Body, Op};
 use crate::record::Record;
 
-// The greatest sequence number, term and version.
+/// The greatest sequence number, term and version.
 const MAX_NUMBER: u64 = 9_223_372_036_854_775_807;
 
 /// Whether a record keeps the rules of the translog's format.
@@ -16,19 +16,9 @@ pub(crate) fn is_record(found: &Record) -> bool
     match found {
         Record::Op(known, op) => *known >= -1 && is_operation(op) && is_write(&op.body),
         Record::Resync(term, known, tail) => {
-            *known >= -1 && is_term(*term) && is_history(*term, next_of(*known), tail.as_slice())
+            *known >= -1 && is_term(*term) && is_history(*term, count(*known), tail.as_slice())
         }
         Record::Recover(term, all) => is_term(*term) && is_history(*term, 0, all.as_slice()),
-    }
-}
-
-fn next_of(checkpoint: i64) -> u64
-    ensures { result ≡ known checkpoint }
-{
-    if checkpoint < 0 {
-        0
-    } else {
-        checkpoint as u64 + 1
     }
 }
 

@@ -1,6 +1,7 @@
 -- A loop that reads one after another and hands a number on.
-use Rattle.std.proofs.Common.{◌≡◌, ℕ, List, [], ◌∷◌, ◌++◌, Option, Some, None, Result, Ok, Err, IfSome, refl, sym, ap, ◌∙◌}
+use Rattle.std.proofs.Common.{◌≡◌, ℕ, List, [], ◌∷◌, ◌++◌, Option, Result, Ok, Err, refl, sym, ap, ◌∙◌}
 use Rattle.doc.specs.Outcome.{◌>>=◌, Fails}
+use Rattle.doc.proofs.Fronts.{fault_ends}
 use Rattle.query.specs.Reading.{thread}
 
 abbrev pub thread_front : {A F : Type 0} → List A → Result (List A × ℕ) F → Result (List A × ℕ) F
@@ -24,10 +25,6 @@ pub thread_on : {A B F : Type 0} (f : ℕ → A → Result (B × ℕ) F) (front 
 thread_on f front left x y after xs total h so_far =
     let one : thread_front front (thread f left (x ∷ xs)) ≡ thread_front (front ++ y ∷ []) (thread f after xs) = rw h (regroup front y (thread f after xs)) in
     sym one ∙ so_far
-
-fault_ends : {Y Z F : Type 0} (o : Option F) (read : Result Y F) (total : Result Z F) → ((d : F) → read ≡ Err d → total ≡ Err d) → IfSome o (λ f. read ≡ Err f) → IfSome o (λ f. total ≡ Err f)
-fault_ends None read total h fails = tt
-fault_ends (Some d) read total h fails = h d fails
 
 pub thread_ends : {A B E F : Type 0} (fault : E → Option F) (e : E) (f : ℕ → A → Result (B × ℕ) F) (front : List B) (left : ℕ) (x : A) (xs : List A) (total : Result (List B × ℕ) F) → Fails fault e (f left x)
     → thread_front front (thread f left (x ∷ xs)) ≡ total → Fails fault e total

@@ -1,12 +1,13 @@
 -- Records of frames, one after the other, and what a translog keeps.
 use Rattle.std.proofs.Common.{◌≡◌, Bool, true, false, ◌⊎◌, inl, inr, ℕ, zero, suc, ◌+◌, ◌^◌, ◌<◌, ◌≤◌, List, [], ◌∷◌, ◌++◌, length, take, drop, get_or, map, add-one, length-append, Option, Some, None, Result, Ok, Err, refl, sym, ap, subst, ◌∙◌, append_assoc, arith}
-use Rattle.std.specs.Prelude.{IfSome, OnErr, if◌then◌else◌}
+use Rattle.std.specs.Prelude.{OnErr, if◌then◌else◌}
 use Rattle.std.specs.List.{flat_map, All, AllByRecursion}
 use Rattle.std.proofs.lemmas.List.{append-nil, map_push, take_all}
 use Rattle.std.proofs.lemmas.Bool.{cases_lt}
 use Rattle.std.proofs.lemmas.Grind.{flat_map-append}
 use Rattle.std.proofs.lemmas.List.Elements.{All-from_recursion}
 use Rattle.doc.specs.Outcome.{◌>>=◌, Fails}
+use Rattle.doc.proofs.Fronts.{fault_ends}
 use Rattle.op.specs.declared.record.Record.{Record}
 use Rattle.op.specs.Records.{IsRecord}
 use Rattle.op.specs.FormatFault as op
@@ -32,10 +33,6 @@ unfolding records_from
 goes_on front offset next content contents r total h after so_far =
     let one : with_front front (records_from offset (content ∷ contents)) ≡ with_front (front ++ r ∷ []) (records_from (offset + (4 + length content)) contents) = rw h (regroup front r (records_from (offset + (4 + length content)) contents)) in
     ap (λ n. with_front (front ++ r ∷ []) (records_from n contents)) after ∙ sym one ∙ so_far
-
-fault_ends : {Y Z : Type 0} (o : Option Fault) (read : Result Y Fault) (total : Result Z Fault) → ((d : Fault) → read ≡ Err d → total ≡ Err d) → IfSome o (λ f. read ≡ Err f) → IfSome o (λ f. total ≡ Err f)
-fault_ends None read total h fails = tt
-fault_ends (Some d) read total h fails = h d fails
 
 pub ends : {E : Type 0} (fault : E → Option Fault) (e : E) (front : List Record) (offset : ℕ) (content : List ℕ) (contents : List (List ℕ)) (total : Result (List Record) Fault) → Fails fault e (or_damaged offset (record_of content))
     → with_front front (records_from offset (content ∷ contents)) ≡ total → Fails fault e total
