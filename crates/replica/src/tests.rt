@@ -117,7 +117,11 @@ fn each_failed_append_is_there_whole_or_not(rt: HostRuntime) -> Result<(), Fail>
     for written in 1..4 {
         for front in 0..FRAME + 1 {
             let whole = if front < FRAME { 0 } else { 1 };
-            assert_eq!(rt; found_after(rt.alloc(), written, front)?, written as u64 + whole, "{front} bytes of append {written}");
+            assert_eq!(rt;
+                found_after(rt.alloc(), written, front)?,
+                written as u64 + whole,
+                "{front} bytes of append {written}"
+            );
         }
     }
     Ok(())

@@ -92,6 +92,7 @@ records_not_large offset (c ∷ cs) e = step_not_large (record_of c) (records_fr
     tail_not_large : (r : Record) (rest : Result (List Record) Fault) → (rest ≡ Err too_large → ⊥) → (rest >>= λ rs. Ok (r ∷ rs)) ≡ Err too_large → ⊥
     tail_not_large r (Ok rs) h e = absurd cc
     tail_not_large r (Err f) h e = h e
+
     step_not_large : (read : Result Record op.Fault) (rest : Result (List Record) Fault) → (rest ≡ Err too_large → ⊥) → (or_damaged offset read >>= λ r. rest >>= λ rs. Ok (r ∷ rs)) ≡ Err too_large → ⊥
     step_not_large (Ok r) rest h e = tail_not_large r rest h e
     step_not_large (Err d) rest h e = absurd cc
