@@ -9,8 +9,6 @@ pub mod operations;
 pub mod reading;
 pub mod record;
 mod rules;
-#[cfg(test)]
-mod tests;
 pub mod writing;
 
 pub use fault::OpFault;

@@ -11,8 +11,6 @@ pub mod planned;
 pub mod prepared;
 pub mod role;
 mod state;
-#[cfg(test)]
-mod tests;
 mod writing;
 
 pub use copy::Copy;
