@@ -5,6 +5,7 @@ use crate::device::{DeviceFault, Failed, LogDevice};
 use crate::fault::LogFault;
 use crate::log::Translog;
 use crate::memory::MemDevice;
+use crate::refused::Refused;
 use doc::DocId;
 use op::{Body, Op, Record};
 use std::alloc::{AllocError, Global};
@@ -57,7 +58,14 @@ fn a_changed_tag_is_damage(rt: HostRuntime) -> Result<(), Fail> {
     let mut bytes = LOG.to_vec(rt.alloc())?;
     bytes[8] = 9;
     let found = Translog::open(rt.alloc(), MemDevice::new(bytes));
-    assert!(rt; matches!(found, Err(LogFault::Damaged(4))));
+    let is_damaged = matches!(
+        found,
+        Err(Refused {
+            fault: LogFault::Damaged(4),
+            ..
+        })
+    );
+    assert!(rt; is_damaged);
     Ok(())
 }
 
