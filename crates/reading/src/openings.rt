@@ -1,8 +1,8 @@
 //! What opening the bytes of a translog gives.
-ghost use Rattle.std.specs.Prelude.{All, IfOk};
+ghost use Rattle.std.specs.Prelude.{All};
 ghost use Rattle.op.specs.Records.{IsRecord};
 
-use crate::appending::{append_all, empty_log};
+use crate::appending::empty_log;
 use anyhow::{Context, Result, bail};
 use op::Record;
 use std::alloc::Global;
@@ -33,22 +33,14 @@ fn check_written(alloc: Global, records: &[Record], bytes: &[u8]) -> Result<()>
     requires { All IsRecord records.now }
 {
     let mut log = empty_log(alloc)?;
-    append_all(alloc, &mut log, &copies(alloc, records)?)?;
+    for entry in records {
+        let frame = log.prepare(alloc, &entry.copy(alloc)?)?;
+        log.append(frame)?;
+    }
     if log.device().bytes() != bytes {
         bail!("records are written as other bytes than they were read from");
     }
     Ok(())
-}
-
-fn copies(alloc: Global, records: &[Record]) -> Result<Vec<Record>>
-    requires { All IsRecord records.now }
-    ensures { IfOk result (λ rs. All IsRecord rs.items) }
-{
-    let mut copied = Vec::new(alloc);
-    for entry in records {
-        copied.push(entry.copy(alloc)?)?;
-    }
-    Ok(copied)
 }
 
 /// Prints a line for each line.

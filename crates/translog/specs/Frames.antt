@@ -3,11 +3,10 @@ use Rattle.std.specs.Prelude.{◌≡◌, ℕ, zero, suc, ◌<◌, ◌^◌, Bool,
 use Rattle.std.specs.List.{flat_map, AllByRecursion}
 use Rattle.std.specs.Int.{w32, to_le_bytes, from_le_bytes}
 use Rattle.std.specs.Str.{bytes_eq}
-use Rattle.translog.specs.declared.fault.LogFault.{LogFault}
 use Rattle.translog.specs.declared.frames.Torn.{Torn}
 use Rattle.translog.specs.declared.frames.Torn.TheVariants.{Nothing, End, Header}
 use Rattle.translog.specs.Device.{count_after}
-use Rattle.translog.specs.Fault.{Fault, bad_magic, too_large, is_device}
+use Rattle.translog.specs.Fault.{Fault, bad_magic, too_large}
 
 -- the frame of a content
 abbrev pub framed : List ℕ → List ℕ
@@ -77,10 +76,10 @@ pub record IsOpened (header old new : List ℕ) (contents : List (List ℕ)) (be
   pub counts : now ≡ before
 
 -- a log that wasn't opened: its bytes are as they were, or, where the device failed, nothing of it is lost; and that failure is counted
-pub record IsUnopened (fault : LogFault) (header old new : List ℕ) (before now : ℕ) : Type 0 where
-  pub same : is_device fault ≡ false → new ≡ old
+pub record IsUnopened (failed : Bool) (header old new : List ℕ) (before now : ℕ) : Type 0 where
+  pub same : failed ≡ false → new ≡ old
   pub left : LosesNothing header old new
-  pub counts : now ≡ count_after (is_device fault) before
+  pub counts : now ≡ count_after failed before
 
 -- a log as it is seen: its header, and the device that holds it
 pub record Log (D : Type 0) : Type 0 where

@@ -97,7 +97,7 @@ impl<D: LogDevice> Frames<D> {
     ) -> Result<(Frames<D>, Vec<Vec<u8>>), Refused<D, LogFault>>
         ensures found { Gives (λ r. fault_of r.fault) (λ x. map (λ c. c.items) x.1.items) result (contents_in header (D.held device)) }
         ensures opened { IfOk result (λ x. IsOpened header (D.held device) (D.held x.0.device) (map (λ c. c.items) x.1.items) (D.failures device) (D.failures x.0.device)) }
-        ensures refused { IfErr result (λ r. IsUnopened r.fault header (D.held device) (D.held r.device) (D.failures device) (D.failures r.device)) }
+        ensures refused { IfErr result (λ r. IsUnopened (is_device r.fault) header (D.held device) (D.held r.device) (D.failures device) (D.failures r.device)) }
         ensures offsets { IfOk result (λ x. 4 + length (flat_map framed (map (λ c. c.items) x.1.items)) < 2 ^ 64) }
         ensures header { IfOk result (λ x. x.0.header ≡ header) }
         ensures in_memory { D.in_memory ≡ true → IfErr result (λ r. is_device r.fault ≡ false) }
@@ -116,7 +116,7 @@ impl<D: LogDevice> Frames<D> {
     pub fn reopen(&mut self, alloc: Global) -> Result<Vec<Vec<u8>>, LogFault>
         ensures found { Gives fault_of (λ cs. map (λ c. c.items) cs.items) result (contents_in self.old.header (D.held self.old.device)) }
         ensures opened { IfOk result (λ cs. IsOpened self.old.header (D.held self.old.device) (D.held self.new.device) (map (λ c. c.items) cs.items) (D.failures self.old.device) (D.failures self.new.device)) }
-        ensures refused { IfErr result (λ e. IsUnopened e self.old.header (D.held self.old.device) (D.held self.new.device) (D.failures self.old.device) (D.failures self.new.device)) }
+        ensures refused { IfErr result (λ e. IsUnopened (is_device e) self.old.header (D.held self.old.device) (D.held self.new.device) (D.failures self.old.device) (D.failures self.new.device)) }
         ensures offsets { IfOk result (λ cs. 4 + length (flat_map framed (map (λ c. c.items) cs.items)) < 2 ^ 64) }
         ensures header { self.new.header ≡ self.old.header }
         ensures in_memory { D.in_memory ≡ true → IfErr result (λ e. is_device e ≡ false) }
@@ -145,7 +145,7 @@ impl<D: LogDevice> Frames<D> {
         requires { (contents : List (List ℕ)) × IsTorn self.old.header (D.held self.old.device) contents torn }
         ensures ok { OnOk result (D.held self.new.device ≡ mended self.old.header (D.held self.old.device) torn) }
         ensures counts { OnOk result (D.failures self.new.device ≡ D.failures self.old.device) }
-        ensures refused { IfErr result (λ e. IsUnopened e self.old.header (D.held self.old.device) (D.held self.new.device) (D.failures self.old.device) (D.failures self.new.device)) }
+        ensures refused { IfErr result (λ e. IsUnopened (is_device e) self.old.header (D.held self.old.device) (D.held self.new.device) (D.failures self.old.device) (D.failures self.new.device)) }
         ensures cause { IfErr result (λ e. fault_of e ≡ None) }
         ensures header { self.new.header ≡ self.old.header }
         ensures in_memory { D.in_memory ≡ true → IfErr result (λ e. is_device e ≡ false) }
@@ -311,7 +311,7 @@ fn mend<D: LogDevice>(header: &[u8; 4], device: &mut D, torn: Torn) -> Result<()
     requires { (contents : List (List ℕ)) × IsTorn header.now (D.held device.old) contents torn }
     ensures ok { OnOk result (D.held device.new ≡ mended header.now (D.held device.old) torn) }
     ensures counts { OnOk result (D.failures device.new ≡ D.failures device.old) }
-    ensures refused { IfErr result (λ e. IsUnopened e header.now (D.held device.old) (D.held device.new) (D.failures device.old) (D.failures device.new)) }
+    ensures refused { IfErr result (λ e. IsUnopened (is_device e) header.now (D.held device.old) (D.held device.new) (D.failures device.old) (D.failures device.new)) }
     ensures cause { IfErr result (λ e. fault_of e ≡ None) }
     ensures in_memory { D.in_memory ≡ true → IfErr result (λ e. is_device e ≡ false) }
 {
@@ -330,7 +330,7 @@ fn write_header<D: LogDevice>(header: &[u8; 4], device: &mut D) -> Result<(), Lo
     requires { (m : ℕ) × (m < 4) × (D.held device.old ≡ take m header.now) }
     ensures ok { OnOk result (D.held device.new ≡ header.now) }
     ensures counts { OnOk result (D.failures device.new ≡ D.failures device.old) }
-    ensures refused { IfErr result (λ e. IsUnopened e header.now (D.held device.old) (D.held device.new) (D.failures device.old) (D.failures device.new)) }
+    ensures refused { IfErr result (λ e. IsUnopened (is_device e) header.now (D.held device.old) (D.held device.new) (D.failures device.old) (D.failures device.new)) }
     ensures cause { IfErr result (λ e. fault_of e ≡ None) }
     ensures in_memory { D.in_memory ≡ true → IfErr result (λ e. is_device e ≡ false) }
 {

@@ -60,7 +60,7 @@ impl<D: LogDevice> Translog<D> {
         ensures whole { IfOk result (λ x. IsTranslog (D.held x.0) x.1.items) }
         ensures rules { IfOk result (λ x. All IsRecord x.1.items) }
         ensures opened { IfOk result (λ x. IsOpened header (D.held device) (D.held x.0) (map spelling x.1.items) (D.failures device) (D.failures x.0)) }
-        ensures refused { IfErr result (λ r. IsUnopened r.fault header (D.held device) (D.held r.device) (D.failures device) (D.failures r.device)) }
+        ensures refused { IfErr result (λ r. IsUnopened (is_device r.fault) header (D.held device) (D.held r.device) (D.failures device) (D.failures r.device)) }
         ensures in_memory { D.in_memory ≡ true → IfErr result (λ r. is_device r.fault ≡ false) }
     {
         let mut log = Translog::over(device);
@@ -79,7 +79,7 @@ impl<D: LogDevice> Translog<D> {
         ensures whole { IfOk result (λ rs. IsTranslog (D.held self.new) rs.items) }
         ensures rules { IfOk result (λ rs. All IsRecord rs.items) }
         ensures opened { IfOk result (λ rs. IsOpened header (D.held self.old) (D.held self.new) (map spelling rs.items) (D.failures self.old) (D.failures self.new)) }
-        ensures refused { IfErr result (λ e. IsUnopened e header (D.held self.old) (D.held self.new) (D.failures self.old) (D.failures self.new)) }
+        ensures refused { IfErr result (λ e. IsUnopened (is_device e) header (D.held self.old) (D.held self.new) (D.failures self.old) (D.failures self.new)) }
         ensures in_memory { D.in_memory ≡ true → IfErr result (λ e. is_device e ≡ false) }
     {
         let (records, torn) = self.read(alloc)?;
@@ -108,7 +108,7 @@ impl<D: LogDevice> Translog<D> {
         requires { (contents : List (List ℕ)) × IsTorn header (D.held self.old) contents torn }
         ensures ok { OnOk result (D.held self.new ≡ mended header (D.held self.old) torn) }
         ensures counts { OnOk result (D.failures self.new ≡ D.failures self.old) }
-        ensures refused { IfErr result (λ e. IsUnopened e header (D.held self.old) (D.held self.new) (D.failures self.old) (D.failures self.new)) }
+        ensures refused { IfErr result (λ e. IsUnopened (is_device e) header (D.held self.old) (D.held self.new) (D.failures self.old) (D.failures self.new)) }
         ensures cause { IfErr result (λ e. fault_of e ≡ None) }
         ensures in_memory { D.in_memory ≡ true → IfErr result (λ e. is_device e ≡ false) }
     {
