@@ -7,8 +7,6 @@ pub mod frames;
 pub mod laws;
 pub mod log;
 pub mod memory;
-#[cfg(test)]
-mod tests;
 
 pub use device::{DeviceFault, Failed, LogDevice};
 pub use fault::LogFault;
