@@ -1,5 +1,5 @@
 -- The entries of the master's log as bytes.
-use Rattle.std.specs.Prelude.{ℕ, suc, ◌==◌, ◌&&◌, nat_le, List, [], ◌∷◌, Option, Some, None, if◌then◌else◌}
+use Rattle.std.specs.Prelude.{◌≤◌, ℕ, ◌==◌, ◌&&◌, nat_le, List, [], ◌∷◌, Option, Some, None, if◌then◌else◌}
 use Rattle.std.specs.Int.{w32, to_le_bytes, from_le_bytes}
 use Rattle.master.specs.declared.entry.Entry.{Entry}
 use Rattle.master.specs.declared.entry.Entry.TheVariants.{Begin, Promote, Allocate, Add, Remove}
@@ -31,6 +31,14 @@ entry_of (tag ∷ a ∷ b ∷ []) = None
 entry_of (tag ∷ a ∷ b ∷ c ∷ []) = None
 entry_of (tag ∷ a ∷ b ∷ c ∷ d ∷ []) = named tag (from_le_bytes w32 (a ∷ b ∷ c ∷ d ∷ []))
 entry_of (tag ∷ a ∷ b ∷ c ∷ d ∷ e ∷ more) = None
+
+-- an entry that may stand in a log: an index begins with one copy to five
+abbrev pub IsEntry : Entry → Type 0
+IsEntry (Begin copies) = (1 ≤ copies) × (copies ≤ 5)
+IsEntry (Promote id) = Unit {0}
+IsEntry Allocate = Unit {0}
+IsEntry (Add id) = Unit {0}
+IsEntry (Remove id) = Unit {0}
 
 -- the entry of a request that is accepted
 abbrev pub entry_for : Request → Entry

@@ -6,7 +6,7 @@ ghost use Rattle.master.specs.declared.fault.MasterFault.{MasterFault as Fault};
 ghost use Rattle.master.specs.declared.state.Request.TheVariants.{Promote, Allocate, Synced, Fail};
 ghost use Rattle.master.specs.Decide.{MasterStep, is_given, master_step, set_of, unless, word_faults};
 ghost use Rattle.master.specs.Fault.{fault_of, is_log};
-ghost use Rattle.master.specs.State.{IsBounded};
+ghost use Rattle.master.specs.State.{IsSound};
 
 use crate::fault::MasterFault;
 use crate::state::{Decision, Request, State};
@@ -18,6 +18,40 @@ use std::alloc::{AllocError, Global};
 pub(crate) struct Decided {
     pub(crate) state: State,
     pub(crate) decision: Decision,
+}
+
+impl Decided {
+    /// Whether nothing is new.
+    pub(crate) fn is_repeated(&self) -> bool
+        ensures { result ≡ self.now.decision.repeated }
+    {
+        self.decision.repeated
+    }
+
+    /// The decision alone.
+    pub(crate) fn into_decision(self) -> Decision
+        ensures { result ≡ self.decision }
+    {
+        let Decided { state: _, decision } = self;
+        decision
+    }
+
+    /// The state and the decision.
+    pub(crate) fn into_parts(self) -> (State, Decision)
+        ensures state { result.0 ≡ self.state }
+        ensures decision { result.1 ≡ self.decision }
+    {
+        let Decided { state, decision } = self;
+        (state, decision)
+    }
+
+    /// The state alone.
+    pub(crate) fn into_state(self) -> State
+        ensures { result ≡ self.state }
+    {
+        let Decided { state, decision: _ } = self;
+        state
+    }
 }
 
 /// How many copies that aren't gone there may be.
@@ -32,9 +66,9 @@ const GREATEST_TERM: u64 = 9_223_372_036_854_775_807;
 impl State {
     /// What a request leaves and decides. Nothing changes.
     pub(crate) fn decide(&self, alloc: Global, request: Request) -> Result<Decided, MasterFault>
-        requires { IsBounded self.now }
+        requires { IsSound self.now }
         ensures step { Gives fault_of (λ d. record { state = d.state; decision = d.decision }) result (master_step self.now request) }
-        ensures bounded { IfOk result (λ d. IsBounded d.state) }
+        ensures sound { IfOk result (λ d. IsSound d.state) }
         ensures log { IfErr result (λ e. is_log e ≡ false) }
     {
         match request {
@@ -48,9 +82,9 @@ impl State {
     /// A copy in sync becomes the primary of the next term. An old primary leaves the set, and each copy that isn't in it never comes back.
     #[tactic(auto, unfolding(crate::specs::Decide::unless))]
     fn promote(&self, alloc: Global, id: u32) -> Result<Decided, MasterFault>
-        requires { IsBounded self.now }
+        requires { IsSound self.now }
         ensures step { Gives fault_of (λ d. record { state = d.state; decision = d.decision }) result (master_step self.now (Promote id)) }
-        ensures bounded { IfOk result (λ d. IsBounded d.state) }
+        ensures sound { IfOk result (λ d. IsSound d.state) }
         ensures log { IfErr result (λ e. is_log e ≡ false) }
     {
         if self.gone.has(id) {
@@ -96,9 +130,9 @@ impl State {
     /// The next id is given, and the primary is told of the copy.
     #[tactic(auto, unfolding(crate::specs::Decide::unless))]
     fn allocate(&self, alloc: Global) -> Result<Decided, MasterFault>
-        requires { IsBounded self.now }
+        requires { IsSound self.now }
         ensures step { Gives fault_of (λ d. record { state = d.state; decision = d.decision }) result (master_step self.now Allocate) }
-        ensures bounded { IfOk result (λ d. IsBounded d.state) }
+        ensures sound { IfOk result (λ d. IsSound d.state) }
         ensures log { IfErr result (λ e. is_log e ≡ false) }
     {
         let given = self.next - 1;
@@ -123,9 +157,9 @@ impl State {
     /// A copy that has taken its operations joins the in-sync set.
     #[tactic(auto, unfolding(crate::specs::Decide::unless))]
     fn synced(&self, alloc: Global, term: u64, id: u32) -> Result<Decided, MasterFault>
-        requires { IsBounded self.now }
+        requires { IsSound self.now }
         ensures step { Gives fault_of (λ d. record { state = d.state; decision = d.decision }) result (master_step self.now (Synced term id)) }
-        ensures bounded { IfOk result (λ d. IsBounded d.state) }
+        ensures sound { IfOk result (λ d. IsSound d.state) }
         ensures log { IfErr result (λ e. is_log e ≡ false) }
     {
         if let Err(fault) = self.check_word(term, id) {
@@ -148,9 +182,9 @@ impl State {
     /// A copy that the primary reports leaves the in-sync set, and never comes back.
     #[tactic(auto, unfolding(crate::specs::Decide::unless))]
     fn fail(&self, alloc: Global, term: u64, id: u32) -> Result<Decided, MasterFault>
-        requires { IsBounded self.now }
+        requires { IsSound self.now }
         ensures step { Gives fault_of (λ d. record { state = d.state; decision = d.decision }) result (master_step self.now (Fail term id)) }
-        ensures bounded { IfOk result (λ d. IsBounded d.state) }
+        ensures sound { IfOk result (λ d. IsSound d.state) }
         ensures log { IfErr result (λ e. is_log e ≡ false) }
     {
         if let Err(fault) = self.check_word(term, id) {

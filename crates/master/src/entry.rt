@@ -1,7 +1,7 @@
 //! The entries of the master's log.
-ghost use Rattle.std.specs.Prelude.{◌≡◌, ◌∷◌, IfOk};
-ghost use Rattle.std.specs.Int.{w32, to_le_bytes};
-ghost use Rattle.master.specs.Entry.{begin_of, entry_for, entry_of, named, spelled};
+ghost use Rattle.std.specs.Prelude.{◌≡◌, ◌∷◌, IfOk, OnOk};
+ghost use Rattle.std.specs.Int.{w32, to_le_bytes, from_le_bytes};
+ghost use Rattle.master.specs.Entry.{begin_of, IsEntry, entry_for, entry_of, named, spelled};
 
 use crate::state::Request;
 use std::alloc::{AllocError, Global};
@@ -36,7 +36,9 @@ impl Entry {
 
     /// The bytes of an entry: a tag, and the number of copies or the id (four bytes, little-endian).
     pub fn spell(self, alloc: Global) -> Result<Vec<u8>, AllocError>
-        ensures { IfOk result (λ bytes. bytes.items ≡ spelled self) }
+        requires { IsEntry self }
+        ensures spelling { IfOk result (λ bytes. bytes.items ≡ spelled self) }
+        ensures reads { OnOk result (entry_of (spelled self) ≡ Some self) }
     {
         match self {
             Entry::Begin(copies) => Vec::from_slice(alloc, &[1, copies]),
@@ -62,7 +64,8 @@ impl Entry {
 
 /// A tag and an id.
 fn tagged(alloc: Global, tag: u8, id: u32) -> Result<Vec<u8>, AllocError>
-    ensures { IfOk result (λ bytes. bytes.items ≡ tag ∷ to_le_bytes w32 id) }
+    ensures bytes { IfOk result (λ bytes. bytes.items ≡ tag ∷ to_le_bytes w32 id) }
+    ensures reads { from_le_bytes w32 (to_le_bytes w32 id) ≡ id }
 {
     let [a, b, c, d] = id.to_le_bytes();
     Vec::from_slice(alloc, &[tag, a, b, c, d])
