@@ -4,7 +4,7 @@ use Rattle.doc.specs.Id.{Id}
 use Rattle.op.specs.declared.operation.Op.{Op}
 use Rattle.engine.specs.Answer as engine
 use Rattle.replica.specs.declared.output.Answer.{Answer}
-use Rattle.replica.specs.declared.output.Answer.TheVariants.{Wrote, Found, Missing, Point}
+use Rattle.replica.specs.declared.output.Answer.TheVariants.{Wrote, Taken, Stale, Repeated, Reported, Found, Missing, Point}
 use Rattle.replica.specs.declared.output.Outcome.{Outcome}
 use Rattle.replica.specs.declared.output.Outcome.TheVariants.{Created, Updated, Deleted, NotFound}
 use Rattle.replica.specs.declared.output.Document.{Document}
@@ -35,9 +35,13 @@ wrote_line w = codes "wrote " ++ (decimal w.seq ++ (codes " " ++ (decimal w.term
 abbrev pub found_line : Document → List ℕ
 found_line d = codes "found " ++ (decimal d.seq ++ (codes " " ++ (decimal d.term ++ (codes " " ++ (decimal d.version ++ (codes " " ++ (d.source ++ codes "\n")))))))
 
--- the line of a copy's answer
+-- the line of a copy's answer; a report has none
 abbrev pub answer_line : Answer → List ℕ
 answer_line (Wrote w) = wrote_line w
+answer_line Taken = codes "taken\n"
+answer_line Stale = codes "stale\n"
+answer_line Repeated = codes "repeated\n"
+answer_line Reported = []
 answer_line (Found d) = found_line d
 answer_line Missing = codes "missing\n"
 answer_line (Point n) = codes "point " ++ (decimal n ++ codes "\n")

@@ -44,6 +44,10 @@ fn answer_line(alloc: Global, answer: &Answer) -> Result<String, AllocError>
 {
     match answer {
         Answer::Wrote(written) => wrote_line(alloc, *written),
+        Answer::Taken => String::from_str(alloc, "taken\n"),
+        Answer::Stale => String::from_str(alloc, "stale\n"),
+        Answer::Repeated => String::from_str(alloc, "repeated\n"),
+        Answer::Reported => Ok(String::new(alloc)),
         Answer::Found(document) => found_line(alloc, document),
         Answer::Missing => String::from_str(alloc, "missing\n"),
         Answer::Point(count) => format!(in alloc; "point {count}\n"),

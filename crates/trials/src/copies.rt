@@ -53,7 +53,7 @@ fn played(alloc: Global, bad: (usize, usize), front: usize) -> Result<String, Fa
                 signs.push_str(sign_of(&stepped))?;
             }
         }
-        Err(fault) => signs.push_str(sign_of(&Err(fault)))?,
+        Err(refused) => signs.push_str(sign_of(&Err(refused.into_fault())))?,
     }
     Ok(signs)
 }
