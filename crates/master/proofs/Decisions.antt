@@ -1,6 +1,6 @@
 -- What an accepted request leaves, and its entry in the log.
-use Rattle.std.proofs.Common.{◌≡◌, ◌<◌, ◌≤◌, ◌+◌, ◌^◌, ◌⊎◌, inl, inr, ℕ, suc, Bool, true, false, not, ◌==◌, List, [], ◌∷◌, ◌++◌, length, length-append, take, if◌then◌else◌, Option, Some, None, Result, Ok, Err, refl, sym, ap, subst, ◌∙◌, append_assoc, append-nil, true≢false, arith}
-use Rattle.std.specs.List.{flat_map, AllByRecursion}
+use Rattle.std.proofs.Common.{◌≡◌, ◌<◌, ◌≤◌, ◌+◌, ◌^◌, ◌⊎◌, inl, inr, ℕ, Bool, true, false, not, ◌==◌, List, [], ◌∷◌, ◌++◌, length, take, if◌then◌else◌, Option, Some, None, Result, Ok, Err, refl, sym, ap, subst, ◌∙◌, append_assoc, append-nil, true≢false, arith}
+use Rattle.std.specs.List.{flat_map}
 use Rattle.std.proofs.lemmas.Bool.{cases_lt}
 use Rattle.std.proofs.lemmas.Bool.Decides.{nat_tests}
 use Rattle.std.proofs.lemmas.Grind.{flat_map-append}
@@ -10,20 +10,20 @@ use Rattle.doc.specs.Outcome.{◌>>=◌, Gives}
 use Rattle.op.specs.Ids.{has, with}
 use Rattle.translog.specs.Device.{AddsFront, count_after}
 use Rattle.translog.specs.declared.fault.LogFault.{LogFault}
-use Rattle.translog.specs.Fault.{Fault, errs_with, fault_of, is_device}
-use Rattle.translog.specs.Frames.{framed, contents_in, log_of, AreContents, IsLog, IsUnopened, LosesNothing}
+use Rattle.translog.specs.Fault.{errs_with, fault_of, is_device}
+use Rattle.translog.specs.Frames.{framed, contents_in, AreContents, IsLog, IsUnopened, LosesNothing}
 use Rattle.translog.proofs.FramesLaws.{contents_in_log, whole_log, torn_frame}
 use Rattle.op.specs.declared.message.Msg.{Msg}
 use Rattle.master.specs.declared.entry.Entry.{Entry}
 use Rattle.master.specs.declared.fault.MasterFault.{MasterFault}
 use Rattle.master.specs.declared.entry.Entry.TheVariants as enters
 use Rattle.master.specs.declared.entry.Entry.TheVariants.{Begin, Add, Remove}
-use Rattle.master.specs.declared.fault.MasterFault.TheVariants.{OldTerm, Log}
+use Rattle.master.specs.declared.fault.MasterFault.TheVariants.{Log}
 use Rattle.translog.specs.declared.fault.LogFault.TheVariants.{Device}
 use Rattle.master.specs.declared.state.State.{State}
 use Rattle.master.specs.declared.state.Request.{Request}
 use Rattle.master.specs.declared.state.Request.TheVariants.{Promote, Allocate, Synced, Fail}
-use Rattle.master.specs.Decide.{Decided, MasterStep, unless, decides, master_step, promote, set_of, allocate, synced, fail, word_faults}
+use Rattle.master.specs.Decide.{Decided, MasterStep, unless, decides, master_step}
 use Rattle.master.specs.Entry.{entry_of, spelled, entry_for}
 use Rattle.master.specs.Log.{header, first_state, next_state, or_damaged, replayed, state_of, kept_state}
 use Rattle.master.specs.Logged.{Logged, IsLogOf, IsMaster, IsDone, IsRefused, IsUnbegun, begun_state, frame_for}
@@ -216,12 +216,12 @@ pub unbegun_first : (r : Result State LogFault) (n : ℕ) (old mid new : List �
 unbegun_first (Ok m) n old mid new before between now left added counts same = tt
 unbegun_first (Err e) n old mid new before between now left added counts same = unbegun e n old mid new before now left added (counts ∙ ap (count_after (is_device e)) same)
 
-pub unbegun_mended : (e : LogFault) (n : ℕ) (front old mid new : List ℕ) (before between now : ℕ) → IsUnopened e front mid new between now → front ≡ header → mid ≡ old → between ≡ before → IsUnbegun e n old new before now
+pub unbegun_mended : (e : LogFault) (n : ℕ) (front old mid new : List ℕ) (before between now : ℕ) → IsUnopened (is_device e) front mid new between now → front ≡ header → mid ≡ old → between ≡ before → IsUnbegun e n old new before now
 unbegun_mended e n front old mid new before between now refused named held same =
     let left : LosesNothing header old new = subst (λ (x : List ℕ). LosesNothing header x new) held (subst (λ (x : List ℕ). LosesNothing x mid new) named refused.left) in
     unbegun_unopened e n old new before now left (refused.counts ∙ ap (count_after (is_device e)) same)
 
-pub unbegun_opened : (r : Result State LogFault) (n : ℕ) (old mid new : List ℕ) (before between now : ℕ) → IfErr r (λ e. IsUnopened e header mid new between now) → mid ≡ old → between ≡ before → IfErr r (λ e. IsUnbegun e n old new before now)
+pub unbegun_opened : (r : Result State LogFault) (n : ℕ) (old mid new : List ℕ) (before between now : ℕ) → IfErr r (λ e. IsUnopened (is_device e) header mid new between now) → mid ≡ old → between ≡ before → IfErr r (λ e. IsUnbegun e n old new before now)
 unbegun_opened (Ok m) n old mid new before between now refused held same = tt
 unbegun_opened (Err e) n old mid new before between now refused held same = unbegun_mended e n header old mid new before between now refused refl held same
 

@@ -1,5 +1,5 @@
 -- What is refused is what the definition refuses.
-use Rattle.std.proofs.Common.{◌≡◌, Result, Err, Option}
+use Rattle.std.proofs.Common.{◌≡◌, Result, Err}
 use Rattle.doc.specs.Outcome.{Fails}
 use Rattle.master.specs.declared.fault.MasterFault.{MasterFault}
 use Rattle.master.specs.declared.fault.MasterFault.TheVariants.{OldTerm, NotInSync, IsPrimary, Gone, Log, NoMemory, Full}

@@ -1,5 +1,5 @@
 -- How many ids were given.
-use Rattle.std.proofs.Common.{◌≡◌, ◌+◌, ◌-◌, ℕ, zero, suc, ◌∷◌, [], length, length-append, refl, ◌∙◌, arith}
+use Rattle.std.proofs.Common.{◌≡◌, ◌-◌, ℕ, zero, suc, ◌∷◌, [], length, length-append, refl, ◌∙◌, arith}
 use Rattle.op.specs.Ids.{ids_up_to, ids_below}
 
 length-ids_up_to : (n : ℕ) → length (ids_up_to n) ≡ n

@@ -1,5 +1,5 @@
 -- What the frames of a master's log leave.
-use Rattle.std.proofs.Common.{◌≡◌, ℕ, ◌+◌, List, [], ◌∷◌, length, length-append, arith, Option, Some, None, Result, Ok, Err, refl, ap, sym, ◌∙◌}
+use Rattle.std.proofs.Common.{◌≡◌, ℕ, ◌+◌, List, [], ◌∷◌, length, length-append, arith, Some, None, Result, Ok, Err, refl, ap}
 use Rattle.std.specs.Prelude.{IfSome}
 use Rattle.doc.specs.Outcome.{◌>>=◌, Fails}
 use Rattle.translog.specs.declared.fault.LogFault.{LogFault}

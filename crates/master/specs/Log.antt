@@ -1,12 +1,11 @@
 -- The log of the master: its header is `RSM1`, and each frame is an entry that its table takes.
-use Rattle.std.specs.Prelude.{◌≡◌, ℕ, ◌+◌, Bool, true, false, List, [], ◌∷◌, ◌++◌, length, Option, Some, None, Result, Ok, Err, codes}
+use Rattle.std.specs.Prelude.{ℕ, ◌+◌, List, [], ◌∷◌, length, Option, Some, None, Result, Ok, Err, codes}
 use Rattle.doc.specs.Outcome.{◌>>=◌}
 use Rattle.translog.specs.Fault.{Fault, damaged}
-use Rattle.translog.specs.Frames.{contents_in, framed}
+use Rattle.translog.specs.Frames.{contents_in}
 use Rattle.master.specs.declared.entry.Entry.{Entry}
 use Rattle.master.specs.declared.entry.Entry.TheVariants.{Begin, Promote, Allocate, Add, Remove}
 use Rattle.master.specs.declared.state.State.{State}
-use Rattle.master.specs.declared.state.Request.{Request}
 use Rattle.master.specs.declared.state.Request.TheVariants as request
 use Rattle.master.specs.Decide.{MasterStep, master_step}
 use Rattle.master.specs.Entry.{entry_of}

@@ -49,7 +49,7 @@ impl<D: LogDevice> Master<D> {
         ensures opened { IfOk result (λ m. m.closed ≡ false) }
         ensures left { IfOk result (λ m. LosesNothing header (D.held device) m.log) }
         ensures counts { IfOk result (λ m. m.failures ≡ D.failures device) }
-        ensures refused { IfErr result (λ r. IsUnopened r.fault header (D.held device) (D.held r.device) (D.failures device) (D.failures r.device)) }
+        ensures refused { IfErr result (λ r. IsUnopened (is_device r.fault) header (D.held device) (D.held r.device) (D.failures device) (D.failures r.device)) }
         ensures in_memory { D.in_memory ≡ true → IfErr result (λ r. is_device r.fault ≡ false) }
     {
         let mut frames = Frames::over(RSM1, device);
@@ -165,7 +165,7 @@ fn opened<D: LogDevice>(alloc: Global, frames: &mut Frames<D>) -> Result<State, 
     ensures sound { IfOk result IsSound }
     ensures left { OnOk result (LosesNothing header (D.held frames.old.device) (D.held frames.new.device)) }
     ensures counts { OnOk result (D.failures frames.new.device ≡ D.failures frames.old.device) }
-    ensures refused { IfErr result (λ e. IsUnopened e header (D.held frames.old.device) (D.held frames.new.device) (D.failures frames.old.device) (D.failures frames.new.device)) }
+    ensures refused { IfErr result (λ e. IsUnopened (is_device e) header (D.held frames.old.device) (D.held frames.new.device) (D.failures frames.old.device) (D.failures frames.new.device)) }
     ensures header { frames.new.header ≡ header }
     ensures in_memory { D.in_memory ≡ true → IfErr result (λ e. is_device e ≡ false) }
 {

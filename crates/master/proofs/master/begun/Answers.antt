@@ -1,4 +1,4 @@
-use Rattle.std.proofs.Common.{◌≡◌, ℕ, length, Vec, Global, ap, sym, ◌∙◌, refl, map, arith, true≢false}
+use Rattle.std.proofs.Common.{◌≡◌, ℕ, length, Vec, Global, ◌∙◌, map, arith}
 use Rattle.std.proofs.lemmas.List.{length-map}
 use Rattle.std.proofs.lemmas.Bool.Decides.{nat_tests}
 use Rattle.translog.specs.Frames.{stays}

@@ -1,6 +1,5 @@
-use Rattle.std.proofs.Common.{◌≡◌, ap, sym, ◌∙◌, map}
+use Rattle.std.proofs.Common.{◌≡◌, sym, map}
 use Rattle.std.proofs.lemmas.Result.{err_from_is_err_and}
-use Rattle.translog.specs.Fault.{fault_of}
 use Rattle.translog.proofs.FramesLaws.{opened_of}
 use Rattle.master.specs.Log.{kept_state, state_of}
 use Rattle.master.proofs.Replays.{fails_kept, found_kept}

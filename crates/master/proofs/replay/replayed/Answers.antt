@@ -2,8 +2,6 @@ use Rattle.std.proofs.Common.{◌≡◌, ◌+◌, ap, sym, ◌∙◌, arith, len
 use Rattle.std.specs.Prelude.{map}
 use Rattle.std.specs.List.{flat_map}
 use Rattle.std.proofs.lemmas.List.{drop_all}
-use Rattle.doc.specs.Outcome.{Fails}
-use Rattle.translog.specs.Fault.{fault_of}
 use Rattle.translog.specs.Frames.{framed}
 use Rattle.translog.proofs.RecordsLaws.{drop_next}
 use Rattle.master.specs.Log.{replayed}

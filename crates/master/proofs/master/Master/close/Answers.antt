@@ -1,4 +1,4 @@
-use Rattle.std.proofs.Common.{◌≡◌, false, ap, sym, ◌∙◌}
+use Rattle.std.proofs.Common.{◌≡◌, false, ap, ◌∙◌}
 use Rattle.std.proofs.Common.{Result, Ok}
 use Rattle.translog.specs.Fault.{Fault}
 use Rattle.master.specs.declared.state.State.{State}

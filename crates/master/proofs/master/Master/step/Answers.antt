@@ -1,9 +1,9 @@
-use Rattle.std.proofs.Common.{◌≡◌, ◌++◌, ℕ, Some, ap, sym, subst, ◌∙◌, true, refl}
+use Rattle.std.proofs.Common.{◌≡◌, ◌++◌, Some, ap, sym, subst, ◌∙◌, true}
 use Rattle.translog.specs.Device.{AddsFront, count_after}
 use Rattle.master.specs.declared.fault.MasterFault.TheVariants.{Log}
 use Rattle.master.specs.Decide.{Decided, master_step}
 use Rattle.master.specs.Entry.{entry_of, spelled, entry_for}
-use Rattle.master.specs.Logged.{Logged, IsDone, IsLogOf, IsRefused, frame_for}
+use Rattle.master.specs.Logged.{Logged, IsDone, IsRefused, frame_for}
 use Rattle.master.proofs.Decisions.{done_again, grows, fails}
 use Rattle.master.proofs.master.Master.step.Goals as goal
 

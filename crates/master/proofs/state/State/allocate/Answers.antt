@@ -1,6 +1,5 @@
-use Rattle.std.proofs.Common.{◌≡◌, arith, length}
+use Rattle.std.proofs.Common.{arith}
 use Rattle.std.proofs.lemmas.Bool.Decides.{nat_tests}
-use Rattle.op.specs.Ids.{ids_below}
 use Rattle.master.specs.Decide.{unless}
 use Rattle.master.proofs.Given.{length-ids_below}
 use Rattle.master.proofs.state.State.allocate.Goals as goal
