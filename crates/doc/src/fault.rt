@@ -1,6 +1,6 @@
 //! Why a mapping, a document or an id is refused.
 
-ghost use Rattle.std.specs.Prelude.{◌≡◌, IfSome};
+ghost use Rattle.std.specs.Prelude.{◌≡◌, codes, MatchOption};
 ghost use Rattle.doc.specs.Fault.{fault_of, name_of};
 
 use std::alloc::{AllocError, AllocFailed};
@@ -38,7 +38,7 @@ pub enum DocFault {
 impl DocFault {
     /// The name of the fault, without the field that it concerns.
     pub fn name(&self) -> &'static str
-        ensures { IfSome (fault_of self.now) (λ f. result.now ≡ name_of f) }
+        ensures { MatchOption (fault_of self.now) (result.now ≡ codes "NoMemory") (λ f. result.now ≡ name_of f) }
     {
         match self {
             DocFault::UnknownType => "UnknownType",

@@ -1,6 +1,6 @@
 //! Why a query is refused.
 
-ghost use Rattle.std.specs.Prelude.{◌≡◌, IfSome};
+ghost use Rattle.std.specs.Prelude.{◌≡◌, codes, MatchOption};
 ghost use Rattle.query.specs.Fault.{fault_of, name_of};
 
 use std::alloc::{AllocError, AllocFailed};
@@ -26,7 +26,7 @@ pub enum QueryFault {
 impl QueryFault {
     /// The name of the fault, without what it says beside.
     pub fn name(&self) -> &'static str
-        ensures { IfSome (fault_of self.now) (λ f. result.now ≡ name_of f) }
+        ensures { MatchOption (fault_of self.now) (result.now ≡ codes "NoMemory") (λ f. result.now ≡ name_of f) }
     {
         match self {
             QueryFault::Parsing(_) => "Parsing",

@@ -1,14 +1,16 @@
 //! Laws of queries, in the words of the documents that they mean. The functions do nothing: each has a law as its contract.
 
-ghost use Rattle.std.specs.Prelude.{◌≡◌, ℕ, ◌<◌, Bool, true, false, not, ◌&&◌, ◌||◌, List, [], ◌∷◌, length, None, Some, IsTrue};
+ghost use Rattle.std.specs.Prelude.{◌≡◌, ℕ, ◌<◌, ◌≤◌, Bool, true, false, not, ◌&&◌, ◌||◌, List, [], ◌∷◌, length, None, Some, Ok, IsTrue};
 ghost use Rattle.std.specs.List.{list_any};
+ghost use Rattle.serde_json.specs.Data.{Data};
 ghost use Rattle.doc.specs.Fields.{kind_at};
 ghost use Rattle.doc.specs.Mapping.{MappingData};
 ghost use Rattle.doc.specs.Scalar.{Scalar};
 ghost use Rattle.doc.specs.declared.mapping.Kind.TheVariants.{Long};
 ghost use Rattle.query.specs.Laws.{unbounded, only_must, only_filter, only_must_not, either, both};
 ghost use Rattle.query.specs.Meaning.{means};
-ghost use Rattle.query.specs.Query.{Query, term, terms, match_tokens, range, exists};
+ghost use Rattle.query.specs.Query.{Query, term, terms, match_tokens, range, exists, clauses, depth};
+ghost use Rattle.query.specs.Reading.{query_of};
 ghost use Rattle.query.specs.declared.query.Operator.TheVariants.{Or, And};
 
 /// A document is found by `must_not` exactly where it isn't found by the query.
@@ -47,4 +49,10 @@ pub fn terms_are_the_union_of_term()
 /// A `range` without bounds on a long is `exists`.
 pub fn no_bounds_is_exists()
     ensures { (m : MappingData) (source field : List ℕ) → kind_at field m.fields ≡ Some Long → means m source (range field unbounded) ≡ means m source (exists field) }
+{}
+
+/// A query that is read has at most 1,024 clauses, itself among them, and is at most 20 deep.
+pub fn a_query_that_is_read_is_small()
+    ensures clauses { (m : MappingData) (d : Data) (q : Query) → query_of m d ≡ Ok q → clauses q ≤ 1024 }
+    ensures depth { (m : MappingData) (d : Data) (q : Query) → query_of m d ≡ Ok q → depth q ≤ 20 }
 {}

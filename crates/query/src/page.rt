@@ -1,6 +1,7 @@
 //! Which hits of a search are wanted.
-ghost use Rattle.std.specs.Prelude.{◌≡◌, ◌+◌, ◌≤◌};
+ghost use Rattle.std.specs.Prelude.{◌≡◌, ◌+◌, ◌≤◌, IfErr};
 ghost use Rattle.doc.specs.Outcome.{Gives};
+ghost use Rattle.query.specs.declared.fault.QueryFault.TheVariants.{WindowTooLarge};
 ghost use Rattle.query.specs.Body.{page_of};
 ghost use Rattle.query.specs.Fault.{fault_of};
 
@@ -32,7 +33,8 @@ impl Model for Page {
 impl Page {
     /// Refused as `WindowTooLarge` where `from` plus `size` is above 10,000. Takes no memory.
     pub fn new(from: u64, size: u64) -> Result<Page, QueryFault>
-        ensures { Gives fault_of (λ p. p) result (page_of from size) }
+        ensures page { Gives fault_of (λ p. p) result (page_of from size) }
+        ensures refused { IfErr result (λ e. e ≡ WindowTooLarge) }
     {
         if from > MAX_WINDOW || size > MAX_WINDOW - from {
             return Err(QueryFault::WindowTooLarge);

@@ -6,7 +6,7 @@ use anyhow::Result;
 use doc::{DocId, Source};
 use op::{Body, Op, Record};
 use std::alloc::Global;
-use translog::{MemDevice, Translog};
+use translog::{MemDevice, Refused, Translog};
 
 /// The first write of a line's document, whose id is the operation's number.
 fn record_of(alloc: Global, seq: u64, line: &str) -> Result<Record>
@@ -36,7 +36,8 @@ pub(crate) fn records_of(alloc: Global, lines: &[String]) -> Result<Vec<Record>>
 
 /// A translog without records.
 pub(crate) fn empty_log(alloc: Global) -> Result<Translog<MemDevice>> {
-    let (log, _) = Translog::open(alloc, MemDevice::new(Vec::new(alloc)))?;
+    let device = MemDevice::new(Vec::new(alloc));
+    let (log, _) = Translog::open(alloc, device).map_err(Refused::into_fault)?;
     Ok(log)
 }
 

@@ -1,23 +1,25 @@
 -- What a copy asks of its log.
-use Rattle.std.proofs.Common.{◌≡◌, inl, inr, refl, ℕ, Bool, true, false, List, [], ◌∷◌, ◌++◌, sym, ap, subst, ◌∙◌, Ok, Err}
+use Rattle.std.proofs.Common.{◌≡◌, inl, inr, refl, ℕ, Bool, true, false, List, [], ◌∷◌, ◌++◌, sym, ap, subst, ◌∙◌, None, Ok, Err}
 use Rattle.std.specs.Prelude.{◌⊎◌, take, Result, IfOk, IfErr, if◌then◌else◌}
 use Rattle.doc.specs.Outcome.{Fails, Gives}
 use Rattle.op.specs.declared.record.Record.{Record}
 use Rattle.op.specs.Format.{spelling, is_too_large}
 use Rattle.translog.specs.declared.fault.LogFault.{LogFault}
 use Rattle.translog.specs.declared.fault.LogFault.TheVariants.{BadMagic, Damaged, Device, NoMemory, TooLarge}
-use Rattle.translog.specs.Fault.{Fault, too_large, fault_of}
-use Rattle.translog.specs.Frames.{framed}
-use Rattle.translog.specs.Device.{AddsFront, Rises}
-use Rattle.translog.specs.Kept.{kept, record_frame, IsSpelt, IsTranslog}
-use Rattle.translog.proofs.RecordsLaws.{whole_kept, torn_or_whole, kept_not_large}
+use Rattle.translog.specs.Fault.{Fault, too_large, fault_of, is_device}
+use Rattle.translog.specs.declared.frames.Torn.{Torn}
+use Rattle.translog.specs.Frames.{framed, mended, IsTorn, LosesNothing}
+use Rattle.translog.specs.Device.{AddsFront}
+use Rattle.translog.specs.Kept.{header, kept, record_frame, IsSpelt, IsTranslog}
+use Rattle.translog.proofs.RecordsLaws.{whole_kept, torn_or_whole, kept_not_large, translog_stays}
+use Rattle.translog.proofs.FramesLaws.{opened_of}
 use Rattle.replica.specs.declared.fault.CopyFault.{CopyFault}
-use Rattle.replica.specs.declared.fault.CopyFault.TheVariants.{NoMemory as OutOfMemory}
+use Rattle.replica.specs.declared.fault.CopyFault.TheVariants.{Log, NoMemory as OutOfMemory}
 use Rattle.replica.specs.declared.planned.Planned.{Planned}
 use Rattle.replica.specs.declared.prepared.Prepared.{Prepared}
 use Rattle.replica.specs.Copy.{Copy}
-use Rattle.replica.specs.Fault.{of_log, fault_of as copy_fault}
-use Rattle.replica.specs.Logged.{IsUnread, prepared_step}
+use Rattle.replica.specs.Fault.{of_log, has_failed, fault_of as copy_fault}
+use Rattle.replica.specs.Logged.{Logged, IsLogged, IsUnread, prepared_step}
 use Rattle.replica.specs.Planned.{stepped_by}
 use Rattle.replica.specs.Step.{Step, Stepped}
 
@@ -50,28 +52,56 @@ torn_at new held bytes rs r frame is log spelt one added =
     as_before before rs more now was (inl e) = inl (e ∙ sym was)
     as_before before rs more now was (inr e) = inr e
 
--- a log is refused for no other cause
-pub unread : (bytes : List ℕ) (before now : ℕ) (f : LogFault) → Fails fault_of f (kept bytes) → (f ≡ Device → Rises before now) → IsUnread bytes before now (of_log f)
-unread bytes before now BadMagic fails risen = fails
-unread bytes before now (Damaged offset) fails risen = fails
-unread bytes before now Device fails risen = risen refl
-unread bytes before now NoMemory fails risen = tt
-unread bytes before now TooLarge fails risen = absurd (kept_not_large bytes fails)
+pub front_at : (old same frame new : List ℕ) → old ≡ same → AddsFront old frame new → AddsFront same frame new
+front_at old same frame new is added = (added.0, added.1 ∙ ap (λ (l : List ℕ). l ++ take added.0 frame) is)
 
--- a log that is refused at an opening
-pub unread_at_opening : {D : Type 0} (failures : D → ℕ) (device : D) (bytes : List ℕ) (f : LogFault) → Fails fault_of f (kept bytes) → (f ≡ Device → (left : D) × Rises (failures device) (failures left))
-    → (left : D) × IsUnread bytes (failures device) (failures left) (of_log f)
-unread_at_opening failures device bytes BadMagic fails risen = (device, fails)
-unread_at_opening failures device bytes (Damaged offset) fails risen = (device, fails)
-unread_at_opening failures device bytes Device fails risen = risen refl
-unread_at_opening failures device bytes NoMemory fails risen = (device, tt)
-unread_at_opening failures device bytes TooLarge fails risen = absurd (kept_not_large bytes fails)
+-- a log is refused for no other cause
+pub unread : (bytes : List ℕ) (f : LogFault) → Fails fault_of f (kept bytes) → IsUnread bytes (of_log f)
+unread bytes BadMagic fails = fails
+unread bytes (Damaged offset) fails = fails
+unread bytes Device fails = tt
+unread bytes NoMemory fails = tt
+unread bytes TooLarge fails = absurd (kept_not_large bytes fails)
+
+-- a torn end is left for want of memory, or by the device
+pub unmended : (bytes : List ℕ) (f : LogFault) → fault_of f ≡ None → IsUnread bytes (of_log f)
+unmended bytes BadMagic none = absurd cc
+unmended bytes (Damaged offset) none = absurd cc
+unmended bytes Device none = tt
+unmended bytes NoMemory none = tt
+unmended bytes TooLarge none = absurd cc
+
+pub cause_of : (f : LogFault) → fault_of f ≡ None → (of_log f ≡ OutOfMemory) ⊎ (of_log f ≡ Log Device)
+cause_of BadMagic none = absurd cc
+cause_of (Damaged offset) none = absurd cc
+cause_of Device none = inr refl
+cause_of NoMemory none = inl refl
+cause_of TooLarge none = absurd cc
+
+-- whether the device failed is told on
+pub failed_as : (f : LogFault) → has_failed (of_log f) ≡ is_device f
+failed_as BadMagic = refl
+failed_as (Damaged offset) = refl
+failed_as Device = refl
+failed_as NoMemory = refl
+failed_as TooLarge = refl
+
+-- what is left of a log that was read and mended
+pub left_of : (old mid new : List ℕ) (contents : List (List ℕ)) (torn : Torn) → mid ≡ old → IsTorn header old contents torn → new ≡ mended header mid torn → LosesNothing header old new
+left_of old mid new contents torn is found made = (opened_of header header old mid new contents torn 0 0 0 refl is found made refl refl).left
+
+-- a log of whole frames stays
+pub stays_logged : (l : Logged) (new : List ℕ) → IsLogged l → l.closed ≡ false → LosesNothing header l.log new → new ≡ l.log
+stays_logged l new logged opened left = translog_stays l.log new l.copy.records (logged opened) left
+
+pub stays_translog : (old new : List ℕ) (rs : List Record) → IsTranslog old rs → LosesNothing header old new → IsTranslog new rs
+stays_translog old new rs log left = subst (λ (x : List ℕ). IsTranslog x rs) (sym (translog_stays old new rs log left)) log
 
 -- a record that can be spelled is refused for want of memory alone
-pub memory_alone : (r : Record) (f : LogFault) → is_too_large r ≡ false → Fails fault_of f (record_frame r) → (f ≡ Device → ⊥) → of_log f ≡ OutOfMemory
+pub memory_alone : (r : Record) (f : LogFault) → is_too_large r ≡ false → Fails fault_of f (record_frame r) → is_device f ≡ false → of_log f ≡ OutOfMemory
 memory_alone r BadMagic small fails other = absurd (let h = rw small at fails in cc)
 memory_alone r (Damaged offset) small fails other = absurd (let h = rw small at fails in cc)
-memory_alone r Device small fails other = absurd (other refl)
+memory_alone r Device small fails other = absurd cc
 memory_alone r NoMemory small fails other = refl
 memory_alone r TooLarge small fails other = absurd (let h = rw small at fails in cc)
 

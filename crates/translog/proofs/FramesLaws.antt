@@ -1,5 +1,5 @@
 -- What a log of whole frames holds, and one whose last frame is torn.
-use Rattle.std.proofs.Common.{◌≡◌, ℕ, zero, suc, ◌+◌, ◌-◌, ◌^◌, ◌<◌, ◌≤◌, Bool, true, false, ltb, List, [], ◌∷◌, ◌++◌, length, take, drop, Some, None, Ok, Err, refl, sym, ap, ◌∙◌, append_assoc, arith, inl, inr}
+use Rattle.std.proofs.Common.{◌≡◌, ℕ, zero, suc, ◌+◌, ◌-◌, ◌^◌, ◌<◌, ◌≤◌, Bool, true, false, ltb, List, [], ◌∷◌, ◌++◌, length, take, drop, Some, None, Ok, Err, refl, sym, ap, subst, ◌∙◌, append_assoc, arith, inl, inr}
 use Rattle.std.specs.Int.{w32, to_le_bytes, from_le_bytes}
 use Rattle.std.specs.List.{flat_map}
 use Rattle.std.specs.Str.{bytes_eq}
@@ -11,7 +11,9 @@ use Rattle.std.proofs.lemmas.Slice.Eq.{bytes_eq-Decides}
 use Rattle.std.specs.Prelude.{◌⊎◌, Result}
 use Rattle.translog.specs.Device.{AddsFront}
 use Rattle.translog.specs.Fault.{Fault, bad_magic}
-use Rattle.translog.specs.Frames.{framed, log_of, first_frame, and_then, contents_within, contents_of, contents_in, AreContents, IsLog}
+use Rattle.translog.specs.declared.frames.Torn.{Torn}
+use Rattle.translog.specs.declared.frames.Torn.TheVariants.{Nothing, End, Header}
+use Rattle.translog.specs.Frames.{framed, log_of, first_frame, and_then, contents_within, contents_of, contents_in, mended, AreContents, IsLog, IsOpened, IsTorn, LosesNothing, stays, ends, begins}
 
 -- a whole frame in front is read again
 pub first_again : (c rest : List ℕ) → length c < 2 ^ 32 → first_frame (framed c ++ rest) ≡ Some (c, rest)
@@ -62,7 +64,7 @@ contents_of_nothing = refl
 -- a header that is torn, as it is tested
 pub contents_in_short : (header bytes : List ℕ) → length bytes ≤ 4 → bytes_eq (take 4 bytes) (take (length bytes) header) ≡ true → contents_in header bytes ≡ Ok []
 unfolding contents_in
-contents_in_short header bytes le begins = rw (begins, drop_all 4 bytes le, contents_of_nothing) refl
+contents_in_short header bytes le begun = rw (begun, drop_all 4 bytes le, contents_of_nothing) refl
 
 -- a header that is torn
 pub contents_in_torn : (header : List ℕ) (k : ℕ) → length header ≡ 4 → contents_in header (take k header) ≡ Ok []
@@ -79,8 +81,8 @@ contents_in_other header bytes other = rw other refl
 -- the log that was read, whole frames and the bytes after them
 pub contents_in_read : (header bytes : List ℕ) (cs : List (List ℕ)) (rest : List ℕ) → length header ≡ 4 → 4 ≤ length bytes → bytes_eq (take 4 bytes) (take (length bytes) header) ≡ true
     → drop 4 bytes ≡ flat_map framed cs ++ rest → AreContents cs → first_frame rest ≡ None → (contents_in header bytes ≡ Ok cs) × (bytes ≡ log_of header cs ++ rest)
-contents_in_read header bytes cs rest four long begins parts small none =
-    let front : take 4 bytes ≡ header = (bytes_eq-Decides (take 4 bytes) (take (length bytes) header)).0 begins ∙ take_all (length bytes) header (omega arith) in
+contents_in_read header bytes cs rest four long begun parts small none =
+    let front : take 4 bytes ≡ header = (bytes_eq-Decides (take 4 bytes) (take (length bytes) header)).0 begun ∙ take_all (length bytes) header (omega arith) in
     let whole : bytes ≡ log_of header cs ++ rest = sym (take-append-drop 4 bytes) ∙ ap (λ l. l ++ drop 4 bytes) front ∙ ap (λ l. header ++ l) parts ∙ sym (append_assoc header (flat_map framed cs) rest) in
     (ap (contents_in header) whole ∙ contents_in_log header cs rest four small none, whole)
 
@@ -91,57 +93,93 @@ log_front header cs rest bytes n whole len = ap (take n) whole ∙ take_at (log_
 pub whole_log : (header : List ℕ) (cs : List (List ℕ)) → length header ≡ 4 → AreContents cs → contents_in header (log_of header cs) ≡ Ok cs
 whole_log header cs four small = ap (contents_in header) (sym (append-nil (log_of header cs))) ∙ contents_in_log header cs [] four small refl
 
--- a header that wasn't cut, or was
-pub header_cut : (header old mid new : List ℕ) → length header ≡ 4 → mid ≡ old → length old < 4 → bytes_eq (take 4 old) (take (length old) header) ≡ true → (new ≡ mid) ⊎ (new ≡ take 0 mid) → contents_in header new ≡ Ok []
-header_cut header old mid new four is lt begins (inl e) = ap (contents_in header) (e ∙ is) ∙ contents_in_short header old (omega arith) begins
-header_cut header old mid new four is lt begins (inr e) = ap (contents_in header) e ∙ contents_in_torn header 0 four
+front_length : (header held rest : List ℕ) (cs : List (List ℕ)) → held ≡ log_of header cs ++ rest → length held ≡ (length held - length rest) + length rest
+front_length header held rest cs whole = omega (arith, ap length whole, length-append (log_of header cs) rest)
 
--- a header of which a front was written
-pub header_added : (header mid new : List ℕ) → length header ≡ 4 → mid ≡ [] → AddsFront mid header new → contents_in header new ≡ Ok []
-header_added header mid new four is added = ap (contents_in header) (added.1 ∙ ap (λ l. l ++ take added.0 header) is) ∙ contents_in_torn header added.0 four
-
--- ---- opening, by what was read
-
-pub found_other : (header held read : List ℕ) (begins : Bool) → read ≡ held → begins ≡ bytes_eq (take 4 read) (take (length read) header) → begins ≡ false → contents_in header held ≡ Err bad_magic
-found_other header held read begins is told test = ap (contents_in header) (sym is) ∙ contents_in_other header read (sym told ∙ test)
-
-pub found_short : (header held read : List ℕ) (begins : Bool) → read ≡ held → begins ≡ bytes_eq (take 4 read) (take (length read) header) → begins ≡ true → length read < 4 → contents_in header held ≡ Ok []
-found_short header held read begins is told test lt = ap (contents_in header) (sym is) ∙ contents_in_short header read (omega arith) (sym told ∙ test)
-
-pub found_long : (header held read : List ℕ) (begins : Bool) (cs : List (List ℕ)) (rest : List ℕ) → length header ≡ 4 → read ≡ held → begins ≡ bytes_eq (take 4 read) (take (length read) header) → begins ≡ true → 4 ≤ length read
-    → drop 4 read ≡ flat_map framed cs ++ rest → AreContents cs → first_frame rest ≡ None → (contents_in header held ≡ Ok cs) × (held ≡ log_of header cs ++ rest)
-found_long header held read begins cs rest four is told test long parts small none =
-    let found = contents_in_read header read cs rest four long (sym told ∙ test) parts small none in
-    (ap (contents_in header) (sym is) ∙ found.0, sym is ∙ found.1)
-
-front_length : (header held read : List ℕ) (cs : List (List ℕ)) (rest : List ℕ) → read ≡ held → held ≡ log_of header cs ++ rest → length held ≡ (length read - length rest) + length rest
-front_length header held read cs rest is whole = omega (arith, ap length is, ap length whole, length-append (log_of header cs) rest)
-
-pub after_cut : (header held read new : List ℕ) (cs : List (List ℕ)) (rest : List ℕ) → length header ≡ 4 → read ≡ held → AreContents cs → (contents_in header held ≡ Ok cs) × (held ≡ log_of header cs ++ rest)
-    → (new ≡ held) ⊎ (new ≡ take (length read - length rest) held) → contents_in header new ≡ contents_in header held
-after_cut header held read new cs rest four is small found (inl e) = ap (contents_in header) e
-after_cut header held read new cs rest four is small found (inr e) = ap (contents_in header) (e ∙ log_front header cs rest held (length read - length rest) found.1 (front_length header held read cs rest is found.1)) ∙ whole_log header cs four small ∙ sym found.0
-
-pub cut_log : (header held read new : List ℕ) (cs : List (List ℕ)) (rest : List ℕ) → read ≡ held → AreContents cs → held ≡ log_of header cs ++ rest → new ≡ take (length read - length rest) held → IsLog header new cs
-cut_log header held read new cs rest is small whole e = record { whole = e ∙ log_front header cs rest held (length read - length rest) whole (front_length header held read cs rest is whole); small = small }
-
--- ---- a log of whole frames stays
+-- ---- what is torn
 
 same_contents : (cs ds : List (List ℕ)) → (let r : Result (List (List ℕ)) Fault = Ok cs in r) ≡ Ok ds → cs ≡ ds
 same_contents cs ds e = cc
 
-pub not_short : (header held read : List ℕ) (cs : List (List ℕ)) → length header ≡ 4 → read ≡ held → IsLog header held cs → length read < 4 → ⊥
-not_short header held read cs four is log lt = omega (arith, ap length is, ap length log.whole, length-append header (flat_map framed cs))
+-- less than a header
+pub torn_header : (header held : List ℕ) → length header ≡ 4 → length held < 4 → bytes_eq (take 4 held) (take (length held) header) ≡ true → IsTorn header held [] Header
+torn_header header held four lt begun =
+    let was : held ≡ take (length held) header = sym (take_all 4 held (omega arith)) ∙ (bytes_eq-Decides (take 4 held) (take (length held) header)).0 begun in
+    record {
+      log = record { whole = sym (append-nil header); small = tt };
+      left = begins (length held) 4 lt was (sym (take_all 4 header (omega arith)));
+      short = λ e. (length held, lt, was);
+    }
 
-pub stays_cut : (header held read new : List ℕ) (cs found : List (List ℕ)) (rest : List ℕ) → length header ≡ 4 → read ≡ held → IsLog header held cs
-    → (contents_in header held ≡ Ok found) × (held ≡ log_of header found ++ rest) → (new ≡ held) ⊎ (new ≡ take (length read - length rest) held) → new ≡ held
-stays_cut header held read new cs found rest four is log was (inl e) = e
-stays_cut header held read new cs found rest four is log was (inr e) =
-    let own : contents_in header held ≡ Ok cs = ap (contents_in header) log.whole ∙ whole_log header cs four log.small in
-    let same : found ≡ cs = same_contents found cs (sym was.0 ∙ own) in
-    let one : length held ≡ length (log_of header found ++ rest) = ap length was.1 in
-    let other : length held ≡ length (log_of header found) = ap length (log.whole ∙ ap (log_of header) (sym same)) in
-    e ∙ take_all (length read - length rest) held (omega (arith, ap length is, one, other, length-append (log_of header found) rest))
+-- whole frames, and less than one more
+pub torn_log : (header held rest : List ℕ) (cs : List (List ℕ)) (torn : Torn) → held ≡ log_of header cs ++ rest → AreContents cs → first_frame rest ≡ None
+    → (length rest ≡ 0 → torn ≡ Nothing) → (0 < length rest → torn ≡ End (length held - length rest)) → IsTorn header held cs torn
+torn_log header held [] cs torn whole small none nothing end =
+    subst (λ (t : Torn). IsTorn header held cs t) (sym (nothing refl)) (record {
+      log = record { whole = whole ∙ append-nil (log_of header cs); small = small };
+      left = stays refl;
+      short = λ e. absurd cc;
+    })
+torn_log header held (x ∷ rest) cs torn whole small none nothing end =
+    let n = length held - length (x ∷ rest) in
+    let front : take n held ≡ log_of header cs = log_front header cs (x ∷ rest) held n whole (front_length header held (x ∷ rest) cs whole) in
+    let log : IsLog header (take n held) cs = record { whole = front; small = small } in
+    subst (λ (t : Torn). IsTorn header held cs t) (sym (end (omega arith))) (record {
+      log = log;
+      left = ends cs (x ∷ rest) log (whole ∙ ap (λ l. l ++ (x ∷ rest)) (sym front)) none;
+      short = λ e. absurd cc;
+    })
+
+-- what is left of a torn end that was cut off, or wasn't
+pub cut_loses_nothing : (header old new : List ℕ) (cs : List (List ℕ)) (whole : ℕ) → IsTorn header old cs (End whole) → (new ≡ old) ⊎ (new ≡ take whole old) → LosesNothing header old new
+cut_loses_nothing header old new cs whole torn (inl e) = stays e
+cut_loses_nothing header old new cs whole torn (inr e) = subst (λ (x : List ℕ). LosesNothing header old x) (sym e) torn.left
+
+-- what is left of a torn header that was cut off, or wasn't
+pub header_cut : (header old mid new : List ℕ) (m : ℕ) → m < 4 → old ≡ take m header → mid ≡ old → (new ≡ mid) ⊎ (new ≡ take 0 mid) → LosesNothing header old new
+header_cut header old mid new m lt was is (inl e) = stays (e ∙ is)
+header_cut header old mid new m lt was is (inr e) = begins m 0 lt was e
+
+-- a header of which a front was written
+pub header_added : (header old mid new : List ℕ) (m : ℕ) → m < 4 → old ≡ take m header → mid ≡ [] → AddsFront mid header new → LosesNothing header old new
+header_added header old mid new m lt was is added = begins m added.0 lt was (added.1 ∙ ap (λ l. l ++ take added.0 header) is)
+
+-- a log that was read and mended
+pub opened_of : (header same old mid new : List ℕ) (cs : List (List ℕ)) (torn : Torn) (before between now : ℕ) → same ≡ header → mid ≡ old → IsTorn header old cs torn
+    → new ≡ mended same mid torn → now ≡ between → between ≡ before → IsOpened header old new cs before now
+opened_of header same old mid new cs torn before between now named is found made counts counted =
+    let whole : new ≡ mended header old torn = made ∙ ap (λ h. mended h mid torn) named ∙ ap (λ l. mended header l torn) is in
+    record {
+      whole = subst (λ (x : List ℕ). IsLog header x cs) (sym whole) found.log;
+      left = subst (λ (x : List ℕ). LosesNothing header old x) (sym whole) found.left;
+      counts = counts ∙ counted;
+    }
+
+-- ---- what stays where nothing is lost
+
+contents_before : (header old new rest : List ℕ) (cs : List (List ℕ)) → length header ≡ 4 → IsLog header new cs → old ≡ new ++ rest → first_frame rest ≡ None → contents_in header old ≡ Ok cs
+contents_before header old new rest cs four log is none = ap (contents_in header) (is ∙ ap (λ l. l ++ rest) log.whole) ∙ contents_in_log header cs rest four log.small none
+
+pub contents_stay : (header old new : List ℕ) → length header ≡ 4 → LosesNothing header old new → contents_in header new ≡ contents_in header old
+contents_stay header old new four (stays e) = ap (contents_in header) e
+contents_stay header old new four (ends cs rest log is none) =
+    ap (contents_in header) log.whole ∙ whole_log header cs four log.small ∙ sym (contents_before header old new rest cs four log is none)
+contents_stay header old new four (begins m n lt was is) =
+    ap (contents_in header) is ∙ contents_in_torn header n four ∙ sym (ap (contents_in header) was ∙ contents_in_torn header m four)
+
+pub whole_stays : (header old new : List ℕ) (cs : List (List ℕ)) → length header ≡ 4 → IsLog header old cs → LosesNothing header old new → new ≡ old
+whole_stays header old new cs four log (stays e) = e
+whole_stays header old new cs four log (ends found rest other is none) =
+    let one : contents_in header old ≡ Ok cs = ap (contents_in header) log.whole ∙ whole_log header cs four log.small in
+    let two : contents_in header old ≡ Ok found = contents_before header old new rest found four other is none in
+    other.whole ∙ ap (log_of header) (same_contents found cs (sym two ∙ one)) ∙ sym log.whole
+whole_stays header old new cs four log (begins m n lt was is) =
+    absurd (omega (arith, ap length log.whole, ap length was, length-append header (flat_map framed cs), length-take m header))
+
+pub a_beginning : (header old new : List ℕ) → LosesNothing header old new → ((rest : List ℕ) × (old ≡ new ++ rest)) ⊎ ((n : ℕ) × (new ≡ take n header))
+a_beginning header old new (stays e) = inl ([], sym e ∙ sym (append-nil new))
+a_beginning header old new (ends cs rest log is none) = inl (rest, is)
+a_beginning header old new (begins m n lt was is) = inr (n, is)
 
 -- ---- a front of a frame that isn't the whole of it
 

@@ -14,9 +14,9 @@ use Rattle.op.specs.FormatFault as op
 use Rattle.op.specs.Format.{spelling}
 use Rattle.op.specs.Reading.{record_of}
 use Rattle.translog.specs.Fault.{Fault, bad_magic, damaged, too_large}
-use Rattle.translog.specs.Frames.{framed, log_of, first_frame, contents_in, AreContents, IsLog}
+use Rattle.translog.specs.Frames.{framed, log_of, first_frame, contents_in, AreContents, IsLog, LosesNothing}
 use Rattle.translog.specs.Kept.{header, or_damaged, records_from, kept, IsSpelt, IsTranslog}
-use Rattle.translog.proofs.FramesLaws.{whole_log, contents_in_log, torn_frame}
+use Rattle.translog.proofs.FramesLaws.{whole_log, contents_in_log, contents_stay, torn_frame, whole_stays}
 
 -- ---- one record after the other
 
@@ -181,21 +181,17 @@ fails_kept fault e h bytes held named is fails =
     let own : Fails fault e (contents_in header bytes) = subst (λ x. Fails fault e (contents_in x bytes)) named fails in
     subst (λ x. Fails fault e (kept x)) is (fault_ends (fault e) (contents_in header bytes) (kept bytes) (λ d f. kept_none bytes d f) own)
 
-pub same_kept : (h new bytes held : List ℕ) → h ≡ header → bytes ≡ held → contents_in h new ≡ contents_in h bytes → kept new ≡ kept held
-same_kept h new bytes held named is same = kept_same new bytes (subst (λ x. contents_in x new ≡ contents_in x bytes) named same) ∙ ap kept is
-
 pub found_kept : (h bytes held : List ℕ) (cs : List (List ℕ)) → h ≡ header → bytes ≡ held → contents_in h bytes ≡ Ok cs → kept held ≡ records_from 4 cs
 found_kept h bytes held cs named is found = ap kept (sym is) ∙ kept_of bytes cs (subst (λ x. contents_in x bytes ≡ Ok cs) named found)
 
-pub log_kept : (h new bytes held : List ℕ) (cs : List (List ℕ)) → h ≡ header → bytes ≡ held → IsLog h new cs → contents_in h bytes ≡ Ok cs → kept new ≡ kept held
-log_kept h new bytes held cs named is log found =
-    let own : IsLog header new cs = subst (λ x. IsLog x new cs) named log in
-    kept_same new bytes (ap (contents_in header) own.whole ∙ whole_log header cs refl own.small ∙ sym (subst (λ x. contents_in x bytes ≡ Ok cs) named found)) ∙ ap kept is
-
-pub on_err_is : {T E P : Type 0} (r : Result T E) → P → OnErr r P
-on_err_is (Ok x) p = tt
-on_err_is (Err e) p = p
-
 -- a translog is a log of the spellings of its records
-pub log_of_translog : (h bytes held : List ℕ) (rs : List Record) → h ≡ header → bytes ≡ held → IsTranslog held rs → IsLog h bytes (map spelling rs)
-log_of_translog h bytes held rs named is log = record { whole = is ∙ log.whole ∙ ap (λ x. log_of x (map spelling rs)) (sym named); small = small_contents rs log.each }
+pub log_of_translog : (bytes : List ℕ) (rs : List Record) → IsTranslog bytes rs → IsLog header bytes (map spelling rs)
+log_of_translog bytes rs log = record { whole = log.whole; small = small_contents rs log.each }
+
+-- ---- what stays where nothing is lost
+
+pub kept_stays : (old new : List ℕ) → LosesNothing header old new → kept new ≡ kept old
+kept_stays old new left = kept_same new old (contents_stay header old new refl left)
+
+pub translog_stays : (old new : List ℕ) (rs : List Record) → IsTranslog old rs → LosesNothing header old new → new ≡ old
+translog_stays old new rs log left = whole_stays header old new (map spelling rs) refl (log_of_translog old rs log) left

@@ -1,5 +1,5 @@
 -- What is wrong with a log or a content, apart from want of memory and a device's failure.
-use Rattle.std.specs.Prelude.{ℕ, Option, Some, None}
+use Rattle.std.specs.Prelude.{ℕ, Bool, true, false, Option, Some, None, Result, Ok, Err}
 use Rattle.translog.specs.declared.fault.LogFault.{LogFault}
 use Rattle.translog.specs.declared.fault.LogFault.TheVariants.{BadMagic, Damaged, Device, NoMemory, TooLarge}
 use Rattle.translog.specs.declared.device.DeviceFault.{DeviceFault}
@@ -22,3 +22,21 @@ fault_of TooLarge = Some too_large
 abbrev pub of_device : DeviceFault → LogFault
 of_device devices.NoMemory = NoMemory
 of_device devices.Failed = Device
+
+-- whether a device failed, and didn't just want memory
+abbrev pub is_failed : DeviceFault → Bool
+is_failed devices.NoMemory = false
+is_failed devices.Failed = true
+
+-- whether a log's device failed
+abbrev pub is_device : LogFault → Bool
+is_device BadMagic = false
+is_device (Damaged offset) = false
+is_device Device = true
+is_device NoMemory = false
+is_device TooLarge = false
+
+-- whether a call answered such a fault
+abbrev pub errs_with : {T E : Type 0} → (E → Bool) → Result T E → Bool
+errs_with test (Ok x) = false
+errs_with test (Err e) = test e

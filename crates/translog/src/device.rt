@@ -1,7 +1,8 @@
 //! What holds a log.
-ghost use Rattle.std.specs.Prelude.{◌≡◌, ◌≤◌, ◌++◌, Bool, true, List, ℕ, ◌⊎◌, length, take, IfOk, IsOk, OnOk, OnErr, IsErrOf};
+ghost use Rattle.std.specs.Prelude.{◌≡◌, ◌≤◌, ◌++◌, Bool, true, List, ℕ, ◌⊎◌, length, take, is_err, IfOk, IsOk, OnOk, OnErr, IsErrOf};
 ghost use Rattle.translog.specs.declared.device.DeviceFault.TheVariants.{Failed as Broken};
-ghost use Rattle.translog.specs.Device.{AddsFront, Rises};
+ghost use Rattle.translog.specs.Device.{AddsFront, count_after};
+ghost use Rattle.translog.specs.Fault.{errs_with, is_failed};
 
 use std::alloc::{AllocError, Global};
 
@@ -26,7 +27,7 @@ impl From<AllocError> for DeviceFault {
     }
 }
 
-/// A list of bytes that grows at its end, in memory or in a file.
+/// A list of bytes that grows at its end, in memory or in a file. Each call that fails is counted once, and no other.
 pub trait LogDevice: Drop {
     /// The bytes that it holds.
     ghost held: { Self → List ℕ };
@@ -50,24 +51,21 @@ pub trait LogDevice: Drop {
     fn append(&mut self, piece: &[u8]) -> Result<(), Failed>
         ensures ok { OnOk result (held self.new ≡ held self.old ++ piece.now) }
         ensures err { OnErr result (AddsFront (held self.old) piece.now (held self.new)) }
-        ensures risen { OnErr result (Rises (failures self.old) (failures self.new)) }
-        ensures counts { failures self.old ≤ failures self.new }
+        ensures counts { failures self.new ≡ count_after (is_err result) (failures self.old) }
         ensures in_memory { in_memory ≡ true → length piece.now ≤ room self.old → IsOk result };
 
     /// All its bytes.
     fn read_all(&mut self, alloc: Global) -> Result<Vec<u8>, DeviceFault>
         ensures bytes { IfOk result (λ bytes. bytes.items ≡ held self.old) }
         ensures held { held self.new ≡ held self.old }
-        ensures risen { IsErrOf result Broken → Rises (failures self.old) (failures self.new) }
-        ensures counts { failures self.old ≤ failures self.new }
+        ensures counts { failures self.new ≡ count_after (errs_with is_failed result) (failures self.old) }
         ensures in_memory { in_memory ≡ true → IsErrOf result Broken → ⊥ };
 
     /// Keeps its first bytes, so many, and drops the others. Where it fails, all of them or those are left.
     fn cut(&mut self, len: usize) -> Result<(), Failed>
         ensures ok { OnOk result (held self.new ≡ take len (held self.old)) }
         ensures err { OnErr result ((held self.new ≡ held self.old) ⊎ (held self.new ≡ take len (held self.old))) }
-        ensures risen { OnErr result (Rises (failures self.old) (failures self.new)) }
-        ensures counts { failures self.old ≤ failures self.new }
+        ensures counts { failures self.new ≡ count_after (is_err result) (failures self.old) }
         ensures room { room self.old ≤ room self.new }
         ensures in_memory { in_memory ≡ true → IsOk result };
 

@@ -1,15 +1,17 @@
 //! Logs of frames.
-ghost use Rattle.std.specs.Prelude.{◌≡◌, ◌≤◌, ◌<◌, ◌^◌, ◌++◌, ◌==◌, ◌+◌, ◌⊎◌, [], true, Ok, None, List, ℕ, take, option_map, IfSome, map, length, IfOk, IsOk, IfErr, OnOk, OnErr, IsErrOf};
+ghost use Rattle.std.specs.Prelude.{◌≡◌, ◌≤◌, ◌<◌, ◌^◌, ◌++◌, ◌+◌, ◌-◌, true, false, None, List, ℕ, take, option_map, IfSome, map, length, is_err, IfOk, IsOk, IfErr, OnOk, OnErr};
 ghost use Rattle.doc.specs.Outcome.{Gives};
 ghost use Rattle.translog.specs.declared.fault.LogFault.TheVariants.{Device};
-ghost use Rattle.translog.specs.Device.{AddsFront, Rises};
-ghost use Rattle.translog.specs.Fault.{fault_of};
+ghost use Rattle.translog.specs.declared.frames.Torn.TheVariants.{Nothing, End};
+ghost use Rattle.translog.specs.Device.{AddsFront, count_after};
+ghost use Rattle.translog.specs.Fault.{errs_with, fault_of, is_device};
 ghost use Rattle.std.specs.List.{flat_map};
 ghost use Rattle.std.specs.Str.{bytes_eq};
-ghost use Rattle.translog.specs.Frames.{contents_in, first_frame, frame_of, framed, log_of, AreContents, IsLog};
+ghost use Rattle.translog.specs.Frames.{contents_in, first_frame, frame_of, framed, mended, AreContents, IsLog, IsOpened, IsTorn, IsUnopened};
 
 use crate::device::LogDevice;
 use crate::fault::LogFault;
+use crate::refused::Refused;
 use std::alloc::{AllocError, Global};
 use std::marker::Model;
 
@@ -40,7 +42,7 @@ impl Frame {
     /// The frame of a content.
     fn of(alloc: Global, content: &[u8]) -> Result<Frame, LogFault>
         ensures frame { Gives fault_of (λ f. f) result (frame_of content.now) }
-        ensures no_failure { IsErrOf result Device → ⊥ }
+        ensures no_failure { IfErr result (λ e. is_device e ≡ false) }
     {
         if content.len() > MAX_CONTENT {
             return Err(LogFault::TooLarge);
@@ -50,6 +52,17 @@ impl Frame {
         bytes.extend_from_slice(content)?;
         Ok(Frame { bytes })
     }
+}
+
+/// What is torn of a log, as a crash leaves it.
+#[derive(Clone, Copy, Debug, PartialEq, Eq)]
+pub enum Torn {
+    /// Nothing: it is a header and whole frames.
+    Nothing,
+    /// The end: after so many bytes there is less than a frame.
+    End(usize),
+    /// The header: less than that is there.
+    Header,
 }
 
 /// A log of frames with any contents, behind a header of its own.
@@ -68,47 +81,76 @@ impl<D: LogDevice> Model for Frames<D> {
 }
 
 impl<D: LogDevice> Frames<D> {
-    /// A log that isn't open yet.
-    pub(crate) fn over(header: [u8; 4], device: D) -> Frames<D>
+    /// A log that isn't open yet: nothing is read.
+    pub fn over(header: [u8; 4], device: D) -> Frames<D>
         ensures header { result.header ≡ header }
         ensures device { result.device ≡ device }
     {
         Frames { header, device }
     }
 
-    /// Opens the log that a device holds, and gives its contents. A last frame that isn't whole is cut off; a header that isn't whole, or none, is
-    /// written anew. A length that is damaged so that it passes the end can't be told from such a frame.
+    /// Opens the log that a device holds, and gives its contents: `read` and then `mend`. A refusal hands the device back.
     pub fn open(
         alloc: Global,
         header: [u8; 4],
         device: D,
-    ) -> Result<(Frames<D>, Vec<Vec<u8>>), LogFault>
-        ensures found { Gives fault_of (λ x. map (λ c. c.items) x.1.items) result (contents_in header (D.held device)) }
-        ensures whole { IfOk result (λ x. IsLog header (D.held x.0.device) (map (λ c. c.items) x.1.items)) }
-        ensures offsets { IfOk result (λ x. length (D.held x.0.device) < 2 ^ 64) }
+    ) -> Result<(Frames<D>, Vec<Vec<u8>>), Refused<D, LogFault>>
+        ensures found { Gives (λ r. fault_of r.fault) (λ x. map (λ c. c.items) x.1.items) result (contents_in header (D.held device)) }
+        ensures opened { IfOk result (λ x. IsOpened header (D.held device) (D.held x.0.device) (map (λ c. c.items) x.1.items) (D.failures device) (D.failures x.0.device)) }
+        ensures refused { IfErr result (λ r. IsUnopened (is_device r.fault) header (D.held device) (D.held r.device) (D.failures device) (D.failures r.device)) }
+        ensures offsets { IfOk result (λ x. 4 + length (flat_map framed (map (λ c. c.items) x.1.items)) < 2 ^ 64) }
         ensures header { IfOk result (λ x. x.0.header ≡ header) }
-        ensures failed { IsErrOf result Device → (left : D) × Rises (D.failures device) (D.failures left) }
-        ensures in_memory { D.in_memory ≡ true → IsErrOf result Device → ⊥ }
+        ensures in_memory { D.in_memory ≡ true → IfErr result (λ r. is_device r.fault ≡ false) }
     {
         let mut frames = Frames::over(header, device);
-        let contents = frames.reopen(alloc)?;
-        Ok((frames, contents))
+        match frames.reopen(alloc) {
+            Ok(contents) => Ok((frames, contents)),
+            Err(fault) => Err(Refused {
+                device: frames.into_device(),
+                fault,
+            }),
+        }
     }
 
-    /// Opens the log again, as after a failed `append`. Where it is refused, the device's bytes stand for the same contents or fault as before;
-    /// those of whole frames stay as they are.
+    /// Opens the log again, as after a failed `append`: `read` and then `mend`.
     pub fn reopen(&mut self, alloc: Global) -> Result<Vec<Vec<u8>>, LogFault>
         ensures found { Gives fault_of (λ cs. map (λ c. c.items) cs.items) result (contents_in self.old.header (D.held self.old.device)) }
-        ensures whole { IfOk result (λ cs. IsLog self.old.header (D.held self.new.device) (map (λ c. c.items) cs.items)) }
-        ensures offsets { OnOk result (length (D.held self.new.device) < 2 ^ 64) }
+        ensures opened { IfOk result (λ cs. IsOpened self.old.header (D.held self.old.device) (D.held self.new.device) (map (λ c. c.items) cs.items) (D.failures self.old.device) (D.failures self.new.device)) }
+        ensures refused { IfErr result (λ e. IsUnopened (is_device e) self.old.header (D.held self.old.device) (D.held self.new.device) (D.failures self.old.device) (D.failures self.new.device)) }
+        ensures offsets { IfOk result (λ cs. 4 + length (flat_map framed (map (λ c. c.items) cs.items)) < 2 ^ 64) }
         ensures header { self.new.header ≡ self.old.header }
-        ensures err { OnErr result (contents_in self.old.header (D.held self.new.device) ≡ contents_in self.old.header (D.held self.old.device)) }
-        ensures stays { (cs : List (List ℕ)) → IsLog self.old.header (D.held self.old.device) cs → D.held self.new.device ≡ D.held self.old.device }
-        ensures failed { IsErrOf result Device → Rises (D.failures self.old.device) (D.failures self.new.device) }
-        ensures counts { D.failures self.old.device ≤ D.failures self.new.device }
-        ensures in_memory { D.in_memory ≡ true → IsErrOf result Device → ⊥ }
+        ensures in_memory { D.in_memory ≡ true → IfErr result (λ e. is_device e ≡ false) }
     {
-        opened(alloc, &self.header, &mut self.device)
+        let (contents, torn) = self.read(alloc)?;
+        self.mend(torn)?;
+        Ok(contents)
+    }
+
+    /// The contents of the log's whole frames, and what is torn beside them. No byte changes. A length that is damaged so that it passes the
+    /// end can't be told from a torn frame.
+    pub fn read(&mut self, alloc: Global) -> Result<(Vec<Vec<u8>>, Torn), LogFault>
+        ensures found { Gives fault_of (λ x. map (λ c. c.items) x.0.items) result (contents_in self.old.header (D.held self.old.device)) }
+        ensures torn { IfOk result (λ x. IsTorn self.old.header (D.held self.old.device) (map (λ c. c.items) x.0.items) x.1) }
+        ensures offsets { IfOk result (λ x. 4 + length (flat_map framed (map (λ c. c.items) x.0.items)) < 2 ^ 64) }
+        ensures header { self.new.header ≡ self.old.header }
+        ensures held { D.held self.new.device ≡ D.held self.old.device }
+        ensures counts { D.failures self.new.device ≡ count_after (errs_with is_device result) (D.failures self.old.device) }
+        ensures in_memory { D.in_memory ≡ true → IfErr result (λ e. is_device e ≡ false) }
+    {
+        scanned(alloc, &self.header, &mut self.device)
+    }
+
+    /// Cuts off the torn end that `read` found, or writes the header anew. Want of memory comes for the header alone, before a byte changes.
+    pub fn mend(&mut self, torn: Torn) -> Result<(), LogFault>
+        requires { (contents : List (List ℕ)) × IsTorn self.old.header (D.held self.old.device) contents torn }
+        ensures ok { OnOk result (D.held self.new.device ≡ mended self.old.header (D.held self.old.device) torn) }
+        ensures counts { OnOk result (D.failures self.new.device ≡ D.failures self.old.device) }
+        ensures refused { IfErr result (λ e. IsUnopened (is_device e) self.old.header (D.held self.old.device) (D.held self.new.device) (D.failures self.old.device) (D.failures self.new.device)) }
+        ensures cause { IfErr result (λ e. fault_of e ≡ None) }
+        ensures header { self.new.header ≡ self.old.header }
+        ensures in_memory { D.in_memory ≡ true → IfErr result (λ e. is_device e ≡ false) }
+    {
+        mend(&self.header, &mut self.device, torn)
     }
 
     /// Spells the frame of a content, and makes room for it. No byte changes.
@@ -118,7 +160,7 @@ impl<D: LogDevice> Frames<D> {
         ensures header { self.new.header ≡ self.old.header }
         ensures held { D.held self.new.device ≡ D.held self.old.device }
         ensures failures { D.failures self.new.device ≡ D.failures self.old.device }
-        ensures no_failure { IsErrOf result Device → ⊥ }
+        ensures no_failure { IfErr result (λ e. is_device e ≡ false) }
     {
         let frame = Frame::of(alloc, content)?;
         self.device.reserve(frame.bytes.len())?;
@@ -130,8 +172,7 @@ impl<D: LogDevice> Frames<D> {
         ensures ok { OnOk result (D.held self.new.device ≡ D.held self.old.device ++ frame) }
         ensures err { OnErr result (AddsFront (D.held self.old.device) frame (D.held self.new.device)) }
         ensures cause { IfErr result (λ e. e ≡ Device) }
-        ensures failed { OnErr result (Rises (D.failures self.old.device) (D.failures self.new.device)) }
-        ensures counts { D.failures self.old.device ≤ D.failures self.new.device }
+        ensures counts { D.failures self.new.device ≡ count_after (is_err result) (D.failures self.old.device) }
         ensures in_memory { D.in_memory ≡ true → length frame ≤ D.room self.old.device → IsOk result }
         ensures header { self.new.header ≡ self.old.header }
     {
@@ -157,34 +198,21 @@ impl<D: LogDevice> Frames<D> {
 
 // ---- what a device holds
 
-/// The contents that a device holds, with what is torn cut off or written anew.
-fn opened<D: LogDevice>(
+/// The contents that a device holds, and what is torn beside them.
+fn scanned<D: LogDevice>(
     alloc: Global,
     header: &[u8; 4],
     device: &mut D,
-) -> Result<Vec<Vec<u8>>, LogFault>
-    ensures found { Gives fault_of (λ cs. map (λ c. c.items) cs.items) result (contents_in header.now (D.held device.old)) }
-    ensures whole { IfOk result (λ cs. IsLog header.now (D.held device.new) (map (λ c. c.items) cs.items)) }
-    ensures offsets { OnOk result (length (D.held device.new) < 2 ^ 64) }
-    ensures err { OnErr result (contents_in header.now (D.held device.new) ≡ contents_in header.now (D.held device.old)) }
-    ensures stays { (cs : List (List ℕ)) → IsLog header.now (D.held device.old) cs → D.held device.new ≡ D.held device.old }
-    ensures failed { IsErrOf result Device → Rises (D.failures device.old) (D.failures device.new) }
-    ensures counts { D.failures device.old ≤ D.failures device.new }
-    ensures in_memory { D.in_memory ≡ true → IsErrOf result Device → ⊥ }
+) -> Result<(Vec<Vec<u8>>, Torn), LogFault>
+    ensures found { Gives fault_of (λ x. map (λ c. c.items) x.0.items) result (contents_in header.now (D.held device.old)) }
+    ensures torn { IfOk result (λ x. IsTorn header.now (D.held device.old) (map (λ c. c.items) x.0.items) x.1) }
+    ensures offsets { IfOk result (λ x. 4 + length (flat_map framed (map (λ c. c.items) x.0.items)) < 2 ^ 64) }
+    ensures held { D.held device.new ≡ D.held device.old }
+    ensures counts { D.failures device.new ≡ count_after (errs_with is_device result) (D.failures device.old) }
+    ensures in_memory { D.in_memory ≡ true → IfErr result (λ e. is_device e ≡ false) }
 {
     let bytes = read(alloc, device)?;
-    let held = bytes.as_slice();
-    if !begins(held, header) {
-        return Err(LogFault::BadMagic);
-    }
-    if held.len() < HEADER {
-        write_header(header, device)?;
-        return Ok(Vec::new(alloc));
-    }
-    let (_, frames) = held.split_at(HEADER);
-    let (contents, rest) = split(alloc, frames)?;
-    cut_rest(device, rest, held.len() - rest.len())?;
-    Ok(contents)
+    found(alloc, header, bytes.as_slice())
 }
 
 /// All the bytes of a device.
@@ -192,11 +220,43 @@ fn read<D: LogDevice>(alloc: Global, device: &mut D) -> Result<Vec<u8>, LogFault
     ensures bytes { IfOk result (λ bytes. bytes.items ≡ D.held device.old) }
     ensures held { D.held device.new ≡ D.held device.old }
     ensures cause { IfErr result (λ e. fault_of e ≡ None) }
-    ensures failed { IsErrOf result Device → Rises (D.failures device.old) (D.failures device.new) }
-    ensures counts { D.failures device.old ≤ D.failures device.new }
-    ensures in_memory { D.in_memory ≡ true → IsErrOf result Device → ⊥ }
+    ensures counts { D.failures device.new ≡ count_after (errs_with is_device result) (D.failures device.old) }
+    ensures in_memory { D.in_memory ≡ true → IfErr result (λ e. is_device e ≡ false) }
 {
-    Ok(device.read_all(alloc)?)
+    match device.read_all(alloc) {
+        Ok(bytes) => Ok(bytes),
+        Err(fault) => Err(LogFault::from(fault)),
+    }
+}
+
+/// The contents that some bytes hold, and what is torn beside them.
+fn found(alloc: Global, header: &[u8; 4], held: &[u8]) -> Result<(Vec<Vec<u8>>, Torn), LogFault>
+    ensures found { Gives fault_of (λ x. map (λ c. c.items) x.0.items) result (contents_in header.now held.now) }
+    ensures torn { IfOk result (λ x. IsTorn header.now held.now (map (λ c. c.items) x.0.items) x.1) }
+    ensures offsets { IfOk result (λ x. 4 + length (flat_map framed (map (λ c. c.items) x.0.items)) < 2 ^ 64) }
+    ensures no_failure { IfErr result (λ e. is_device e ≡ false) }
+{
+    if !begins(held, header) {
+        return Err(LogFault::BadMagic);
+    }
+    if held.len() < HEADER {
+        return Ok((Vec::new(alloc), Torn::Header));
+    }
+    let (_, frames) = held.split_at(HEADER);
+    let (contents, rest) = split(alloc, frames)?;
+    Ok((contents, torn_end(rest, held.len())))
+}
+
+/// What is torn of a log of so many bytes where these stand after the last whole frame.
+fn torn_end(rest: &[u8], len: usize) -> Torn
+    requires { length rest.now ≤ len }
+    ensures nothing { length rest.now ≡ 0 → result ≡ Nothing }
+    ensures end { 0 < length rest.now → result ≡ End (len - length rest.now) }
+{
+    if rest.is_empty() {
+        return Torn::Nothing;
+    }
+    Torn::End(len - rest.len())
 }
 
 /// Whether the first bytes, as far as they are there, begin the header.
@@ -244,35 +304,38 @@ fn split(alloc: Global, bytes: &[u8]) -> Result<(Vec<Vec<u8>>, &[u8]), AllocErro
     Ok((contents, rest))
 }
 
+// ---- what is torn
+
+/// Cuts off a torn end, or writes a torn header anew.
+fn mend<D: LogDevice>(header: &[u8; 4], device: &mut D, torn: Torn) -> Result<(), LogFault>
+    requires { (contents : List (List ℕ)) × IsTorn header.now (D.held device.old) contents torn }
+    ensures ok { OnOk result (D.held device.new ≡ mended header.now (D.held device.old) torn) }
+    ensures counts { OnOk result (D.failures device.new ≡ D.failures device.old) }
+    ensures refused { IfErr result (λ e. IsUnopened (is_device e) header.now (D.held device.old) (D.held device.new) (D.failures device.old) (D.failures device.new)) }
+    ensures cause { IfErr result (λ e. fault_of e ≡ None) }
+    ensures in_memory { D.in_memory ≡ true → IfErr result (λ e. is_device e ≡ false) }
+{
+    match torn {
+        Torn::Nothing => Ok(()),
+        Torn::End(whole) => match device.cut(whole) {
+            Ok(()) => Ok(()),
+            Err(_) => Err(LogFault::Device),
+        },
+        Torn::Header => write_header(header, device),
+    }
+}
+
 /// Writes the header of a log that has none, or a part of it.
 fn write_header<D: LogDevice>(header: &[u8; 4], device: &mut D) -> Result<(), LogFault>
-    requires front { bytes_eq (take 4 (D.held device.old)) (take (length (D.held device.old)) header.now) ≡ true }
-    requires short { length (D.held device.old) < 4 }
+    requires { (m : ℕ) × (m < 4) × (D.held device.old ≡ take m header.now) }
     ensures ok { OnOk result (D.held device.new ≡ header.now) }
-    ensures err { OnErr result (contents_in header.now (D.held device.new) ≡ Ok []) }
+    ensures counts { OnOk result (D.failures device.new ≡ D.failures device.old) }
+    ensures refused { IfErr result (λ e. IsUnopened (is_device e) header.now (D.held device.old) (D.held device.new) (D.failures device.old) (D.failures device.new)) }
     ensures cause { IfErr result (λ e. fault_of e ≡ None) }
-    ensures failed { IsErrOf result Device → Rises (D.failures device.old) (D.failures device.new) }
-    ensures counts { D.failures device.old ≤ D.failures device.new }
-    ensures in_memory { D.in_memory ≡ true → IsErrOf result Device → ⊥ }
+    ensures in_memory { D.in_memory ≡ true → IfErr result (λ e. is_device e ≡ false) }
 {
     device.reserve(HEADER)?;
     device.cut(0)?;
     device.append(header)?;
-    Ok(())
-}
-
-/// Cuts off the bytes after the last whole frame.
-fn cut_rest<D: LogDevice>(device: &mut D, rest: &[u8], len: usize) -> Result<(), LogFault>
-    requires { length (D.held device.old) ≡ len + length rest.now }
-    ensures ok { OnOk result (D.held device.new ≡ take len (D.held device.old)) }
-    ensures err { OnErr result ((D.held device.new ≡ D.held device.old) ⊎ (D.held device.new ≡ take len (D.held device.old))) }
-    ensures cause { IfErr result (λ e. e ≡ Device) }
-    ensures failed { OnErr result (Rises (D.failures device.old) (D.failures device.new)) }
-    ensures counts { D.failures device.old ≤ D.failures device.new }
-    ensures in_memory { D.in_memory ≡ true → IsOk result }
-{
-    if !rest.is_empty() {
-        device.cut(len)?;
-    }
     Ok(())
 }

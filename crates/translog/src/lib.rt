@@ -7,11 +7,11 @@ pub mod frames;
 pub mod laws;
 pub mod log;
 pub mod memory;
-#[cfg(test)]
-mod tests;
+pub mod refused;
 
 pub use device::{DeviceFault, Failed, LogDevice};
 pub use fault::LogFault;
-pub use frames::{Frame, Frames};
+pub use frames::{Frame, Frames, Torn};
 pub use log::Translog;
 pub use memory::MemDevice;
+pub use refused::Refused;

@@ -1,5 +1,5 @@
 //! The translog: a log of records.
-ghost use Rattle.std.specs.Prelude.{◌≡◌, ◌≤◌, ◌<◌, ◌+◌, ◌^◌, ◌++◌, true, List, length, map, All, Ok, Err, if◌then◌else◌, IfOk, IsOk, IfErr, OnOk, OnErr, IsErrOf};
+ghost use Rattle.std.specs.Prelude.{◌≡◌, ◌≤◌, ◌<◌, ◌+◌, ◌^◌, ◌++◌, true, false, None, List, ℕ, length, map, All, Ok, Err, if◌then◌else◌, is_err, IfOk, IsOk, IfErr, OnOk, OnErr};
 ghost use Rattle.std.specs.List.{flat_map, AllByRecursion};
 ghost use Rattle.doc.specs.Outcome.{Gives};
 ghost use Rattle.op.specs.declared.record.Record.{Record};
@@ -7,14 +7,15 @@ ghost use Rattle.op.specs.Format.{spelling, is_too_large};
 ghost use Rattle.op.specs.Reading.{record_of};
 ghost use Rattle.op.specs.Records.{IsRecord};
 ghost use Rattle.translog.specs.declared.fault.LogFault.TheVariants.{Device};
-ghost use Rattle.translog.specs.Device.{AddsFront, Rises};
-ghost use Rattle.translog.specs.Fault.{fault_of, too_large};
-ghost use Rattle.translog.specs.Frames.{framed, AreContents};
-ghost use Rattle.translog.specs.Kept.{kept, or_damaged, records_from, record_frame, IsSpelt, IsTranslog};
+ghost use Rattle.translog.specs.Device.{AddsFront, count_after};
+ghost use Rattle.translog.specs.Fault.{errs_with, fault_of, is_device, too_large};
+ghost use Rattle.translog.specs.Frames.{framed, mended, AreContents, IsOpened, IsTorn, IsUnopened};
+ghost use Rattle.translog.specs.Kept.{header, kept, or_damaged, records_from, record_frame, IsSpelt, IsTranslog};
 
 use crate::device::LogDevice;
 use crate::fault::LogFault;
-use crate::frames::{Frame, Frames};
+use crate::frames::{Frame, Frames, Torn};
+use crate::refused::Refused;
 use op::laws::rules_are_tested;
 use op::{OpFault, Record, decode, encode};
 use std::alloc::Global;
@@ -41,36 +42,77 @@ impl<D: LogDevice> Model for Translog<D> {
 }
 
 impl<D: LogDevice> Translog<D> {
-    /// Opens the translog that a device holds, and gives its records. A last frame that isn't whole is cut off; a header that isn't whole, or none,
-    /// is written anew. Else `BadMagic`, or `Damaged` with the offset of the first whole frame that isn't a record.
-    pub fn open(alloc: Global, device: D) -> Result<(Translog<D>, Vec<Record>), LogFault>
-        ensures found { Gives fault_of (λ x. x.1.items) result (kept (D.held device)) }
-        ensures whole { IfOk result (λ x. IsTranslog (D.held x.0) x.1.items) }
-        ensures rules { IfOk result (λ x. All IsRecord x.1.items) }
-        ensures failed { IsErrOf result Device → (left : D) × Rises (D.failures device) (D.failures left) }
-        ensures in_memory { D.in_memory ≡ true → IsErrOf result Device → ⊥ }
+    /// A translog that isn't open yet: nothing is read.
+    pub fn over(device: D) -> Translog<D>
+        ensures { result ≡ device }
     {
-        let mut log = Translog {
+        Translog {
             frames: Frames::over(RSX1, device),
-        };
-        let records = log.reopen(alloc)?;
-        Ok((log, records))
+        }
     }
 
-    /// Opens it again, as after a failed `append`. Where it is refused, the device's bytes stand for the same records or fault as before;
-    /// those of whole frames stay as they are.
+    /// Opens the translog that a device holds, and gives its records: `read` and then `mend`. A refusal hands the device back.
+    pub fn open(
+        alloc: Global,
+        device: D,
+    ) -> Result<(Translog<D>, Vec<Record>), Refused<D, LogFault>>
+        ensures found { Gives (λ r. fault_of r.fault) (λ x. x.1.items) result (kept (D.held device)) }
+        ensures whole { IfOk result (λ x. IsTranslog (D.held x.0) x.1.items) }
+        ensures rules { IfOk result (λ x. All IsRecord x.1.items) }
+        ensures opened { IfOk result (λ x. IsOpened header (D.held device) (D.held x.0) (map spelling x.1.items) (D.failures device) (D.failures x.0)) }
+        ensures refused { IfErr result (λ r. IsUnopened (is_device r.fault) header (D.held device) (D.held r.device) (D.failures device) (D.failures r.device)) }
+        ensures in_memory { D.in_memory ≡ true → IfErr result (λ r. is_device r.fault ≡ false) }
+    {
+        let mut log = Translog::over(device);
+        match log.reopen(alloc) {
+            Ok(records) => Ok((log, records)),
+            Err(fault) => Err(Refused {
+                device: log.into_device(),
+                fault,
+            }),
+        }
+    }
+
+    /// Opens it again, as after a failed `append`: `read` and then `mend`.
     pub fn reopen(&mut self, alloc: Global) -> Result<Vec<Record>, LogFault>
         ensures found { Gives fault_of (λ rs. rs.items) result (kept (D.held self.old)) }
         ensures whole { IfOk result (λ rs. IsTranslog (D.held self.new) rs.items) }
         ensures rules { IfOk result (λ rs. All IsRecord rs.items) }
-        ensures err { OnErr result (kept (D.held self.new) ≡ kept (D.held self.old)) }
-        ensures stays { (rs : List Record) → IsTranslog (D.held self.old) rs → D.held self.new ≡ D.held self.old }
-        ensures failed { IsErrOf result Device → Rises (D.failures self.old) (D.failures self.new) }
-        ensures counts { D.failures self.old ≤ D.failures self.new }
-        ensures in_memory { D.in_memory ≡ true → IsErrOf result Device → ⊥ }
+        ensures opened { IfOk result (λ rs. IsOpened header (D.held self.old) (D.held self.new) (map spelling rs.items) (D.failures self.old) (D.failures self.new)) }
+        ensures refused { IfErr result (λ e. IsUnopened (is_device e) header (D.held self.old) (D.held self.new) (D.failures self.old) (D.failures self.new)) }
+        ensures in_memory { D.in_memory ≡ true → IfErr result (λ e. is_device e ≡ false) }
     {
-        let contents = self.frames.reopen(alloc)?;
-        records_of(alloc, contents.as_slice())
+        let (records, torn) = self.read(alloc)?;
+        self.mend(torn)?;
+        Ok(records)
+    }
+
+    /// The records that the translog keeps, and what is torn beside them. No byte changes. Else `BadMagic`, or `Damaged` with the offset of
+    /// the first whole frame that isn't a record.
+    pub fn read(&mut self, alloc: Global) -> Result<(Vec<Record>, Torn), LogFault>
+        ensures found { Gives fault_of (λ x. x.0.items) result (kept (D.held self.old)) }
+        ensures torn { IfOk result (λ x. IsTorn header (D.held self.old) (map spelling x.0.items) x.1) }
+        ensures whole { IfOk result (λ x. IsTranslog (mended header (D.held self.old) x.1) x.0.items) }
+        ensures rules { IfOk result (λ x. All IsRecord x.0.items) }
+        ensures held { D.held self.new ≡ D.held self.old }
+        ensures counts { D.failures self.new ≡ count_after (errs_with is_device result) (D.failures self.old) }
+        ensures in_memory { D.in_memory ≡ true → IfErr result (λ e. is_device e ≡ false) }
+    {
+        let (contents, torn) = self.frames.read(alloc)?;
+        let records = records_of(alloc, contents.as_slice())?;
+        Ok((records, torn))
+    }
+
+    /// Cuts off the torn end that `read` found, or writes the header anew. Want of memory comes for the header alone, before a byte changes.
+    pub fn mend(&mut self, torn: Torn) -> Result<(), LogFault>
+        requires { (contents : List (List ℕ)) × IsTorn header (D.held self.old) contents torn }
+        ensures ok { OnOk result (D.held self.new ≡ mended header (D.held self.old) torn) }
+        ensures counts { OnOk result (D.failures self.new ≡ D.failures self.old) }
+        ensures refused { IfErr result (λ e. IsUnopened (is_device e) header (D.held self.old) (D.held self.new) (D.failures self.old) (D.failures self.new)) }
+        ensures cause { IfErr result (λ e. fault_of e ≡ None) }
+        ensures in_memory { D.in_memory ≡ true → IfErr result (λ e. is_device e ≡ false) }
+    {
+        self.frames.mend(torn)
     }
 
     /// Spells the frame of a record that keeps the rules, and makes room for it. No byte changes.
@@ -81,7 +123,7 @@ impl<D: LogDevice> Translog<D> {
         ensures room { IfOk result (λ f. length f ≤ D.room self.new) }
         ensures held { D.held self.new ≡ D.held self.old }
         ensures failures { D.failures self.new ≡ D.failures self.old }
-        ensures no_failure { IsErrOf result Device → ⊥ }
+        ensures no_failure { IfErr result (λ e. is_device e ≡ false) }
     {
         let content = spelt(alloc, entry)?;
         self.frames.prepare(alloc, content.as_slice())
@@ -93,8 +135,7 @@ impl<D: LogDevice> Translog<D> {
         ensures ok { OnOk result (D.held self.new ≡ D.held self.old ++ frame) }
         ensures err { OnErr result (AddsFront (D.held self.old) frame (D.held self.new)) }
         ensures cause { IfErr result (λ e. e ≡ Device) }
-        ensures failed { OnErr result (Rises (D.failures self.old) (D.failures self.new)) }
-        ensures counts { D.failures self.old ≤ D.failures self.new }
+        ensures counts { D.failures self.new ≡ count_after (is_err result) (D.failures self.old) }
         ensures in_memory { D.in_memory ≡ true → length frame ≤ D.room self.old → IsOk result }
     {
         self.frames.append(frame)
@@ -123,7 +164,7 @@ fn records_of(alloc: Global, contents: &[Vec<u8>]) -> Result<Vec<Record>, LogFau
     ensures found { Gives fault_of (λ rs. rs.items) result (records_from 4 (map (λ c. c.items) contents.now)) }
     ensures spelt { IfOk result (λ rs. map spelling rs.items ≡ map (λ c. c.items) contents.now) }
     ensures each { IfOk result (λ rs. AllByRecursion IsSpelt rs.items) }
-    ensures no_failure { IsErrOf result Device → ⊥ }
+    ensures no_failure { IfErr result (λ e. is_device e ≡ false) }
 {
     let mut records = Vec::new(alloc);
     let mut offset = 4;
@@ -140,7 +181,7 @@ fn record_of(alloc: Global, offset: u64, content: &[u8]) -> Result<Record, LogFa
     ensures found { Gives fault_of (λ r. r) result (or_damaged offset (record_of content.now)) }
     ensures spelt { IfOk result (λ r. spelling r ≡ content.now) }
     ensures is { length content.now < 2 ^ 32 → IfOk result IsSpelt }
-    ensures no_failure { IsErrOf result Device → ⊥ }
+    ensures no_failure { IfErr result (λ e. is_device e ≡ false) }
 {
     match decode(alloc, content) {
         Ok(found) => Ok(found),
@@ -154,7 +195,7 @@ fn spelt(alloc: Global, entry: &Record) -> Result<Vec<u8>, LogFault>
     requires { IsRecord entry.now }
     ensures spelling { Gives fault_of (λ v. v.items) result (if is_too_large entry.now then Err too_large else Ok (spelling entry.now)) }
     ensures is { OnOk result (IsSpelt entry.now) }
-    ensures no_failure { IsErrOf result Device → ⊥ }
+    ensures no_failure { IfErr result (λ e. is_device e ≡ false) }
 {
     rules_are_tested();
     match encode(alloc, entry) {

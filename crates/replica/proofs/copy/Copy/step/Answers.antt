@@ -1,7 +1,17 @@
-use Rattle.replica.proofs.Failures.{failed_in}
+use Rattle.std.proofs.lemmas.Result.{err_from_is_err_and}
+use Rattle.replica.specs.Step.{copy_step}
+use Rattle.replica.proofs.Failures.{refused_at_once, refused_in}
 use Rattle.replica.proofs.copy.Copy.step.Goals as goal
 
-pub returns-clause-failed : goal.returns-clause-failed
-returns-clause-failed g c =
+pub returns-in_err-prepared-clause-refused : goal.returns-in_err-prepared-clause-refused
+returns-in_err-prepared-clause-refused g c =
+    let p = err_from_is_err_and c.from_residual.result c.from_residual.ensures.1 in
+    let s = c.args.self.now in
+    let refusal = c.in_err-prepared.ensures in
+    rw (p.1, p.2) (refused_at_once c.in_err-prepared.field-0.0 s c.prepare.new.self c.args.input (copy_step s.copy c.args.input) refusal.copy refusal.closes refusal.refused refusal.unread refusal.no_log)
+
+pub returns-clause-refused : goal.returns-clause-refused
+returns-clause-refused g c =
     let ready = c.in_ok-prepared.ensures in
-    failed_in c.commit.result c.args.self.now c.prepare.new.self c.commit.new.self c.args.input c.in_ok-prepared.prepared c.commit.ensures.cause c.commit.ensures.closed c.commit.ensures.shown ready.kind ready.closed ready.copy ready.records ready.failures ready.step
+    let done = c.commit.ensures in
+    refused_in c.commit.result c.args.self.now c.prepare.new.self c.commit.new.self c.args.input c.in_ok-prepared.prepared done.cause done.closed done.memory done.counts done.sure ready.kind ready.closed ready.copy ready.stays ready.log ready.counts ready.step

@@ -1,0 +1,21 @@
+use Rattle.std.proofs.Common.{◌≡◌, ℕ, List, Ok, ap, subst}
+use Rattle.doc.specs.Outcome.{Fails}
+use Rattle.translog.specs.Fault.{fault_of}
+use Rattle.translog.specs.Kept.{kept}
+use Rattle.replica.specs.Logged.{Logged, IsLogged}
+use Rattle.replica.proofs.LogLaws.{same_records, unread}
+use Rattle.replica.proofs.copy.Copy.read_log.Goals as goal
+
+pub returns-in-Ok-clause-same : goal.returns-in-Ok-clause-same
+returns-in-Ok-clause-same g c opened =
+    let s = c.args.self.now in
+    let logged : IsLogged s = subst (λ (l : Logged). IsLogged l) c.self.view_is c.self.invariant in
+    let found = subst (λ (x : List ℕ). kept x ≡ Ok c.in-Ok.found.0.items) (ap (λ (l : Logged). l.log) c.self.view_is) c.in-Ok.ensures.found in
+    same_records s.log s.copy.records c.in-Ok.found.0.items (logged opened) found
+
+pub returns-after-self-clause-unread : goal.returns-after-self-clause-unread
+returns-after-self-clause-unread g c =
+    let s = c.args.self.now in
+    let fault = c.in-Err.fault in
+    let found = subst (λ (x : List ℕ). Fails fault_of fault (kept x)) (ap (λ (l : Logged). l.log) c.self.view_is) c.in-Err.ensures.found in
+    rw c.from-refusal.ensures (unread s.log fault found)
