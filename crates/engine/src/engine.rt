@@ -1,10 +1,10 @@
 //! The documents of one copy.
-ghost use Rattle.std.specs.Prelude.{◌≡◌, All, length, IfOk, OnOk, OnErr};
+ghost use Rattle.std.specs.Prelude.{◌≡◌, ◌<◌, ◌^◌, All, length, None, IfOk, OnOk, OnErr};
 ghost use Rattle.std.specs.Option.{option_copied, option_map};
 ghost use Rattle.std.specs.Arc.{arc_value};
-ghost use Rattle.op.specs.Checkpoint.{checkpoint_of};
+ghost use Rattle.op.specs.Checkpoint.{checkpoint_of, known};
 ghost use Rattle.op.specs.Documents.{document_at, documents};
-ghost use Rattle.op.specs.Operations.{IsAscending, op_at, last_on, next_seq};
+ghost use Rattle.op.specs.Operations.{IsAscending, add, from_number, is_stale, last_on, local_checkpoint, next_seq, op_at};
 ghost use Rattle.op.specs.Records.{IsRecord, operations, shown};
 ghost use Rattle.engine.specs.Applied.{outcome_of, records_after};
 ghost use Rattle.engine.specs.Found.{found_document};
@@ -195,6 +195,37 @@ impl Engine {
         ensures ascending { IsAscending (operations self.now.records) }
     {
         self.history.greatest()
+    }
+
+    /// The local checkpoint: the greatest number up to which none is missing, or -1.
+    pub fn local(&self) -> i64
+        ensures number { result ≡ local_checkpoint (operations self.now.records) }
+        ensures ascending { IsAscending (operations self.now.records) }
+    {
+        self.history.local()
+    }
+
+    /// The local checkpoint once an operation is kept whose number is free.
+    pub fn local_with(&self, op: &Op) -> i64
+        requires small { op.now.seq < 2 ^ 63 }
+        requires free { op_at (operations self.now.records) op.now.seq ≡ None }
+        ensures { result ≡ local_checkpoint (add (operations self.now.records) op.now) }
+    {
+        self.history.local_with(op)
+    }
+
+    /// Whether an operation on the same id has a greater number.
+    pub fn is_stale(&self, op: &Op) -> bool
+        ensures { result ≡ is_stale (operations self.now.records) op.now }
+    {
+        self.history.is_stale(op)
+    }
+
+    /// The operations above a global checkpoint, in order of number; above -1 all of them.
+    pub fn above(&self, alloc: Global, global: i64) -> Result<Vec<Op>, AllocError>
+        ensures { IfOk result (λ v. v.items ≡ from_number (known global) (operations self.now.records)) }
+    {
+        self.history.above(alloc, global)
     }
 
     /// The mapping that the documents are read under.

@@ -1,15 +1,15 @@
 //! The records of a copy, and their operations.
-ghost use Rattle.std.specs.Prelude.{◌≡◌, All, IfOk, OnErr};
+ghost use Rattle.std.specs.Prelude.{◌≡◌, ◌<◌, ◌^◌, None, All, IfOk, OnErr};
 ghost use Rattle.std.specs.Option.{option_copied, option_map};
-ghost use Rattle.op.specs.Checkpoint.{checkpoint_of};
+ghost use Rattle.op.specs.Checkpoint.{checkpoint_of, known};
 ghost use Rattle.op.specs.Documents.{left_by};
-ghost use Rattle.op.specs.Operations.{IsAscending, op_at, last_on, next_seq};
+ghost use Rattle.op.specs.Operations.{IsAscending, add, from_number, is_stale, last_on, local_checkpoint, next_seq, op_at};
 ghost use Rattle.op.specs.Records.{IsRecord, operations};
 ghost use Rattle.engine.specs.Found.{found_document};
 
 use crate::operations;
 use doc::{DocId, Source};
-use op::{Body, Op, Record};
+use op::{Body, Op, Record, checkpoint};
 use std::alloc::{AllocError, Global};
 use std::marker::Model;
 
@@ -119,6 +119,37 @@ impl History {
         ensures ascending { IsAscending (operations self.now) }
     {
         operations::greatest(&self.operations)
+    }
+
+    /// The greatest number up to which none is missing, or -1.
+    pub(crate) fn local(&self) -> i64
+        ensures number { result ≡ local_checkpoint (operations self.now) }
+        ensures ascending { IsAscending (operations self.now) }
+    {
+        checkpoint::from_count(operations::local_count(&self.operations))
+    }
+
+    /// The same once an operation is kept whose number is free.
+    pub(crate) fn local_with(&self, op: &Op) -> i64
+        requires small { op.now.seq < 2 ^ 63 }
+        requires free { op_at (operations self.now) op.now.seq ≡ None }
+        ensures { result ≡ local_checkpoint (add (operations self.now) op.now) }
+    {
+        checkpoint::from_count(operations::local_count_with(&self.operations, op))
+    }
+
+    /// Whether an operation on the same id has a greater number.
+    pub(crate) fn is_stale(&self, op: &Op) -> bool
+        ensures { result ≡ is_stale (operations self.now) op.now }
+    {
+        operations::has_newer(&self.operations, op)
+    }
+
+    /// The operations above a checkpoint.
+    pub(crate) fn above(&self, alloc: Global, global: i64) -> Result<Vec<Op>, AllocError>
+        ensures { IfOk result (λ v. v.items ≡ from_number (known global) (operations self.now)) }
+    {
+        operations::from_number(alloc, &self.operations, checkpoint::count(global))
     }
 
     /// Keeps the record, where it isn't an operation whose number is there.

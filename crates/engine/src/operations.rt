@@ -1,7 +1,7 @@
 //! Searches in a list of operations in ascending order of their numbers.
-ghost use Rattle.std.specs.Prelude.{◌≡◌, ◌≤◌, ◌<◌, ◌^◌, ◌++◌, suc, length, slice_get, IfOk, IfErr, OnOk, OnErr};
+ghost use Rattle.std.specs.Prelude.{◌≡◌, ◌≤◌, ◌<◌, ◌+◌, ◌^◌, ◌++◌, suc, length, slice_get, None, IfOk, IfErr, OnOk, OnErr};
 ghost use Rattle.std.specs.Option.{option_copied};
-ghost use Rattle.op.specs.Operations.{IsAscending, op_at, add, below, last_on, next_seq, is_stale};
+ghost use Rattle.op.specs.Operations.{IsAscending, op_at, add, below, from_number, last_on, local_count, next_seq, reached, is_stale};
 ghost use Rattle.op.specs.Records.{after_record};
 ghost use Rattle.op.specs.Checkpoint.{checkpoint_of};
 ghost use Rattle.engine.specs.Place.{IsGap};
@@ -44,7 +44,7 @@ pub(crate) fn last_on<'a>(operations: &'a [Op], id: &DocId) -> Option<&'a Op>
 }
 
 /// Whether an operation on the same id has a greater number.
-fn has_newer(operations: &[Op], op: &Op) -> bool
+pub(crate) fn has_newer(operations: &[Op], op: &Op) -> bool
     ensures { result ≡ is_stale operations.now op.now }
 {
     let id = match &op.body {
@@ -147,4 +147,57 @@ pub(crate) fn greatest(operations: &[Op]) -> i64
         [] => -1,
         [.., last] => last.seq as i64,
     }
+}
+
+/// How far the numbers go on from `from` without a gap: one past the last of them.
+fn reached(from: u64, operations: &[Op]) -> u64
+    requires { from + length operations.now < 2 ^ 64 }
+    ensures { result ≡ reached from operations.now }
+{
+    let mut next = from;
+    for op in operations {
+        if op.seq != next {
+            return next;
+        }
+        next += 1;
+    }
+    next
+}
+
+/// How many operations from number 0 up are there without a gap.
+pub(crate) fn local_count(operations: &[Op]) -> u64
+    ensures count { result ≡ local_count operations.now }
+    ensures within { result ≤ length operations.now }
+{
+    reached(0, operations)
+}
+
+/// The same once an operation is kept whose number is free.
+pub(crate) fn local_count_with(operations: &[Op], op: &Op) -> u64
+    requires up { IsAscending operations.now }
+    requires free { op_at operations.now op.now.seq ≡ None }
+    ensures { result ≡ local_count (add operations.now op.now) }
+{
+    let count = local_count(operations);
+    if op.seq != count {
+        return count;
+    }
+    reached(count + 1, &operations[count as usize..])
+}
+
+/// The operations from a number on.
+pub(crate) fn from_number(
+    alloc: Global,
+    operations: &[Op],
+    first: u64,
+) -> Result<Vec<Op>, AllocError>
+    ensures { IfOk result (λ v. v.items ≡ from_number first operations.now) }
+{
+    let mut found = Vec::new(alloc);
+    for op in operations {
+        if op.seq >= first {
+            found.push(op.copy(alloc)?)?;
+        }
+    }
+    Ok(found)
 }

@@ -1,11 +1,11 @@
 -- What a list of operations has after one is added.
 use Rattle.std.proofs.Common.{◌≡◌, ◌≢◌, ℕ, zero, suc, length, get_or, ◌<◌, ◌≤◌, Bool, true, false, List, [], ◌∷◌, ◌++◌, if◌then◌else◌, Option, Some, None, is_some, refl, ap, ◌∙◌, arith, max}
-use Rattle.std.specs.Prelude.{◌==◌, nat_lt, IfSome, not, ◌&&◌}
+use Rattle.std.specs.Prelude.{◌==◌, nat_lt, nat_le, IfSome, not, ◌&&◌}
 use Rattle.std.specs.List.{AllByRecursion}
 use Rattle.std.specs.Option.{option_or}
 use Rattle.std.proofs.lemmas.Bool.Decides.{nat_tests}
 use Rattle.op.specs.declared.operation.Op.{Op}
-use Rattle.op.specs.Operations.{IsAscending, op_at, placed, add, local_count, reached, is_on, last_on, is_newer, next_seq}
+use Rattle.op.specs.Operations.{IsAscending, op_at, placed, add, from_number, local_count, reached, is_on, last_on, is_newer, next_seq}
 use Rattle.doc.specs.Id.{Id}
 
 -- at a free number, the operation is there and each other number has what it had
@@ -218,3 +218,17 @@ not_newer (Some o) n h = grind (arith, nat_tests)
 -- no operation on an id is newer than the next number
 pub last_on-below : (os : List Op) (id : Id) → IsAscending os → is_newer (last_on os id) (next_seq os) ≡ false
 last_on-below os id up = not_newer (last_on os id) (next_seq os) (last_has (λ o. o.seq < next_seq os) os id (next_seq-above os up))
+
+-- all operations are those from number 0 on
+pub from_number-zero : (os : List Op) → from_number 0 os ≡ os
+from_number-zero [] = refl
+from_number-zero (o ∷ os) = let le : nat_le 0 o.seq ≡ true = grind (arith, nat_tests) in rw (le, from_number-zero os) refl
+
+pub op_at-append : (os ps : List Op) (n : ℕ) → op_at (os ++ ps) n ≡ option_or (op_at os n) (op_at ps n)
+op_at-append [] ps n = refl
+op_at-append (o ∷ os) ps n = grind (arith, nat_tests, op_at-append os ps n)
+
+pub next_seq-push : (os : List Op) (o : Op) → next_seq (os ++ o ∷ []) ≡ suc o.seq
+next_seq-push [] o = refl
+next_seq-push (p ∷ []) o = refl
+next_seq-push (p ∷ q ∷ qs) o = next_seq-push (q ∷ qs) o

@@ -41,7 +41,17 @@ abbrev pub is_history : ℕ → ℕ → List Op → Bool
 is_history term n [] = true
 is_history term n (o ∷ os) = is_next term n o && is_history term (suc n) os
 
+-- the rules of each kind of record
+abbrev pub is_op_record : ℤ → Op → Bool
+is_op_record g o = is_checkpoint g && (is_operation o && is_write o.body)
+
+abbrev pub is_resync_record : ℕ → ℤ → List Op → Bool
+is_resync_record term g os = is_checkpoint g && (is_term term && is_history term (known g) os)
+
+abbrev pub is_recover_record : ℕ → List Op → Bool
+is_recover_record term os = is_term term && is_history term 0 os
+
 abbrev pub is_record : Record → Bool
-is_record (Kept g o) = is_checkpoint g && (is_operation o && is_write o.body)
-is_record (Resync term g os) = is_checkpoint g && (is_term term && is_history term (known g) os)
-is_record (Recover term os) = is_term term && is_history term 0 os
+is_record (Kept g o) = is_op_record g o
+is_record (Resync term g os) = is_resync_record term g os
+is_record (Recover term os) = is_recover_record term os

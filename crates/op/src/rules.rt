@@ -10,19 +10,46 @@ use crate::record::Record;
 const MAX_NUMBER: u64 = 9_223_372_036_854_775_807;
 
 /// Whether a record keeps the rules of the translog's format.
-pub(crate) fn is_record(found: &Record) -> bool
+pub fn is_record(found: &Record) -> bool
     ensures { result ≡ spec.is_record found.now }
 {
     match found {
-        Record::Op(known, op) => *known >= -1 && is_operation(op) && is_write(&op.body),
-        Record::Resync(term, known, tail) => {
-            *known >= -1 && is_term(*term) && is_history(*term, count(*known), tail.as_slice())
-        }
-        Record::Recover(term, all) => is_term(*term) && is_history(*term, 0, all.as_slice()),
+        Record::Op(known, op) => is_op_record(*known, op),
+        Record::Resync(term, known, tail) => is_resync_record(*term, *known, tail.as_slice()),
+        Record::Recover(term, all) => is_recover_record(*term, all.as_slice()),
     }
 }
 
-fn is_term(term: u64) -> bool
+/// Whether an operation makes a record, beside a global checkpoint.
+pub fn is_op_record(known: i64, op: &Op) -> bool
+    ensures { result ≡ spec.is_op_record known op.now }
+{
+    is_checkpoint(known) && is_operation(op) && is_write(&op.body)
+}
+
+/// Whether these operations make the record of a resync.
+pub fn is_resync_record(term: u64, known: i64, tail: &[Op]) -> bool
+    ensures { result ≡ spec.is_resync_record term known tail.now }
+{
+    is_checkpoint(known) && is_term(term) && is_history(term, count(known), tail)
+}
+
+/// Whether these operations make the record of a recovery.
+pub fn is_recover_record(term: u64, all: &[Op]) -> bool
+    ensures { result ≡ spec.is_recover_record term all.now }
+{
+    is_term(term) && is_history(term, 0, all)
+}
+
+/// Whether a number is a checkpoint: at least -1.
+pub fn is_checkpoint(known: i64) -> bool
+    ensures { result ≡ spec.is_checkpoint known }
+{
+    known >= -1
+}
+
+/// Whether a number is a term: at least 1, and at most 9,223,372,036,854,775,807.
+pub fn is_term(term: u64) -> bool
     ensures { result ≡ spec.is_term term }
 {
     term > 0 && term <= MAX_NUMBER

@@ -1,5 +1,5 @@
 //! Records as bytes.
-ghost use Rattle.std.specs.Prelude.{◌≡◌, ◌≤◌, ◌++◌, length, Ok, IfOk, OnOk};
+ghost use Rattle.std.specs.Prelude.{◌≡◌, ◌≤◌, ◌++◌, length, Ok, IfOk, IfErr, OnOk};
 ghost use Rattle.std.specs.List.{flat_map, AllByRecursion};
 ghost use Rattle.doc.specs.Outcome.{Gives};
 ghost use Rattle.op.specs.declared.record.Record.TheVariants.{Op as Kept, Resync, Recover};
@@ -30,6 +30,13 @@ pub fn encode(alloc: Global, found: &Record) -> Result<Vec<u8>, OpFault>
     let mut out = Vec::with_capacity(alloc, len)?;
     put_record(&mut out, found)?;
     Ok(out)
+}
+
+/// Whether the spelling of a record would pass 4,294,967,295 bytes.
+pub fn is_too_large(found: &Record) -> bool
+    ensures { result ≡ spec.is_too_large found.now }
+{
+    record_len(found).is_err()
 }
 
 // ---- lengths
@@ -73,7 +80,8 @@ fn operation_len(op: &Op) -> usize
 }
 
 fn checked_len(len: usize) -> Result<usize, OpFault>
-    ensures { Gives fault_of (λ n. n) result (spec.length_or len) }
+    ensures len { Gives fault_of (λ n. n) result (spec.length_or len) }
+    ensures large { IfErr result (λ e. e ≡ OpFault.TooLarge) }
 {
     if len > MAX_SPELLING {
         return Err(OpFault::TooLarge);
@@ -84,6 +92,7 @@ fn checked_len(len: usize) -> Result<usize, OpFault>
 fn operations_len(operations: &[Op]) -> Result<usize, OpFault>
     ensures len { Gives fault_of (λ n. n) result (spec.length_or (length (flat_map spec.operation_bytes operations.now))) }
     ensures texts { OnOk result (AllByRecursion (λ o. spec.HasTexts o.body) operations.now) }
+    ensures large { IfErr result (λ e. e ≡ OpFault.TooLarge) }
 {
     let mut len = 0;
     for op in operations {
@@ -95,6 +104,7 @@ fn operations_len(operations: &[Op]) -> Result<usize, OpFault>
 fn record_len(found: &Record) -> Result<usize, OpFault>
     ensures len { Gives fault_of (λ n. n) result (spec.length_or (length (spec.spelling found.now))) }
     ensures typed { OnOk result (spec.IsTyped found.now) }
+    ensures large { IfErr result (λ e. e ≡ OpFault.TooLarge) }
 {
     match found {
         Record::Op(known, op) => {

@@ -1,7 +1,7 @@
 -- What a copy asks of its log.
 use Rattle.std.proofs.Common.{◌≡◌, inl, inr, refl, ℕ, Bool, true, false, List, [], ◌∷◌, ◌++◌, sym, ap, subst, ◌∙◌, None, Ok, Err}
-use Rattle.std.specs.Prelude.{◌⊎◌, take, Result, if◌then◌else◌}
-use Rattle.doc.specs.Outcome.{Fails}
+use Rattle.std.specs.Prelude.{◌⊎◌, take, Result, IfOk, IfErr, if◌then◌else◌}
+use Rattle.doc.specs.Outcome.{Fails, Gives}
 use Rattle.op.specs.declared.record.Record.{Record}
 use Rattle.op.specs.Format.{spelling, is_too_large}
 use Rattle.translog.specs.declared.fault.LogFault.{LogFault}
@@ -13,9 +13,15 @@ use Rattle.translog.specs.Device.{AddsFront}
 use Rattle.translog.specs.Kept.{header, kept, record_frame, IsSpelt, IsTranslog}
 use Rattle.translog.proofs.RecordsLaws.{whole_kept, torn_or_whole, kept_not_large, translog_stays}
 use Rattle.translog.proofs.FramesLaws.{opened_of}
+use Rattle.replica.specs.declared.fault.CopyFault.{CopyFault}
 use Rattle.replica.specs.declared.fault.CopyFault.TheVariants.{Log, NoMemory as OutOfMemory}
-use Rattle.replica.specs.Fault.{of_log, has_failed}
-use Rattle.replica.specs.Logged.{Logged, IsLogged, IsUnread}
+use Rattle.replica.specs.declared.planned.Planned.{Planned}
+use Rattle.replica.specs.declared.prepared.Prepared.{Prepared}
+use Rattle.replica.specs.Copy.{Copy}
+use Rattle.replica.specs.Fault.{of_log, has_failed, fault_of as copy_fault}
+use Rattle.replica.specs.Logged.{Logged, IsLogged, IsUnread, prepared_step}
+use Rattle.replica.specs.Planned.{stepped_by}
+use Rattle.replica.specs.Step.{Step, Stepped}
 
 same_frame : (b : Bool) (f g : List ℕ) → (let r : Result (List ℕ) Fault = if b then Err too_large else Ok g in r) ≡ Ok f → f ≡ g
 same_frame true f g e = absurd cc
@@ -90,3 +96,16 @@ stays_logged l new logged opened left = translog_stays l.log new l.copy.records 
 
 pub stays_translog : (old new : List ℕ) (rs : List Record) → IsTranslog old rs → LosesNothing header old new → IsTranslog new rs
 stays_translog old new rs log left = subst (λ (x : List ℕ). IsTranslog x rs) (sym (translog_stays old new rs log left)) log
+
+-- a record that can be spelled is refused for want of memory alone
+pub memory_alone : (r : Record) (f : LogFault) → is_too_large r ≡ false → Fails fault_of f (record_frame r) → is_device f ≡ false → of_log f ≡ OutOfMemory
+memory_alone r BadMagic small fails other = absurd (let h = rw small at fails in cc)
+memory_alone r (Damaged offset) small fails other = absurd (let h = rw small at fails in cc)
+memory_alone r Device small fails other = absurd cc
+memory_alone r NoMemory small fails other = refl
+memory_alone r TooLarge small fails other = absurd (let h = rw small at fails in cc)
+
+-- the step of a record that is ready
+pub recorded : (c : Copy) (p : Planned) (r : Result Prepared CopyFault) (step : Step) → step ≡ Ok (stepped_by c p) → IfOk r (λ q. prepared_step c q ≡ stepped_by c p) → IfErr r (λ e. e ≡ OutOfMemory) → Gives copy_fault (prepared_step c) r step
+recorded c p (Ok q) step is gives memory = is ∙ ap (λ (s : Stepped). let a : Step = Ok s in a) (sym gives)
+recorded c p (Err e) step is gives memory = subst (λ (x : CopyFault). Fails copy_fault x step) (sym memory) tt

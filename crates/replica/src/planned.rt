@@ -1,17 +1,81 @@
 //! What is ready to be done to a copy.
+ghost use Rattle.std.specs.Prelude.{◌≡◌, false, IfOk, IfErr};
+ghost use Rattle.doc.specs.Outcome.{Gives};
 
+use crate::fault::CopyFault;
 use crate::output::Output;
 use crate::role::Role;
 use engine::Staged;
-use op::Record;
+use op::{Record, is_too_large};
 
-/// The record of a write, the checkpoint and the role that it leaves, and what it gives.
+/// A step that keeps a record: the record, the term, the checkpoint and the role that it leaves, and what it gives.
 #[derive(Drop)]
 pub struct Planned {
     pub(crate) kept: Record,
+    pub(crate) term: u64,
     pub(crate) known: u64,
     pub(crate) role: Role,
     pub(crate) output: Output,
+}
+
+impl Planned {
+    ghost use Rattle.op.specs.Format.{is_too_large};
+    ghost use Rattle.replica.specs.Fault.{fault_of, is_log};
+    ghost use Rattle.replica.specs.Planned.{spelled};
+
+    /// Refuses a step whose record can't be spelled.
+    pub(crate) fn spelled(self) -> Result<Planned, CopyFault>
+        ensures gives { Gives fault_of (λ p. p) result (spelled self) }
+        ensures same { IfOk result (λ p. p ≡ self) }
+        ensures small { IfOk result (λ p. is_too_large p.kept ≡ false) }
+        ensures no_log { IfErr result (λ e. is_log e ≡ false) }
+    {
+        if is_too_large(&self.kept) {
+            return Err(CopyFault::Exhausted);
+        }
+        Ok(self)
+    }
+}
+
+/// A step of a primary that keeps no record: the checkpoint and the role that it leaves, and what it gives.
+#[derive(Drop)]
+pub struct Settled {
+    pub(crate) known: u64,
+    pub(crate) role: Role,
+    pub(crate) output: Output,
+}
+
+impl Settled {
+    ghost use Rattle.replica.specs.Planned.{with_record};
+
+    /// The same step with a record that it keeps, and the term that it leaves.
+    pub(crate) fn keeping(self, kept: Record, term: u64) -> Planned
+        ensures { result ≡ with_record self kept term }
+    {
+        let Settled {
+            known,
+            role,
+            output,
+        } = self;
+        Planned {
+            kept,
+            term,
+            known,
+            role,
+            output,
+        }
+    }
+}
+
+/// What a message makes of a copy.
+#[derive(Drop)]
+pub(crate) enum Handled {
+    /// Nothing changes.
+    Answered(Output),
+    /// A primary keeps no record.
+    Settled(Settled),
+    /// A record is kept.
+    Planned(Planned),
 }
 
 /// What a restart leaves: the records that it found, with their snapshot, and what they say of the copy.

@@ -5,7 +5,7 @@ ghost use Rattle.std.specs.Arc.{arc_value};
 ghost use Rattle.replica.specs.Logged.{new_snapshot, output_of};
 
 use crate::output::Output;
-use crate::planned::{Planned, Reopened};
+use crate::planned::{Planned, Reopened, Settled};
 use engine::{Snapshot, Staged};
 use std::alloc::Global;
 use std::sync::Arc;
@@ -14,9 +14,11 @@ use translog::Frame;
 /// A step that is ready, and changes nothing until it is committed.
 #[derive(Drop)]
 pub enum Prepared {
-    /// A get.
+    /// A step that changes nothing: a get, a report, or a message that was taken before.
     Answered(Output),
-    /// A write, with the frame of its record.
+    /// A step of a primary that keeps no record: what other copies have, or who is a member.
+    Settled(Settled),
+    /// A write or a message whose record is kept, with the frame of the record.
     Kept(Frame, Planned),
     /// A refresh.
     Shown(Staged, Output),
@@ -31,6 +33,7 @@ impl Prepared {
     {
         match self {
             Prepared::Answered(output) => output,
+            Prepared::Settled(settled) => &settled.output,
             Prepared::Kept(_, planned) => &planned.output,
             Prepared::Shown(_, output) => output,
             Prepared::Restarted(_, output) => output,
@@ -43,6 +46,7 @@ impl Prepared {
     {
         match self {
             Prepared::Answered(_) => None,
+            Prepared::Settled(_) => None,
             Prepared::Kept(_, _) => None,
             Prepared::Shown(staged, _) => Some(staged.snapshot()),
             Prepared::Restarted(reopened, _) => Some(reopened.staged.snapshot()),

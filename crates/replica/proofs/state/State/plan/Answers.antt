@@ -11,7 +11,7 @@ use Rattle.replica.specs.Standing.{IsStanding}
 use Rattle.doc.specs.Outcome.{Fails}
 use Rattle.replica.specs.Fault.{fault_of}
 use Rattle.replica.specs.Step.{first_fault}
-use Rattle.replica.proofs.Writes.{write_refused, write_accepted, faults-last, next_op, version_of-last, is_live-last}
+use Rattle.replica.proofs.Writes.{write_refused, write_spelled, faults-last, next_op, version_of-last, is_live-last}
 use Rattle.replica.proofs.state.State.plan.Goals as goal
 
 pub returns-in_err-check-clause-gives : goal.returns-in_err-check-clause-gives
@@ -50,12 +50,5 @@ returns-clause-gives c =
     let same : faults_by c.self.inside.known c.next_seq-seq.result c.last-last.result w.kind ≡ plan_faults s w = rw (known, c.next_seq-seq.ensures.next, last) (faults-last s w) in
     let none = subst (λ (fs : List (Bool × CopyFault)). first_fault fs ≡ Ok c.in_ok-check.field-0) same c.in_ok-check.ensures.gives in
     let gives = rw (c.next_seq-seq.ensures.next, term, c.version_after.ensures, c.outcome-outcome.ensures, c.is_live.ensures, last, version_of-last (last_on (operations s) w.id), is_live-last (last_on (operations s) w.id), c.body.ensures) at c.in_ok-planned.ensures.gives in
-    write_accepted s c.in-Primary.lead w c.in_ok-check.field-0 primary none ∙ ap Ok (sym gives)
-
-pub returns-clause-kept : goal.returns-clause-kept
-returns-clause-kept c =
-    let s = c.args.self.now in
-    let w = c.args.write in
-    let term : c.self.inside.term ≡ s.term = ap (λ (x : Copy). x.term) c.self.view_is in
-    let last : c.last-last.result ≡ option_map last_of (last_on (operations s) w.id) = c.last-last.ensures ∙ ap (λ (x : Copy). option_map last_of (last_on (operations x) w.id)) c.self.view_is in
-    rw (c.next_seq-seq.ensures.next, term, c.version_after.ensures, last, version_of-last (last_on (operations s) w.id), c.body.ensures) at c.in_ok-planned.ensures.kept
+    let kept = rw (c.next_seq-seq.ensures.next, term, c.version_after.ensures, last, version_of-last (last_on (operations s) w.id), c.body.ensures) at c.in_ok-planned.ensures.kept in
+    write_spelled s c.in-Primary.lead w c.in_ok-check.field-0 c.in_ok-planned.planned c.spelled.result primary none kept gives c.spelled.ensures.gives

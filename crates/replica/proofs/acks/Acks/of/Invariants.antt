@@ -1,0 +1,7 @@
+use Rattle.std.proofs.Common.{◌≡◌, drop}
+use Rattle.replica.specs.Numbers.{acks_of}
+use Rattle.replica.proofs.acks.Acks.of.Given as goal
+
+-- the copies that are left decide
+abbrev pub invariant-loop-other : goal.invariant-loop-other
+invariant-loop-other l = acks_of (drop l.other-index l.other-items) l.id ≡ acks_of l.other-items l.id
