@@ -1,5 +1,5 @@
 // Preloaded into a program, refuses one of its allocations: with FAIL_ALLOC=N the Nth call of a function below, counted from
-// the start of the program, answers that there is no memory. Tells of it by a byte on the file descriptor REFUSED_FD.
+// the start of the program, answers that there is no memory. Tells of it by a byte on the file descriptor TOLD_FD.
 #include <errno.h>
 #include <stdatomic.h>
 #include <stdlib.h>
@@ -16,7 +16,7 @@ static atomic_long left;
 static int told = -1;
 
 __attribute__((constructor)) static void begin(void) {
-    const char *number = getenv("FAIL_ALLOC"), *descriptor = getenv("REFUSED_FD");
+    const char *number = getenv("FAIL_ALLOC"), *descriptor = getenv("TOLD_FD");
     told = descriptor ? atoi(descriptor) : -1;
     atomic_store(&left, number ? atol(number) : 0);
 }

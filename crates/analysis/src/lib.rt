@@ -20,6 +20,3 @@ pub fn tokens(alloc: Global, text: &str) -> Result<Vec<String>, AllocError>
     }
     Ok(found)
 }
-
-#[cfg(test)]
-mod tests;

@@ -8,8 +8,6 @@ pub mod laws;
 pub mod mapping;
 pub mod scalar;
 pub mod source;
-#[cfg(test)]
-mod tests;
 
 pub use document::Doc;
 pub use fault::DocFault;

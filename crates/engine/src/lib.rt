@@ -7,8 +7,6 @@ mod history;
 mod operations;
 pub mod snapshot;
 pub mod staged;
-#[cfg(test)]
-mod tests;
 
 pub use engine::{Engine, Last};
 pub use history::{Applied, Found};

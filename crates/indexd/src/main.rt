@@ -8,8 +8,6 @@ mod program;
 mod refusal;
 mod reply;
 mod step;
-#[cfg(test)]
-mod tests;
 mod writing;
 
 pub use fault::ReplayFault;

@@ -54,7 +54,7 @@ fn check_keys(members: &Map<String, Value>) -> Result<(), QueryFault>
 fn is_body_key(name: &str) -> bool
     ensures { result ≡ spec.is_body_key name.now }
 {
-    name == "query" || name == "from" || name == "size" || name == "track_total_hits"
+    matches!(name, "query" | "from" | "size" | "track_total_hits")
 }
 
 fn query_or_all(

@@ -174,12 +174,10 @@ fn operator_of(value: Option<&Value>) -> Result<Operator, QueryFault>
 fn operator_named(name: &str) -> Result<Operator, QueryFault>
     ensures { Gives fault_of (λ o. o) result (spec.operator_named name.now) }
 {
-    if name == "or" || name == "OR" {
-        Ok(Operator::Or)
-    } else if name == "and" || name == "AND" {
-        Ok(Operator::And)
-    } else {
-        Err(QueryFault::Parsing("an operator is `or` or `and`"))
+    match name {
+        "or" | "OR" => Ok(Operator::Or),
+        "and" | "AND" => Ok(Operator::And),
+        _ => Err(QueryFault::Parsing("an operator is `or` or `and`")),
     }
 }
 
@@ -276,12 +274,15 @@ fn written_in(body: &Value) -> Result<Written<'_>, QueryFault>
 fn bound_in(value: Option<&Value>) -> Result<Option<&Value>, QueryFault>
     ensures { Gives fault_of (option_map (λ v. view v.now)) result (spec.bound_in (option_map (λ v. view v.now) value.entry)) }
 {
+    let Some(value) = value else {
+        return Ok(None);
+    };
     match value {
-        None | Some(Value::Null) => Ok(None),
-        Some(Value::Array(_)) | Some(Value::Object(_)) => {
+        Value::Null => Ok(None),
+        Value::Array(_) | Value::Object(_) => {
             Err(QueryFault::Parsing("a bound is a text, a number or a truth value"))
         }
-        Some(value) => Ok(Some(value)),
+        _ => Ok(Some(value)),
     }
 }
 

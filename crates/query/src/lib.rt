@@ -12,8 +12,6 @@ pub mod query;
 pub mod reading;
 mod shape;
 mod terms;
-#[cfg(test)]
-mod tests;
 
 pub use body::SearchBody;
 pub use fault::QueryFault;

@@ -124,8 +124,8 @@ impl Keys {
             Keys::MatchAll => false,
             Keys::Value => name == "value",
             Keys::Field => name == "field",
-            Keys::Match => name == "query" || name == "operator",
-            Keys::Range => name == "gt" || name == "gte" || name == "lt" || name == "lte",
+            Keys::Match => matches!(name, "query" | "operator"),
+            Keys::Range => matches!(name, "gt" | "gte" | "lt" | "lte"),
             Keys::Bool => is_bool_key(name),
         }
     }
@@ -134,11 +134,10 @@ impl Keys {
 fn is_bool_key(name: &str) -> bool
     ensures { result ≡ spec.is_bool_key name.now }
 {
-    name == "filter"
-        || name == "must"
-        || name == "must_not"
-        || name == "should"
-        || name == "minimum_should_match"
+    matches!(
+        name,
+        "filter" | "must" | "must_not" | "should" | "minimum_should_match"
+    )
 }
 
 /// Refuses an object with another key.

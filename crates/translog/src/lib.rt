@@ -8,8 +8,6 @@ pub mod laws;
 pub mod log;
 pub mod memory;
 pub mod refused;
-#[cfg(test)]
-mod tests;
 
 pub use device::{DeviceFault, Failed, LogDevice};
 pub use fault::LogFault;

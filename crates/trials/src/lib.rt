@@ -1,0 +1,17 @@
+//! The tests of the crates below, by their public calls alone: what no contract says, and each call once where no script makes it.
+#![tactic(auto)]
+
+#[cfg(test)]
+mod copies;
+#[cfg(test)]
+mod devices;
+#[cfg(test)]
+mod documents;
+#[cfg(test)]
+mod engines;
+#[cfg(test)]
+mod records;
+#[cfg(test)]
+mod translogs;
+#[cfg(test)]
+mod variants;
