@@ -1,0 +1,3 @@
+pub mod Bits
+pub mod Sets
+pub mod Windows

@@ -1,0 +1,125 @@
+//! Which sequence numbers a copy has.
+ghost use Rattle.std.specs.Prelude.{◌≡◌, ◌<◌, ◌+◌, ◌≤◌, ◌^◌, ◌↔◌, IsOk, OnOk, OnErr, length, map};
+ghost use Rattle.op.specs.Checkpoint.{known, checkpoint_of};
+ghost use Rattle.op.specs.Ids.{has, with};
+ghost use Rattle.checkpoint.specs.Numbers.{up_to, with_below, run, least};
+
+use crate::fault::BeyondWindow;
+use crate::window;
+use op::checkpoint;
+use std::marker::Model;
+
+/// How far above the checkpoint a number may be.
+pub const WINDOW: u64 = window::SIZE;
+
+/// A set of sequence numbers: all up to its checkpoint, and some of the 1,024 above it. It is seen as their list, in ascending order.
+/// The checkpoint is the greatest number up to which none is missing, or -1 (Elasticsearch reference, "Sequence numbers and checkpoints").
+#[derive(Drop)]
+pub struct Tracker {
+    count: u64,
+    words: [u64; 16],
+}
+
+impl Model for Tracker {
+    ghost use Rattle.std.specs.Prelude.{List, ℕ};
+    ghost use Rattle.checkpoint.specs.Window.{numbers_of, IsWindow};
+
+    ghost Value = { List ℕ };
+
+    ghost view = { λ t. numbers_of t.count t.words };
+
+    ghost invariant = { λ t. IsWindow t.count t.words };
+}
+
+impl Tracker {
+    /// All numbers up to a checkpoint; none for -1.
+    pub fn at(checkpoint: i64) -> Tracker
+        ensures { result ≡ up_to (known checkpoint) }
+    {
+        Tracker {
+            count: checkpoint::count(checkpoint),
+            words: [0; 16],
+        }
+    }
+
+    /// An equal set.
+    pub fn copy(&self) -> Tracker
+        ensures { result ≡ self.now }
+    {
+        Tracker {
+            count: self.count,
+            words: self.words,
+        }
+    }
+
+    /// Whether a number is there.
+    pub fn has(&self, number: u64) -> bool
+        ensures { result ≡ has self.now number }
+    {
+        if number < self.count {
+            return true;
+        }
+        number - self.count < WINDOW && window::is_marked(&self.words, number)
+    }
+
+    /// Adds a number. It is refused where it is more than 1,024 above the checkpoint; then nothing changes.
+    pub fn mark(&mut self, number: u64) -> Result<(), BeyondWindow>
+        requires { number < 2 ^ 63 }
+        ensures window { IsOk result ↔ number < run self.old + 1024 }
+        ensures ok { OnOk result (self.new ≡ with self.old number) }
+        ensures err { OnErr result (self.new ≡ self.old) }
+    {
+        if number < self.count {
+            return Ok(());
+        }
+        if number - self.count >= WINDOW {
+            return Err(BeyondWindow);
+        }
+        window::set(&mut self.words, number);
+        self.count = window::settle(&mut self.words, self.count);
+        Ok(())
+    }
+
+    /// Adds all numbers up to a checkpoint.
+    pub fn mark_up_to(&mut self, checkpoint: i64)
+        ensures { self.new ≡ with_below self.old (known checkpoint) }
+    {
+        let end = checkpoint::count(checkpoint);
+        if end <= self.count {
+            return;
+        }
+        window::raise(&mut self.words, self.count, end);
+        self.count = window::settle(&mut self.words, end);
+    }
+
+    /// The greatest number up to which none is missing, or -1.
+    pub fn checkpoint(&self) -> i64
+        ensures { result ≡ checkpoint_of (run self.now) }
+    {
+        checkpoint::from_count(self.count())
+    }
+
+    /// How many numbers from 0 up are there without a gap.
+    fn count(&self) -> u64
+        ensures count { result ≡ run self.now }
+        ensures small { result ≤ 2 ^ 63 }
+    {
+        self.count
+    }
+}
+
+/// The least checkpoint of some sets.
+pub fn least(trackers: &[Tracker]) -> i64
+    requires { 0 < length trackers.now }
+    ensures { result ≡ checkpoint_of (least (map run trackers.now)) }
+{
+    let mut found: Option<u64> = None;
+    for tracker in trackers {
+        let count = tracker.count();
+        found = match found {
+            Some(least) => Some(least.min(count)),
+            None => Some(count),
+        };
+    }
+    checkpoint::from_count(found.unwrap_or(0))
+}

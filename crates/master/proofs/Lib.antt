@@ -1,0 +1,5 @@
+pub mod Decisions
+pub mod Faults
+pub mod Given
+pub mod Orders
+pub mod Replays
