@@ -17,3 +17,5 @@ mod records;
 mod trackers;
 #[cfg(test)]
 mod translogs;
+#[cfg(test)]
+mod variants;
