@@ -19,7 +19,7 @@ use Rattle.replica.specs.declared.planned.Planned.{Planned}
 use Rattle.replica.specs.declared.role.Lead.{Lead}
 use Rattle.replica.specs.Copy.{Copy, operations}
 use Rattle.replica.specs.Fault.{fault_of}
-use Rattle.replica.specs.Numbers.{least}
+use Rattle.checkpoint.specs.Numbers.{least}
 use Rattle.replica.specs.Planned.{IsPlanned, led_by, new_lead, promotion_gives, settled_by, spelled, stepped_by, with_record}
 use Rattle.replica.specs.Standing.{IsStanding}
 use Rattle.replica.specs.Step.{Step, done, promoted, resync_of, resync_messages, settled, spellable, tail_of, take_promoted, unless, counted_by, led}

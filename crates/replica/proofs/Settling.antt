@@ -20,7 +20,7 @@ use Rattle.replica.specs.declared.role.Lead.{Lead}
 use Rattle.replica.specs.declared.role.Role.{Role}
 use Rattle.replica.specs.declared.role.Role.TheVariants.{Primary}
 use Rattle.replica.specs.Copy.{Copy, operations}
-use Rattle.replica.specs.Numbers.{least}
+use Rattle.checkpoint.specs.Numbers.{least}
 use Rattle.replica.specs.Standing.{IsStanding, IsLed, Leads}
 use Rattle.replica.specs.Planned.{IsTurn, led_by, settled_by, spelled, stepped_by, turned, turned_step}
 use Rattle.replica.specs.Step.{Step, settled, unless, first_fault, led, spellable, stepped, counted, is_settled}

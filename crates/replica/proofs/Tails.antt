@@ -9,7 +9,7 @@ use Rattle.std.specs.List.{AllByRecursion}
 use Rattle.op.specs.Operations.{IsAscending, below, op_at, next_seq}
 use Rattle.op.specs.Records.{RunsFrom}
 use Rattle.replica.specs.Copy.{Copy, operations}
-use Rattle.replica.specs.Numbers.{up_to}
+use Rattle.checkpoint.specs.Numbers.{up_to}
 use Rattle.replica.specs.Step.{no_op, tail_of}
 use Rattle.op.proofs.OperationLaws.{next_seq-above, next_seq-push, op_at-append}
 

@@ -4,7 +4,8 @@ ghost use Rattle.std.specs.Cmp.Lexicographic.{pointwise};
 ghost use Rattle.std.specs.FinMap.Entries.{put};
 ghost use Rattle.std.specs.Ordering.{nat_cmp};
 ghost use Rattle.op.specs.Ids.{has, with};
-ghost use Rattle.replica.specs.Numbers.{acks_of, marked, run, up_to, with_below};
+ghost use Rattle.checkpoint.specs.Numbers.{run, up_to, with_below};
+ghost use Rattle.replica.specs.Acks.{acks_of, marked};
 
 use std::alloc::{AllocError, Global};
 use std::marker::Model;

@@ -1,6 +1,6 @@
 use Rattle.std.proofs.Common.{◌≡◌, drop}
 use Rattle.op.specs.Ids.{has}
-use Rattle.replica.specs.Numbers.{acks_of}
+use Rattle.replica.specs.Acks.{acks_of}
 use Rattle.replica.proofs.acks.Acks.has.Given as goal
 
 -- the copies that are left decide

@@ -1,5 +1,5 @@
 use Rattle.std.proofs.Common.{◌≡◌, drop}
-use Rattle.replica.specs.Numbers.{acks_of}
+use Rattle.replica.specs.Acks.{acks_of}
 use Rattle.replica.proofs.acks.Acks.of.Given as goal
 
 -- the copies that are left decide

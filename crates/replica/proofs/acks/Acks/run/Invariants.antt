@@ -1,5 +1,6 @@
 use Rattle.std.proofs.Common.{◌≡◌, drop}
-use Rattle.replica.specs.Numbers.{run, acks_of}
+use Rattle.checkpoint.specs.Numbers.{run}
+use Rattle.replica.specs.Acks.{acks_of}
 use Rattle.replica.proofs.acks.Acks.run.Given as goal
 
 -- the copies that are left decide

@@ -1,5 +1,5 @@
 use Rattle.std.proofs.Common.{◌≡◌, drop}
-use Rattle.replica.specs.Numbers.{run, run_from}
+use Rattle.checkpoint.specs.Numbers.{run, run_from}
 use Rattle.replica.proofs.acks.Numbers.run.Given as goal
 
 -- the run goes on with the numbers that are left

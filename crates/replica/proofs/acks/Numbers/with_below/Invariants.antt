@@ -1,6 +1,6 @@
 use Rattle.std.proofs.Common.{◌≡◌, ◌++◌, take}
 use Rattle.std.specs.Prelude.{filter, nat_le}
-use Rattle.replica.specs.Numbers.{up_to}
+use Rattle.checkpoint.specs.Numbers.{up_to}
 use Rattle.replica.proofs.acks.Numbers.with_below.Given as goal
 
 -- all numbers so far

@@ -3,7 +3,7 @@ use Rattle.std.specs.Prelude.{nat_eq}
 use Rattle.std.specs.Cmp.Lexicographic.{pointwise}
 use Rattle.std.proofs.lemmas.Int.{to_z-of_z}
 use Rattle.op.specs.Checkpoint.{known}
-use Rattle.replica.specs.Numbers.{acks_of, marked}
+use Rattle.replica.specs.Acks.{acks_of, marked}
 use Rattle.replica.specs.declared.role.Role.TheVariants.{Primary}
 use Rattle.replica.specs.Copy.{Copy}
 use Rattle.replica.specs.Standing.{IsStanding}
