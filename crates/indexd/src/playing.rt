@@ -13,7 +13,7 @@ use crate::fault::ReplayFault;
 use crate::refusal::Refusal;
 use crate::reply::{Reply, refused};
 use crate::step::{OneCopy, step};
-use crate::writing::write_whole;
+use crate::writing::{Flushing, write_line};
 use std::alloc::{AllocError, Global};
 use std::io::{BufRead, ErrorKind, Write};
 
@@ -29,13 +29,28 @@ pub fn replay<R: BufRead, W: Write>(
     ensures err { OnErr result (IfSome (R.remaining reader.old) (λ script.
         spec.AppendsFront (W.contents writer.old) (W.contents writer.new) (spec.lines script))) }
 {
+    replay_flushing(alloc, reader, writer, Flushing::ByTheWriter)
+}
+
+/// Plays a script as `replay` does, with a choice of when its output is handed on.
+pub(crate) fn replay_flushing<R: BufRead, W: Write>(
+    alloc: Global,
+    reader: &mut R,
+    writer: &mut W,
+    flushing: Flushing,
+) -> Result<(), ReplayFault>
+    ensures ok { OnOk result (IfSome (R.remaining reader.old) (λ script.
+        Appends (W.contents writer.old) (W.contents writer.new) (spec.lines script))) }
+    ensures err { OnErr result (IfSome (R.remaining reader.old) (λ script.
+        spec.AppendsFront (W.contents writer.old) (W.contents writer.new) (spec.lines script))) }
+{
     let mut index: Option<OneCopy> = None;
     for _ in 0..u64::MAX {
         let Some(line) = read_line(alloc, reader)? else {
             return Ok(());
         };
         let text = played(alloc, &mut index, &line)?;
-        write_whole(writer, text.as_bytes())?;
+        write_line(writer, text.as_bytes(), flushing)?;
     }
     Err(ReplayFault::Read)
 }

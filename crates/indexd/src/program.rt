@@ -4,13 +4,19 @@ ghost use Rattle.std.specs.Io.KnownBytes.{Appends};
 ghost use Rattle.indexd.specs.Output.{lines};
 
 use crate::fault::ReplayFault;
-use crate::playing::replay;
+use crate::playing::replay_flushing;
+use crate::writing::Flushing;
 use clap::error::ErrorKind;
 use clap::{Arg, ArgAction, Command};
 use std::alloc::{AllocError, Global};
 use std::io::{BufRead, BufReader, Write};
 use std::rt::Files;
 use std::{fs, io};
+
+/// The paths by which a program sees its own standard streams (Linux).
+const STANDARD_INPUT: &str = "/proc/self/fd/0";
+
+const STANDARD_OUTPUT: &str = "/proc/self/fd/1";
 
 /// Why the program ends with status 1.
 #[derive(Debug, Drop)]
@@ -119,14 +125,33 @@ fn play<R: Files + AllocGlobal, I: BufRead, O: Write>(
     ensures { OnOk result (file.now ≡ codes "-" → IfSome (I.remaining input.old) (λ script.
         Appends (O.contents output.old) (O.contents output.new) (lines script))) }
 {
+    let flushing = flushing_for(rt, file);
     let played = if file == "-" {
-        replay(rt.alloc(), input, output)
+        replay_flushing(rt.alloc(), input, output, flushing)
     } else {
         let opened = fs::open(rt, file).map_err(ProgramFault::Open)?;
         let mut reader = BufReader::new(rt.alloc(), opened).map_err(ProgramFault::Open)?;
-        replay(rt.alloc(), &mut reader, output)
+        replay_flushing(rt.alloc(), &mut reader, output, flushing)
     };
     let flushed = output.flush();
     played.map_err(ProgramFault::Replay)?;
     flushed.map_err(|_| ProgramFault::Replay(ReplayFault::Write))
+}
+
+/// From a regular file to a regular file the output is handed on as the buffer fills; else somebody may wait for the answer to a line.
+fn flushing_for<R: Files>(rt: &R, file: &str) -> Flushing {
+    let script = if file == "-" { STANDARD_INPUT } else { file };
+    if is_regular(rt, script) && is_regular(rt, STANDARD_OUTPUT) {
+        Flushing::ByTheWriter
+    } else {
+        Flushing::EachLine
+    }
+}
+
+/// Whether a path is that of a regular file. Where that can't be told it counts as none.
+fn is_regular<R: Files>(rt: &R, path: &str) -> bool {
+    match fs::metadata(rt, path) {
+        Ok(found) => found.is_file(),
+        Err(_) => false,
+    }
 }

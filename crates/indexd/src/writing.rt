@@ -6,6 +6,31 @@ ghost use Rattle.indexd.specs.Output.{AppendsFront};
 use crate::fault::ReplayFault;
 use std::io::Write;
 
+/// When what is written is handed on.
+#[derive(Clone, Copy, Debug, PartialEq, Eq)]
+pub(crate) enum Flushing {
+    /// As the writer does.
+    ByTheWriter,
+    /// After each line of the script, for somebody who waits for its answer.
+    EachLine,
+}
+
+/// Writes all of the bytes that a line prints.
+pub(crate) fn write_line<W: Write>(
+    writer: &mut W,
+    bytes: &[u8],
+    flushing: Flushing,
+) -> Result<(), ReplayFault>
+    ensures ok { OnOk result (Appends (W.contents writer.old) (W.contents writer.new) bytes.now) }
+    ensures err { OnErr result (AppendsFront (W.contents writer.old) (W.contents writer.new) bytes.now) }
+{
+    write_whole(writer, bytes)?;
+    if flushing == Flushing::EachLine && !bytes.is_empty() && writer.flush().is_err() {
+        return Err(ReplayFault::Write);
+    }
+    Ok(())
+}
+
 /// Writes all of the bytes. After a refusal a beginning of them was written.
 pub(crate) fn write_whole<W: Write>(writer: &mut W, bytes: &[u8]) -> Result<(), ReplayFault>
     ensures ok { OnOk result (Appends (W.contents writer.old) (W.contents writer.new) bytes.now) }

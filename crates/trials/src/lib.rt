@@ -10,6 +10,12 @@ mod documents;
 #[cfg(test)]
 mod engines;
 #[cfg(test)]
+mod masters;
+#[cfg(test)]
 mod records;
 #[cfg(test)]
+mod trackers;
+#[cfg(test)]
 mod translogs;
+#[cfg(test)]
+mod variants;

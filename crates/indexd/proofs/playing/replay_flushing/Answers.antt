@@ -4,17 +4,17 @@ use Rattle.indexd.specs.Held.{copy_in}
 use Rattle.indexd.specs.Step.{State}
 use Rattle.indexd.specs.Output.{played}
 use Rattle.indexd.proofs.Played.{goes_on, cut_short}
-use Rattle.indexd.proofs.playing.replay.Goals as goal
+use Rattle.indexd.proofs.playing.replay_flushing.Goals as goal
 
 -- the line was played, and its text was cut short
-pub returns-in_err-write_whole-clause-err : goal.returns-in_err-write_whole-clause-err
-returns-in_err-write_whole-clause-err g c =
-    let refused = err_from_is_err_and c.from_residual-in_err-write_whole.result c.from_residual-in_err-write_whole.ensures.1 in
+pub returns-in_err-write_line-clause-err : goal.returns-in_err-write_line-clause-err
+returns-in_err-write_line-clause-err g c =
+    let refused = err_from_is_err_and c.from_residual-in_err-write_line.result c.from_residual-in_err-write_line.ensures.1 in
     let line = c.in-Some.line.items in
     let s = copy_in c.loop.index in
     let step = rw c.deref.ensures.value at c.in_ok-text.ensures.text in
     let text : c.as_bytes.result.now ≡ (played s line).1 = c.as_bytes.ensures.value ∙ sym (ap (λ (p : State × List ℕ). p.1) step) in
-    rw refused.1 (cut_short (g.R.Read.remaining c.args.reader.now) (g.W.Write.contents c.args.writer.now) (g.W.Write.contents c.loop.writer) (g.W.Write.contents c.write_whole.new.writer) (g.R.Read.remaining c.loop.reader) (g.R.Read.remaining c.read_line.new.reader) s line c.loop.invariant.going (rw c.in-Some.is at c.in_ok-line.ensures.some) (rw text at c.in_err-write_whole.ensures.err))
+    rw refused.1 (cut_short (g.R.Read.remaining c.args.reader.now) (g.W.Write.contents c.args.writer.now) (g.W.Write.contents c.loop.writer) (g.W.Write.contents c.write_line.new.writer) (g.R.Read.remaining c.loop.reader) (g.R.Read.remaining c.read_line.new.reader) s line c.loop.invariant.going (rw c.in-Some.is at c.in_ok-line.ensures.some) (rw text at c.in_err-write_line.ensures.err))
 
 -- the line was played, and its text was written
 pub loop-preserved : goal.loop-preserved
@@ -24,4 +24,4 @@ loop-preserved g c =
     let step = rw c.deref.ensures.value at c.in_ok-text.ensures.text in
     let text : c.as_bytes.result.now ≡ (played s line).1 = c.as_bytes.ensures.value ∙ sym (ap (λ (p : State × List ℕ). p.1) step) in
     let after : copy_in c.played.new.index ≡ (played s line).0 = sym (ap (λ (p : State × List ℕ). p.0) step) in
-    record { going = rw after (goes_on (g.R.Read.remaining c.args.reader.now) (g.W.Write.contents c.args.writer.now) (g.W.Write.contents c.loop.writer) (g.W.Write.contents c.write_whole.new.writer) (g.R.Read.remaining c.loop.reader) (g.R.Read.remaining c.read_line.new.reader) s line c.loop.invariant.going (rw c.in-Some.is at c.in_ok-line.ensures.some) (rw text at c.in_ok-write_whole.ensures.ok)); unfailed = c.in_ok-text.ensures.unfailed }
+    record { going = rw after (goes_on (g.R.Read.remaining c.args.reader.now) (g.W.Write.contents c.args.writer.now) (g.W.Write.contents c.loop.writer) (g.W.Write.contents c.write_line.new.writer) (g.R.Read.remaining c.loop.reader) (g.R.Read.remaining c.read_line.new.reader) s line c.loop.invariant.going (rw c.in-Some.is at c.in_ok-line.ensures.some) (rw text at c.in_ok-write_line.ensures.ok)); unfailed = c.in_ok-text.ensures.unfailed }
