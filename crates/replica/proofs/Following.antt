@@ -1,19 +1,17 @@
 -- What a copy takes of its primary.
-use Rattle.std.proofs.Common.{◌≡◌, ℕ, ℤ, ◌+◌, ◌<◌, ◌≤◌, ◌^◌, max, pos, negsuc, Bool, true, false, List, [], ◌∷◌, ◌++◌, length, Some, None, refl, sym, ap, subst, ◌∙◌, arith}
+use Rattle.std.proofs.Common.{◌≡◌, ℕ, ℤ, ◌+◌, ◌≤◌, max, pos, true, false, List, [], ◌∷◌, length, Some, None, refl, sym, ap, subst, ◌∙◌}
 use Rattle.std.specs.Prelude.{Result, Ok, Err, ◌==◌, nat_lt, nat_le}
 use Rattle.doc.specs.Outcome.{Gives}
 use Rattle.op.specs.declared.operation.Op.{Op}
 use Rattle.op.specs.declared.record.Record.{Record}
 use Rattle.op.specs.declared.record.Record.TheVariants.{Op as Kept, Resync as Resynced, Recover as Recovered}
 use Rattle.op.specs.Checkpoint.{checkpoint_of, known}
-use Rattle.op.specs.Operations.{IsAscending, add, below, is_op, local_count, local_checkpoint, op_at}
-use Rattle.op.specs.Records.{IsRecord, RunsFrom}
-use Rattle.op.specs.Records as op
+use Rattle.op.specs.Operations.{IsAscending, is_op, local_count, local_checkpoint, op_at}
+use Rattle.op.specs.Records.{IsRecord}
 use Rattle.op.proofs.LocalLaws.{local_count-recovered, local_count-resynced}
 use Rattle.op.proofs.RecordLaws.{operations-Recover, operations-Resync}
 use Rattle.replica.specs.declared.fault.CopyFault.{CopyFault}
 use Rattle.replica.specs.declared.fault.CopyFault.TheVariants.{BeyondWindow, Mismatch}
-use Rattle.replica.specs.declared.output.Answer.{Answer}
 use Rattle.replica.specs.declared.output.Answer.TheVariants.{Repeated, Taken}
 use Rattle.replica.specs.declared.planned.Planned.{Planned}
 use Rattle.replica.specs.declared.role.Role.{Role}
@@ -22,7 +20,7 @@ use Rattle.replica.specs.Copy.{Copy, operations}
 use Rattle.replica.specs.Fault.{fault_of}
 use Rattle.replica.specs.Planned.{ack_all_of, op_gives, recover_gives, recovery_of, resync_gives, spelled, stepped_by}
 use Rattle.replica.specs.Standing.{IsFollower, IsLeader, IsStanding}
-use Rattle.replica.specs.Step.{Step, Stepped, ack, done, recovery, recover_again, settled, settled_as, spellable, stale_or_taken, take_new, take_op, take_over, take_recover, take_resync, resync, unless, with_op, resynced, recovered}
+use Rattle.replica.specs.Step.{Step, Stepped, ack, done, recovery, recover_again, settled, settled_as, spellable, take_new, take_op, take_over, take_recover, take_resync, unless, resynced, recovered}
 use Rattle.replica.proofs.Settled.{settled_done}
 use Rattle.replica.proofs.Settling.{spelled_step}
 

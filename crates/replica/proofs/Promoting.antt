@@ -1,10 +1,9 @@
 -- How a copy becomes the primary of a new term.
-use Rattle.std.proofs.Common.{◌≡◌, ℕ, ◌≤◌, ◌<◌, ◌^◌, Bool, true, false, List, [], ◌∷◌, ◌++◌, None, max, refl, sym, ap, subst, ◌∙◌, arith}
+use Rattle.std.proofs.Common.{◌≡◌, ℕ, ◌≤◌, ◌^◌, Bool, true, false, List, [], ◌++◌, None, refl, sym, ap, subst, ◌∙◌, arith}
 use Rattle.std.specs.Prelude.{Result, Ok, Err, ◌==◌, map}
 use Rattle.doc.specs.Outcome.{Gives}
-use Rattle.op.specs.declared.operation.Op.{Op}
 use Rattle.op.specs.declared.record.Record.{Record}
-use Rattle.op.specs.Checkpoint.{checkpoint_of, known}
+use Rattle.op.specs.Checkpoint.{checkpoint_of}
 use Rattle.op.specs.Ids.{has}
 use Rattle.op.specs.Operations.{IsAscending, below, next_seq}
 use Rattle.op.specs.Records.{IsTerm}
@@ -16,13 +15,12 @@ use Rattle.replica.specs.declared.fault.CopyFault.TheVariants.{Mismatch}
 use Rattle.replica.specs.declared.fault.CopyFault.{CopyFault}
 use Rattle.replica.specs.declared.output.Answer.TheVariants.{Repeated, Taken}
 use Rattle.replica.specs.declared.planned.Planned.{Planned}
-use Rattle.replica.specs.declared.role.Lead.{Lead}
 use Rattle.replica.specs.Copy.{Copy, operations}
 use Rattle.replica.specs.Fault.{fault_of}
 use Rattle.checkpoint.specs.Numbers.{least}
 use Rattle.replica.specs.Planned.{IsPlanned, led_by, new_lead, promotion_gives, settled_by, spelled, stepped_by, with_record}
 use Rattle.replica.specs.Standing.{IsStanding}
-use Rattle.replica.specs.Step.{Step, done, promoted, resync_of, resync_messages, settled, spellable, tail_of, take_promoted, unless, counted_by, led}
+use Rattle.replica.specs.Step.{Step, done, promoted, resync_of, resync_messages, settled, spellable, tail_of, take_promoted, unless, counted_by}
 use Rattle.replica.proofs.Settled.{settled_done}
 use Rattle.replica.proofs.Settling.{led_stands, spelled_step}
 use Rattle.replica.proofs.Tails.{next_seq-tail}

@@ -1,5 +1,5 @@
 -- What a primary does after a step leaves a copy as it should be.
-use Rattle.std.proofs.Common.{◌≡◌, ℕ, ◌+◌, zero, suc, ◌<◌, ◌≤◌, ◌^◌, max, Bool, true, false, List, [], ◌∷◌, Option, Some, None, if◌then◌else◌, refl, sym, ap, ◌∙◌, subst, arith}
+use Rattle.std.proofs.Common.{◌≡◌, ℕ, ◌<◌, ◌≤◌, ◌^◌, Bool, true, false, List, [], ◌∷◌, Some, None, if◌then◌else◌, refl, sym, ap, ◌∙◌, subst, arith}
 use Rattle.doc.specs.Outcome.{Fails, Gives}
 use Rattle.op.specs.declared.record.Record.{Record}
 use Rattle.op.specs.Format.{is_too_large}
@@ -9,12 +9,10 @@ use Rattle.replica.specs.Fault.{fault_of}
 use Rattle.std.specs.Prelude.{⊤, IfSome, Result, Ok, Err, not, ◌||◌, ◌==◌, map, filter, length}
 use Rattle.std.proofs.lemmas.Bool.Decides.{nat_tests}
 use Rattle.op.specs.declared.message.Msg.{Msg}
-use Rattle.op.specs.declared.operation.Op.{Op}
 use Rattle.op.specs.Ids.{has, with, without}
 use Rattle.op.specs.Operations.{next_seq}
 use Rattle.op.proofs.IdLaws.{has-with, has-without}
 use Rattle.replica.specs.declared.fault.CopyFault.{CopyFault}
-use Rattle.replica.specs.declared.output.Answer.{Answer}
 use Rattle.replica.specs.declared.output.Answer.TheVariants.{Taken}
 use Rattle.replica.specs.declared.role.Lead.{Lead}
 use Rattle.replica.specs.declared.role.Role.{Role}

@@ -1,16 +1,14 @@
 -- What a primary makes of messages that it keeps no record of, and of reports.
-use Rattle.std.proofs.Common.{◌≡◌, ℕ, ◌+◌, ◌<◌, ◌≤◌, Bool, true, false, List, [], ◌∷◌, refl, sym, ap, ◌∙◌, arith}
+use Rattle.std.proofs.Common.{◌≡◌, ℕ, Bool, true, false, List, [], ◌∷◌, refl, ap, ◌∙◌}
 use Rattle.std.specs.Prelude.{⊤, Ok, Err, ◌==◌, nat_eq}
 use Rattle.std.specs.Ordering.{nat_cmp}
 use Rattle.std.specs.FinMap.Entries.{put}
 use Rattle.std.specs.Cmp.Lexicographic.{pointwise}
 use Rattle.op.specs.declared.message.Content.TheVariants.{Fail, Recover}
-use Rattle.op.specs.declared.message.Msg.{Msg}
 use Rattle.op.specs.Ids.{has, with, without}
 use Rattle.op.specs.Operations.{next_seq}
 use Rattle.replica.specs.declared.fault.CopyFault.{CopyFault}
 use Rattle.replica.specs.declared.fault.CopyFault.TheVariants.{Mismatch}
-use Rattle.replica.specs.declared.output.Answer.{Answer}
 use Rattle.replica.specs.declared.output.Answer.TheVariants.{Repeated, Reported}
 use Rattle.replica.specs.declared.role.Lead.{Lead}
 use Rattle.replica.specs.declared.role.Role.{Role}

@@ -1,9 +1,8 @@
 use Rattle.std.proofs.Common.{◌≡◌, Ok, ap, subst}
-use Rattle.std.specs.Prelude.{IfOk}
 use Rattle.std.proofs.lemmas.Result.{err_from_is_err_and}
 use Rattle.doc.specs.Outcome.{Fails}
 use Rattle.replica.specs.declared.input.Input.TheVariants.{Write as Client}
-use Rattle.replica.specs.Logged.{Logged, prepared_step}
+use Rattle.replica.specs.Logged.{Logged}
 use Rattle.replica.specs.Copy.{Copy}
 use Rattle.replica.specs.Fault.{fault_of}
 use Rattle.replica.specs.Planned.{stepped_by}

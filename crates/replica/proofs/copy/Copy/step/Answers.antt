@@ -8,10 +8,10 @@ returns-in_err-prepared-clause-refused g c =
     let p = err_from_is_err_and c.from_residual.result c.from_residual.ensures.1 in
     let s = c.args.self.now in
     let refusal = c.in_err-prepared.ensures in
-    rw (p.1, p.2) (refused_at_once c.in_err-prepared.field-0.0 s c.prepare.new.self c.args.input (copy_step s.copy c.args.input) refusal.copy refusal.closes refusal.refused refusal.unread refusal.no_log)
+    rw (p.1, p.2) (refused_at_once c.in_err-prepared.field-0.0 s c.prepare.new.self c.args.input (copy_step s.copy c.args.input) refusal.untouched.copy refusal.untouched.closes refusal.untouched.refused refusal.prepared.unread refusal.prepared.no_log)
 
 pub returns-clause-refused : goal.returns-clause-refused
 returns-clause-refused g c =
     let ready = c.in_ok-prepared.ensures in
     let done = c.commit.ensures in
-    refused_in c.commit.result c.args.self.now c.prepare.new.self c.commit.new.self c.args.input c.in_ok-prepared.prepared done.cause done.closed done.memory done.counts done.sure ready.kind ready.closed ready.copy ready.stays ready.log ready.counts ready.step
+    refused_in c.commit.result c.args.self.now c.prepare.new.self c.commit.new.self c.args.input c.in_ok-prepared.prepared done.cause done.closed done.memory done.counts done.sure ready.prepared.kind ready.prepared.closed ready.untouched.copy ready.untouched.stays ready.untouched.log ready.untouched.counts ready.prepared.step

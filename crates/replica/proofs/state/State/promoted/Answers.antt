@@ -1,4 +1,4 @@
-use Rattle.std.proofs.Common.{◌≡◌, ◌≤◌, ◌^◌}
+use Rattle.std.proofs.Common.{◌≤◌, ◌^◌}
 use Rattle.op.specs.Operations.{next_seq}
 use Rattle.replica.specs.Copy.{operations}
 use Rattle.replica.proofs.Promoting.{promotion_found, promotion_planned}

@@ -1,6 +1,6 @@
-use Rattle.std.proofs.Common.{◌≡◌, ◌∙◌, ℕ, true, false, Ok, sym, ap, subst, arith}
+use Rattle.std.proofs.Common.{◌≡◌, ◌∙◌, true, false, ap, subst, arith}
 use Rattle.std.proofs.lemmas.Bool.Decides.{nat_tests}
-use Rattle.replica.specs.Copy.{Copy, operations}
+use Rattle.replica.specs.Copy.{Copy}
 use Rattle.replica.specs.Standing.{IsStanding}
 use Rattle.std.specs.Prelude.{◌==◌}
 use Rattle.replica.proofs.Following.{recover_other, recover_same}

@@ -1,5 +1,4 @@
-use Rattle.std.proofs.Common.{◌≡◌, ap, sym, refl}
-use Rattle.op.proofs.LocalLaws.{runs-small}
+use Rattle.std.proofs.Common.{◌≡◌, ap}
 use Rattle.replica.specs.Copy.{Copy}
 use Rattle.replica.proofs.Following.{recover_found}
 use Rattle.replica.proofs.state.State.recovered.Goals as goal

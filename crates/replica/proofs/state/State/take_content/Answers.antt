@@ -1,7 +1,7 @@
-use Rattle.std.proofs.Common.{◌≡◌, ◌∙◌, true, ℤ, sym, ap, subst, SFits, w64, to_z, of_z, rules}
+use Rattle.std.proofs.Common.{◌≡◌, ◌∙◌, true, ℤ, sym, ap, subst, SFits, w64, rules}
 use Rattle.std.proofs.lemmas.Int.{to_z-of_z}
 use Rattle.op.specs.declared.message.Content.{Content}
-use Rattle.op.specs.declared.record.Record.TheVariants.{Op as Kept, Resync as Resynced, Recover as Recovered}
+use Rattle.op.specs.declared.record.Record.TheVariants.{Resync as Resynced, Recover as Recovered}
 use Rattle.op.specs.Rules.{is_record}
 use Rattle.op.proofs.RulesLaws.{record_is}
 use Rattle.doc.specs.Outcome.{Gives}

@@ -1,6 +1,6 @@
-use Rattle.std.proofs.Common.{◌≡◌, ◌∙◌, ℕ, true, false, Ok, sym, ap, subst, arith}
+use Rattle.std.proofs.Common.{◌≡◌, true, false, Ok, sym, subst, arith}
 use Rattle.std.proofs.lemmas.Bool.Decides.{nat_tests}
-use Rattle.replica.specs.Copy.{Copy, operations}
+use Rattle.replica.specs.Copy.{operations}
 use Rattle.std.proofs.Common.{SFits, w64, rules}
 use Rattle.std.proofs.lemmas.Int.{to_z-of_z}
 use Rattle.std.specs.Prelude.{Err, ◌+◌, nat_le}

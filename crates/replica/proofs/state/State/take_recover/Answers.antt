@@ -1,7 +1,5 @@
-use Rattle.std.proofs.Common.{◌≡◌, ◌∙◌, ℕ, true, false, Ok, sym, ap, subst, arith}
-use Rattle.std.proofs.lemmas.Bool.Decides.{nat_tests}
-use Rattle.replica.specs.Copy.{Copy, operations}
-use Rattle.replica.specs.Standing.{IsStanding}
+use Rattle.std.proofs.Common.{◌≡◌, ◌∙◌, Ok, sym, ap}
+use Rattle.replica.specs.Copy.{Copy}
 use Rattle.std.proofs.lemmas.Result.{err_from_is_err_and}
 use Rattle.std.specs.Prelude.{Err}
 use Rattle.replica.specs.declared.role.Role.TheVariants.{Empty}

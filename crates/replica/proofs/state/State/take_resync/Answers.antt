@@ -1,4 +1,4 @@
-use Rattle.std.proofs.Common.{◌≡◌, ◌∙◌, ℕ, true, false, Ok, sym, ap, subst, arith}
+use Rattle.std.proofs.Common.{◌≡◌, true, false, Ok, ap, arith}
 use Rattle.std.proofs.lemmas.Bool.Decides.{nat_tests}
 use Rattle.replica.specs.Copy.{Copy, operations}
 use Rattle.std.proofs.Common.{SFits, w64, rules}

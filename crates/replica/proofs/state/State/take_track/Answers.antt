@@ -1,6 +1,4 @@
-use Rattle.std.proofs.Common.{◌≡◌, ◌∙◌, true, false, sym, ap, subst, Ok, arith}
-use Rattle.std.specs.Prelude.{◌==◌}
-use Rattle.std.proofs.lemmas.Bool.Decides.{nat_tests}
+use Rattle.std.proofs.Common.{◌≡◌, ◌∙◌, true, false, sym, ap, subst, Ok}
 use Rattle.op.specs.Ids.{has}
 use Rattle.op.specs.Operations.{from_number}
 use Rattle.op.proofs.OperationLaws.{from_number-zero}
