@@ -12,6 +12,8 @@ mod engines;
 #[cfg(test)]
 mod masters;
 #[cfg(test)]
+mod messages;
+#[cfg(test)]
 mod records;
 #[cfg(test)]
 mod trackers;
