@@ -1,5 +1,5 @@
 //! A list of operations.
-ghost use Rattle.std.specs.Prelude.{◌≡◌, ◌++◌, ◌∷◌, [], IfOk, OnOk, OnErr};
+ghost use Rattle.std.specs.Prelude.{◌≡◌, IfOk};
 
 use crate::operation::Op;
 use std::alloc::{AllocError, Global};
@@ -26,15 +26,6 @@ impl Operations {
         ensures { result ≡ items.items }
     {
         Operations { items }
-    }
-
-    /// One operation.
-    pub fn one(alloc: Global, op: Op) -> Result<Operations, AllocError>
-        ensures { IfOk result (λ a. a ≡ op ∷ []) }
-    {
-        let mut items = Vec::new(alloc);
-        items.push(op)?;
-        Ok(Operations { items })
     }
 
     /// The operations as a `Vec`.
