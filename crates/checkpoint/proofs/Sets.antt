@@ -1,9 +1,9 @@
 -- All numbers below a count, and some of a window above it.
-use Rattle.std.proofs.Common.{◌≡◌, ◌<◌, ◌≤◌, ◌+◌, ℕ, zero, suc, Bool, true, false, ◌&&◌, List, [], ◌∷◌, ◌++◌, ◌==◌, filter, nat_lt, nat_le, min, fold, refl, sym, ap, ◌∙◌, append_assoc, append-nil, arith}
+use Rattle.std.proofs.Common.{◌≡◌, ◌<◌, ◌≤◌, ◌+◌, ◌-◌, if◌then◌else◌, ℕ, zero, suc, Bool, true, false, ◌&&◌, List, [], ◌∷◌, ◌++◌, ◌==◌, filter, nat_lt, nat_le, min, fold, refl, sym, ap, ◌∙◌, append_assoc, append-nil, arith}
 use Rattle.std.proofs.lemmas.Bool.Decides.{nat_tests}
 use Rattle.std.proofs.lemmas.List.Folds.{list_any-append}
 use Rattle.op.specs.Ids.{has, with}
-use Rattle.checkpoint.specs.Numbers.{up_to, with_below, run, run_from, least}
+use Rattle.checkpoint.specs.Numbers.{up_to, with_below, marked, run, run_from, least}
 use Rattle.checkpoint.specs.Window.{marked_from}
 
 -- ---- all numbers below a count
@@ -47,12 +47,12 @@ with_below-twice a b ns le = ap (λ ms. up_to b ++ ms) (filter-append b (up_to a
 below_up_to : (c n : ℕ) → n ≤ c → up_to n ++ filter (λ m. nat_le n m) (up_to c) ≡ up_to c
 below_up_to zero n le = grind (arith, le)
 below_up_to (suc c) n le = elim (nat_le n c) as (λ b. nat_le n c ≡ b → up_to n ++ filter (λ m. nat_le n m) (up_to (suc c)) ≡ up_to (suc c)) [
-  | true ↦ λ is. ap (λ ms. up_to n ++ ms) (filter-append n (up_to c) (c ∷ []) ∙ ap (λ ms. filter (λ m. nat_le n m) (up_to c) ++ ms) (kept is)) ∙ sym (append_assoc (up_to n) (filter (λ m. nat_le n m) (up_to c)) (c ∷ [])) ∙ ap (λ ms. ms ++ c ∷ []) (below_up_to c n (grind (arith, nat_tests, is)))
+  | true ↦ λ is. ap (λ ms. up_to n ++ ms) (filter-append n (up_to c) (c ∷ []) ∙ ap (λ ms. filter (λ m. nat_le n m) (up_to c) ++ ms) (same is)) ∙ sym (append_assoc (up_to n) (filter (λ m. nat_le n m) (up_to c)) (c ∷ [])) ∙ ap (λ ms. ms ++ c ∷ []) (below_up_to c n (grind (arith, nat_tests, is)))
   | false ↦ λ is. let same : n ≡ suc c = grind (arith, nat_tests, is, le) in ap (λ ms. up_to n ++ ms) (none_of_up_to (suc c) n (omega (arith, same))) ∙ append-nil (up_to n) ∙ ap up_to same
 ] refl
   where
-    kept : nat_le n c ≡ true → filter (λ m. nat_le n m) (c ∷ []) ≡ c ∷ []
-    kept is = grind (arith, is)
+    same : nat_le n c ≡ true → filter (λ m. nat_le n m) (c ∷ []) ≡ c ∷ []
+    same is = grind (arith, is)
 
 pub with_below-past : (c n : ℕ) (ys : List ℕ) → n ≤ c → filter (λ m. nat_le n m) ys ≡ ys → with_below (up_to c ++ ys) n ≡ up_to c ++ ys
 with_below-past c n ys le all = ap (λ ms. up_to n ++ ms) (filter-append n (up_to c) ys ∙ ap (λ ms. filter (λ m. nat_le n m) (up_to c) ++ ms) all) ∙ sym (append_assoc (up_to n) (filter (λ m. nat_le n m) (up_to c)) ys) ∙ ap (λ ms. ms ++ ys) (below_up_to c n le)
@@ -168,3 +168,39 @@ fold-min n m (k ∷ ks) = let same : min (min n m) k ≡ min n (min m k) = omega
 pub least-fold : (n : ℕ) (ns : List ℕ) → least (n ∷ ns) ≡ fold min n ns
 least-fold n [] = refl
 least-fold n (m ∷ ms) = rw (least-fold m ms) (sym (fold-min n m ms))
+
+-- ---- acknowledgements
+
+from_least : (n : ℕ) (ms : List ℕ) → n ≤ run_from n ms
+from_least n [] = omega arith
+from_least n (m ∷ ms) = elim (m == n) as (λ b. n ≤ (if b then run_from (suc n) ms else n)) [
+  | true ↦ let next : suc n ≤ run_from (suc n) ms = from_least (suc n) ms in omega (arith, next)
+  | false ↦ omega arith
+]
+
+-- all below a number are there without a gap
+pub run-with_below : (ns : List ℕ) (n : ℕ) → n ≤ run (with_below ns n)
+run-with_below ns n = rw (run-up_to n (filter (λ m. nat_le n m) ns)) (from_least n (filter (λ m. nat_le n m) ns))
+
+pub has-with : (ns : List ℕ) (n : ℕ) → has (with ns n) n ≡ true
+has-with [] n = grind (arith, nat_tests)
+has-with (m ∷ ms) n = grind (arith, nat_tests, has-with ms n)
+
+-- what is there stays
+pub has-with_more : (ns : List ℕ) (n k : ℕ) → has ns k ≡ true → has (with ns n) k ≡ true
+has-with_more [] n k is = absurd cc
+has-with_more (m ∷ ms) n k is = elim (m == k) as (λ b. (m == k) ≡ b → has (with (m ∷ ms) n) k ≡ true) [
+  | true ↦ λ e. grind (arith, nat_tests, e)
+  | false ↦ λ e. let rest : has ms k ≡ true = grind (arith, e, is) in grind (arith, nat_tests, e, rest, has-with_more ms n k rest)
+] refl
+
+pub has-with_below : (ns : List ℕ) (n k : ℕ) → k < n → has (with_below ns n) k ≡ true
+has-with_below ns n k lt = list_any-append (λ m. m == k) (up_to n) (filter (λ m. nat_le n m) ns) ∙ grind (arith, nat_tests, lt, has-up_to n k)
+
+pub has-marked_below : (ns : List ℕ) (seq below k : ℕ) → k < below → has (marked ns seq below) k ≡ true
+has-marked_below ns zero below k lt = has-with_below ns below k lt
+has-marked_below ns (suc n) below k lt = has-with_more (with_below ns below) n k (has-with_below ns below k lt)
+
+pub marked-some : (ns : List ℕ) (seq below : ℕ) → 0 < seq → marked ns seq below ≡ with (with_below ns below) (seq - 1)
+marked-some ns zero below lt = absurd (omega (arith, lt))
+marked-some ns (suc n) below lt = let one : n ≡ suc n - 1 = omega arith in ap (with (with_below ns below)) one

@@ -1,8 +1,9 @@
 //! Which sequence numbers a copy has.
-ghost use Rattle.std.specs.Prelude.{◌≡◌, ◌<◌, ◌+◌, ◌≤◌, ◌^◌, ◌↔◌, IsOk, OnOk, OnErr, length, map};
+ghost use Rattle.std.specs.Prelude.{◌≡◌, ◌<◌, ◌+◌, ◌≤◌, ◌^◌, ◌↔◌, IsOk, OnOk, OnErr, length, map, nat_eq};
+ghost use Rattle.std.specs.Cmp.Lexicographic.{pointwise};
 ghost use Rattle.op.specs.Checkpoint.{known, checkpoint_of};
 ghost use Rattle.op.specs.Ids.{has, with};
-ghost use Rattle.checkpoint.specs.Numbers.{up_to, with_below, run, least};
+ghost use Rattle.checkpoint.specs.Numbers.{up_to, with_below, marked, run, least};
 
 use crate::fault::BeyondWindow;
 use crate::window;
@@ -92,6 +93,26 @@ impl Tracker {
         self.count = window::settle(&mut self.words, end);
     }
 
+    /// Adds an acknowledged number and all below another, which it is near. The first counts one more than it is, and 0 is none.
+    pub fn acknowledge(&mut self, seq: u64, below: u64)
+        requires near { seq ≤ below + 1024 }
+        requires small { seq ≤ 2 ^ 63 }
+        requires signed { below ≤ 2 ^ 63 }
+        ensures { self.new ≡ marked self.old seq below }
+    {
+        self.mark_up_to(checkpoint::from_count(below));
+        if seq > 0 {
+            let _ = self.mark(seq - 1);
+        }
+    }
+
+    /// Whether such an acknowledgement adds nothing.
+    pub fn has_acknowledged(&self, seq: u64, below: u64) -> bool
+        ensures { result ≡ pointwise nat_eq self.now (marked self.now seq below) }
+    {
+        below <= self.count && (seq == 0 || self.has(seq - 1))
+    }
+
     /// The greatest number up to which none is missing, or -1.
     pub fn checkpoint(&self) -> i64
         ensures { result ≡ checkpoint_of (run self.now) }
@@ -100,7 +121,7 @@ impl Tracker {
     }
 
     /// How many numbers from 0 up are there without a gap.
-    fn count(&self) -> u64
+    pub fn count(&self) -> u64
         ensures count { result ≡ run self.now }
         ensures small { result ≤ 2 ^ 63 }
     {

@@ -15,10 +15,10 @@ outcome os o =
     else Taken
 
 -- what becomes of a record, beside these operations
-abbrev pub outcome_of : List Op → Record → Applied
-outcome_of os (Kept g o) = outcome os o
-outcome_of os (Resync term g tail) = Taken
-outcome_of os (Recover term all) = Taken
+abbrev pub applied_of : List Op → Record → Applied
+applied_of os (Kept g o) = outcome os o
+applied_of os (Resync term g tail) = Taken
+applied_of os (Recover term all) = Taken
 
 -- the records after it: a repeated one is not kept
 abbrev pub records_after : List Record → Record → Applied → List Record

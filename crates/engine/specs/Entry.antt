@@ -1,4 +1,5 @@
 -- A document where it stands, and its place in a list.
+-- For proofs alone: no public contract rests on it.
 use Rattle.std.specs.Prelude.{◌≡◌, ℕ, ◌<◌, ◌≤◌, length, insert, slice_set}
 use Rattle.std.specs.FinMap.Entries.{put}
 use Rattle.doc.specs.Id.{Id, id_cmp}

@@ -1,4 +1,5 @@
 -- Operations that are kept beside their records.
+-- For proofs alone: no public contract rests on it.
 use Rattle.std.specs.Prelude.{◌≡◌, ◌≤◌, ◌^◌, List}
 use Rattle.op.specs.declared.operation.Op.{Op}
 use Rattle.op.specs.declared.record.Record.{Record}

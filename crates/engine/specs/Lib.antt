@@ -7,5 +7,5 @@ pub mod Answer
 pub mod Shown
 pub mod Contents
 pub mod Staged
-pub mod Change
+pub mod SnapshotChange
 pub mod Last

@@ -19,5 +19,5 @@ abbrev pub put_in : Contents → StagedData → Contents
 put_in c s = record c { records = records_of c.records s.records; point = s.point }
 
 -- the snapshot is that of these contents after the change
-abbrev pub Fits : Contents → StagedData → Type 0
-Fits c s = Shows c.mapping (records_of c.records s.records) s.point s.snapshot
+abbrev pub IsStagedFrom : Contents → StagedData → Type 0
+IsStagedFrom c s = Shows c.mapping (records_of c.records s.records) s.point s.snapshot

@@ -6,15 +6,15 @@ ghost use Rattle.op.specs.Checkpoint.{checkpoint_of, known};
 ghost use Rattle.op.specs.Documents.{document_at, documents};
 ghost use Rattle.op.specs.Operations.{IsAscending, add, from_number, is_stale, last_on, local_checkpoint, next_seq, op_at};
 ghost use Rattle.op.specs.Records.{IsRecord, operations, shown};
-ghost use Rattle.engine.specs.Applied.{outcome_of, records_after};
+ghost use Rattle.engine.specs.Applied.{applied_of, records_after};
 ghost use Rattle.engine.specs.Found.{found_document};
 ghost use Rattle.engine.specs.Last.{last_of};
-ghost use Rattle.engine.specs.Change.{changed, IsChange};
-ghost use Rattle.engine.specs.Staged.{Fits, put_in};
+ghost use Rattle.engine.specs.SnapshotChange.{changed, IsSnapshotChange};
+ghost use Rattle.engine.specs.Staged.{IsStagedFrom, put_in};
 
 use crate::history::{Applied, Found, History};
 use crate::snapshot::Snapshot;
-use crate::staged::{Change, Staged};
+use crate::staged::{SnapshotChange, Staged};
 use doc::{DocId, Mapping};
 use op::{Body, Op, Record};
 use std::alloc::{AllocError, Global};
@@ -72,7 +72,7 @@ impl Engine {
     /// Keeps the record, unless it is an operation whose number is there. Searches don't show it yet.
     pub fn apply(&mut self, alloc: Global, kept: &Record) -> Result<Applied, AllocError>
         requires { IsRecord kept.now }
-        ensures answer { IfOk result (λ a. a ≡ outcome_of (operations self.old.records) kept.now) }
+        ensures answer { IfOk result (λ a. a ≡ applied_of (operations self.old.records) kept.now) }
         ensures records { IfOk result (λ a. self.new ≡ record self.old { records = records_after self.old.records kept.now a }) }
         ensures err { OnErr result (self.new ≡ self.old) }
     {
@@ -85,7 +85,7 @@ impl Engine {
         ensures shown { OnOk result (self.new ≡ record self.old { point = length self.old.records }) }
         ensures err { OnErr result (self.new ≡ self.old) }
     {
-        let staged = self.stage(alloc, Change::Refresh)?;
+        let staged = self.stage(alloc, SnapshotChange::Refresh)?;
         self.put(staged);
         Ok(self.point as u64)
     }
@@ -96,19 +96,19 @@ impl Engine {
         ensures ok { OnOk result (self.new ≡ record self.old { records = records.items; point = length records.items }) }
         ensures err { OnErr result (self.new ≡ self.old) }
     {
-        let staged = self.stage(alloc, Change::Reopen(records))?;
+        let staged = self.stage(alloc, SnapshotChange::Reopen(records))?;
         self.put(staged);
         Ok(())
     }
 
     /// Makes a change ready, and changes nothing.
-    pub fn stage(&self, alloc: Global, change: Change) -> Result<Staged, AllocError>
-        requires { IsChange change }
-        ensures fits { IfOk result (Fits self.now) }
+    pub fn stage(&self, alloc: Global, change: SnapshotChange) -> Result<Staged, AllocError>
+        requires { IsSnapshotChange change }
+        ensures fits { IfOk result (IsStagedFrom self.now) }
         ensures leaves { IfOk result (λ s. put_in self.now s ≡ changed self.now change) }
     {
         match change {
-            Change::Refresh => {
+            SnapshotChange::Refresh => {
                 let snapshot = snapshot_of(alloc, &self.mapping, &self.history)?;
                 Ok(Staged {
                     history: None,
@@ -116,7 +116,7 @@ impl Engine {
                     point: self.history.len(),
                 })
             }
-            Change::Reopen(records) => {
+            SnapshotChange::Reopen(records) => {
                 let reopened = History::of(alloc, records)?;
                 let snapshot = snapshot_of(alloc, &self.mapping, &reopened)?;
                 let point = reopened.len();
@@ -131,7 +131,7 @@ impl Engine {
 
     /// Makes a change that is ready for this engine. It takes no memory.
     pub fn put(&mut self, staged: Staged)
-        requires { Fits self.old staged }
+        requires { IsStagedFrom self.old staged }
         ensures { self.new ≡ put_in self.old staged }
     {
         let Staged {

@@ -55,7 +55,7 @@ impl Model for History {
 impl History {
     ghost use Rattle.std.specs.Prelude.{length};
     ghost use Rattle.op.specs.Documents.{document_at, documents};
-    ghost use Rattle.engine.specs.Applied.{outcome_of, records_after};
+    ghost use Rattle.engine.specs.Applied.{applied_of, records_after};
 
     /// The history that these records are.
     pub(crate) fn of(alloc: Global, records: Vec<Record>) -> Result<History, AllocError>
@@ -155,11 +155,11 @@ impl History {
     /// Keeps the record, where it isn't an operation whose number is there.
     pub(crate) fn apply(&mut self, alloc: Global, kept: &Record) -> Result<Applied, AllocError>
         requires { IsRecord kept.now }
-        ensures answer { IfOk result (λ a. a ≡ outcome_of (operations self.old) kept.now) }
+        ensures answer { IfOk result (λ a. a ≡ applied_of (operations self.old) kept.now) }
         ensures records { IfOk result (λ a. self.new ≡ records_after self.old kept.now a) }
         ensures err { OnErr result (self.new ≡ self.old) }
     {
-        let applied = operations::outcome_of(&self.operations, kept);
+        let applied = operations::applied_of(&self.operations, kept);
         if let Applied::Repeated = applied {
             return Ok(applied);
         }

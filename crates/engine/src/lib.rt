@@ -11,4 +11,4 @@ pub mod staged;
 pub use engine::{Engine, Last};
 pub use history::{Applied, Found};
 pub use snapshot::{Hit, Hits, Snapshot};
-pub use staged::{Change, Staged};
+pub use staged::{SnapshotChange, Staged};

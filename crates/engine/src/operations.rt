@@ -59,9 +59,9 @@ pub(crate) fn has_newer(operations: &[Op], op: &Op) -> bool
 }
 
 /// What becomes of a record.
-pub(crate) fn outcome_of(operations: &[Op], kept: &Record) -> Applied
+pub(crate) fn applied_of(operations: &[Op], kept: &Record) -> Applied
     requires { IsAscending operations.now }
-    ensures { result ≡ spec.outcome_of operations.now kept.now }
+    ensures { result ≡ spec.applied_of operations.now kept.now }
 {
     match kept {
         Record::Op(_, op) => outcome(operations, op),

@@ -9,7 +9,7 @@ use std::sync::Arc;
 
 /// A change of an engine that makes a new snapshot.
 #[derive(Drop)]
-pub enum Change {
+pub enum SnapshotChange {
     /// Searches show all records.
     Refresh,
     /// These are the records, and searches show them all.

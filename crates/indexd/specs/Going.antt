@@ -1,4 +1,5 @@
 -- A script that is being played.
+-- For proofs alone: no public contract rests on it.
 use Rattle.std.specs.Prelude.{◌≡◌, ℕ, List, ◌++◌, Option, Some}
 use Rattle.std.specs.Io.KnownBytes.{Appends}
 use Rattle.indexd.specs.Lines.{lines_of}

@@ -1,4 +1,5 @@
 -- The copy of an index that a script plays on.
+-- For proofs alone: no public contract rests on it.
 use Rattle.std.specs.Prelude.{◌≡◌, false, Option, Some, None, option_map, is_some, true, Result, Ok, Err}
 use Rattle.replica.specs.Copy.{Copy}
 use Rattle.replica.specs.Logged.{Logged}

@@ -12,8 +12,8 @@ use Rattle.op.specs.Records.{shown}
 use Rattle.query.specs.Fault.{parsing}
 use Rattle.query.specs.Body.{body_of}
 use Rattle.engine.specs.Answer.{answer}
-use Rattle.replica.specs.declared.input.Kind.{Kind}
-use Rattle.replica.specs.declared.input.Kind.TheVariants.{Index, Create, Delete}
+use Rattle.replica.specs.declared.input.OpType.{OpType}
+use Rattle.replica.specs.declared.input.OpType.TheVariants.{Index, Create, Delete}
 use Rattle.replica.specs.declared.input.Input.{Input}
 use Rattle.replica.specs.declared.input.Input.TheVariants.{Write, Refresh, Get, Restart}
 use Rattle.replica.specs.Copy.{Copy, begun}

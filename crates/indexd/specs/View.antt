@@ -1,4 +1,5 @@
 -- Commands, refusals and answers as they are kept.
+-- For proofs alone: no public contract rests on it.
 use Rattle.std.specs.Prelude.{Option, Some, None, option_map}
 use Rattle.doc.specs.Fault as doc
 use Rattle.query.specs.Fault as query

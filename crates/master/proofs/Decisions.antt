@@ -164,7 +164,7 @@ module _ (l : Logged) (front : List ℕ) (request : Request) (d : Decided) (mast
 
   module _ (reads : entry_of (spelled (entry_for request)) ≡ Some (entry_for request)) where
     pub grows : IsLogOf (l.log ++ frame_for (entry_for request)) d.state
-    grows = entry_more l.log l.state request d (master.kept now_open) is reads (spelled_small (entry_for request))
+    grows = entry_more l.log l.state request d (master.log now_open) is reads (spelled_small (entry_for request))
 
     pub fails : (new : List ℕ) (failures room : ℕ) → AddsFront l.log (frame_for (entry_for request)) new → failures ≡ count_after true l.failures
         → IsRefused (Log Device) l (record { state = l.state; closed = true; log = new; failures = failures; room = room }) (master_step l.state request)
@@ -175,7 +175,7 @@ module _ (l : Logged) (front : List ℕ) (request : Request) (d : Decided) (mast
         record {
           closed = refl;
           state = refl;
-          kept = front_kept l.log l.state request d (master.kept now_open) is reads (spelled_small (entry_for request)) new added;
+          log = front_kept l.log l.state request d (master.log now_open) is reads (spelled_small (entry_for request)) new added;
           counts = counts;
         },
       ),

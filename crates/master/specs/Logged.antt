@@ -36,7 +36,7 @@ pub record IsLogOf (bytes : List ℕ) (m : State) : Type 0 where
 pub record IsMaster (front : List ℕ) (m : State) (closed : Bool) (bytes : List ℕ) : Type 0 where
   pub header : front ≡ header
   pub sound : IsSound m
-  pub kept : closed ≡ false → IsLogOf bytes m
+  pub log : closed ≡ false → IsLogOf bytes m
 
 -- the frame of an entry
 abbrev pub frame_for : Entry → List ℕ
@@ -67,7 +67,7 @@ pub record IsDone (old new : Logged) (request : Request) (decision : Decision) (
 pub record IsClosed (old new : Logged) (step : MasterStep) : Type 0 where
   pub closed : new.closed ≡ true
   pub state : new.state ≡ old.state
-  pub kept : (kept_state new.log ≡ kept_state old.log) ⊎ ((d : Decided) × (step ≡ Ok d) × (kept_state new.log ≡ Ok d.state))
+  pub log : (kept_state new.log ≡ kept_state old.log) ⊎ ((d : Decided) × (step ≡ Ok d) × (kept_state new.log ≡ Ok d.state))
   pub counts : new.failures ≡ count_after true old.failures
 
 -- nothing has changed

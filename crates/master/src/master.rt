@@ -36,20 +36,20 @@ impl<D: LogDevice> Model for Master<D> {
 
     ghost Value = { Logged };
 
-    ghost view = { λ m. record { state = m.state; closed = m.closed; log = D.held m.frames.device; failures = D.failures m.frames.device; room = D.room m.frames.device } };
+    ghost view = { λ m. record { state = m.state; closed = m.closed; log = D.bytes m.frames.device; failures = D.failures m.frames.device; room = D.room m.frames.device } };
 
-    ghost invariant = { λ m. IsMaster m.frames.header m.state m.closed (D.held m.frames.device) };
+    ghost invariant = { λ m. IsMaster m.frames.header m.state m.closed (D.bytes m.frames.device) };
 }
 
 impl<D: LogDevice> Master<D> {
     /// The master that a log keeps. A torn last frame is cut off; else nothing is lost of the log. `Damaged` names the offset of the first
     /// frame that isn't an entry which the table takes. A refusal hands the device back.
     pub fn open(alloc: Global, device: D) -> Result<Master<D>, Refused<D, LogFault>>
-        ensures state { Gives (λ r. fault_of r.fault) (λ m. m.state) result (kept_state (D.held device)) }
+        ensures state { Gives (λ r. fault_of r.fault) (λ m. m.state) result (kept_state (D.bytes device)) }
         ensures opened { IfOk result (λ m. m.closed ≡ false) }
-        ensures left { IfOk result (λ m. LosesNothing header (D.held device) m.log) }
+        ensures left { IfOk result (λ m. LosesNothing header (D.bytes device) m.log) }
         ensures counts { IfOk result (λ m. m.failures ≡ D.failures device) }
-        ensures refused { IfErr result (λ r. IsUnopened (is_device r.fault) header (D.held device) (D.held r.device) (D.failures device) (D.failures r.device)) }
+        ensures refused { IfErr result (λ r. IsUnopened (is_device r.fault) header (D.bytes device) (D.bytes r.device) (D.failures device) (D.failures r.device)) }
         ensures in_memory { D.in_memory ≡ true → IfErr result (λ r. is_device r.fault ≡ false) }
     {
         let mut frames = Frames::over(RSM1, device);
@@ -70,10 +70,10 @@ impl<D: LogDevice> Master<D> {
     /// has lost nothing, and may have gained a front of the first entry.
     pub fn begin(alloc: Global, copies: u8, device: D) -> Result<Master<D>, Refused<D, LogFault>>
         requires { (1 ≤ copies) × (copies ≤ 5) }
-        ensures state { Gives (λ r. fault_of r.fault) (λ m. m.state) result (begun_state copies (D.held device)) }
+        ensures state { Gives (λ r. fault_of r.fault) (λ m. m.state) result (begun_state copies (D.bytes device)) }
         ensures opened { IfOk result (λ m. m.closed ≡ false) }
         ensures counts { IfOk result (λ m. m.failures ≡ D.failures device) }
-        ensures refused { IfErr result (λ r. IsUnbegun r.fault copies (D.held device) (D.held r.device) (D.failures device) (D.failures r.device)) }
+        ensures refused { IfErr result (λ r. IsUnbegun r.fault copies (D.bytes device) (D.bytes r.device) (D.failures device) (D.failures r.device)) }
         ensures in_memory { D.in_memory ≡ true → IfErr result (λ r. is_device r.fault ≡ false) }
     {
         let mut frames = Frames::over(RSM1, device);
@@ -123,8 +123,8 @@ impl<D: LogDevice> Master<D> {
 
     /// The device of its log, which keeps the state unless the log has failed.
     pub fn close(self) -> D
-        ensures kept { self.closed ≡ false → kept_state (D.held result) ≡ Ok self.state }
-        ensures held { D.held result ≡ self.log }
+        ensures kept { self.closed ≡ false → kept_state (D.bytes result) ≡ Ok self.state }
+        ensures held { D.bytes result ≡ self.log }
         ensures failures { D.failures result ≡ self.failures }
     {
         let Master {
@@ -147,7 +147,7 @@ fn prepared<D: LogDevice>(
     ensures reads { OnOk result (entry_of (spelled entry) ≡ Some entry) }
     ensures room { IfOk result (λ f. length f ≤ D.room frames.new.device) }
     ensures header { frames.new.header ≡ frames.old.header }
-    ensures held { D.held frames.new.device ≡ D.held frames.old.device }
+    ensures held { D.bytes frames.new.device ≡ D.bytes frames.old.device }
     ensures failures { D.failures frames.new.device ≡ D.failures frames.old.device }
 {
     let content = entry.spell(alloc)?;
@@ -160,12 +160,12 @@ fn prepared<D: LogDevice>(
 /// The state that a log keeps. What is torn of it is cut off or written anew, once all its entries are taken.
 fn opened<D: LogDevice>(alloc: Global, frames: &mut Frames<D>) -> Result<State, LogFault>
     requires { frames.old.header ≡ header }
-    ensures state { Gives fault_of (λ m. m) result (kept_state (D.held frames.old.device)) }
-    ensures whole { IfOk result (λ m. IsLogOf (D.held frames.new.device) m) }
+    ensures state { Gives fault_of (λ m. m) result (kept_state (D.bytes frames.old.device)) }
+    ensures whole { IfOk result (λ m. IsLogOf (D.bytes frames.new.device) m) }
     ensures sound { IfOk result IsSound }
-    ensures left { OnOk result (LosesNothing header (D.held frames.old.device) (D.held frames.new.device)) }
+    ensures left { OnOk result (LosesNothing header (D.bytes frames.old.device) (D.bytes frames.new.device)) }
     ensures counts { OnOk result (D.failures frames.new.device ≡ D.failures frames.old.device) }
-    ensures refused { IfErr result (λ e. IsUnopened (is_device e) header (D.held frames.old.device) (D.held frames.new.device) (D.failures frames.old.device) (D.failures frames.new.device)) }
+    ensures refused { IfErr result (λ e. IsUnopened (is_device e) header (D.bytes frames.old.device) (D.bytes frames.new.device) (D.failures frames.old.device) (D.failures frames.new.device)) }
     ensures header { frames.new.header ≡ header }
     ensures in_memory { D.in_memory ≡ true → IfErr result (λ e. is_device e ≡ false) }
 {
@@ -179,11 +179,11 @@ fn opened<D: LogDevice>(alloc: Global, frames: &mut Frames<D>) -> Result<State, 
 fn begun<D: LogDevice>(alloc: Global, copies: u8, frames: &mut Frames<D>) -> Result<State, LogFault>
     requires copies { (1 ≤ copies) × (copies ≤ 5) }
     requires header { frames.old.header ≡ header }
-    ensures state { Gives fault_of (λ m. m) result (begun_state copies (D.held frames.old.device)) }
-    ensures whole { IfOk result (λ m. IsLogOf (D.held frames.new.device) m) }
+    ensures state { Gives fault_of (λ m. m) result (begun_state copies (D.bytes frames.old.device)) }
+    ensures whole { IfOk result (λ m. IsLogOf (D.bytes frames.new.device) m) }
     ensures sound { IfOk result IsSound }
     ensures counts { OnOk result (D.failures frames.new.device ≡ D.failures frames.old.device) }
-    ensures refused { IfErr result (λ e. IsUnbegun e copies (D.held frames.old.device) (D.held frames.new.device) (D.failures frames.old.device) (D.failures frames.new.device)) }
+    ensures refused { IfErr result (λ e. IsUnbegun e copies (D.bytes frames.old.device) (D.bytes frames.new.device) (D.failures frames.old.device) (D.failures frames.new.device)) }
     ensures header { frames.new.header ≡ header }
     ensures in_memory { D.in_memory ≡ true → IfErr result (λ e. is_device e ≡ false) }
 {
@@ -203,11 +203,11 @@ fn begun<D: LogDevice>(alloc: Global, copies: u8, frames: &mut Frames<D>) -> Res
 /// The first entry of a log without frames.
 fn first<D: LogDevice>(alloc: Global, copies: u8, frames: &mut Frames<D>) -> Result<State, LogFault>
     requires copies { (1 ≤ copies) × (copies ≤ 5) }
-    requires log { IsLog header (D.held frames.old.device) [] }
+    requires log { IsLog header (D.bytes frames.old.device) [] }
     ensures state { IfOk result (λ m. m ≡ begun copies) }
-    ensures whole { IfOk result (λ m. IsLogOf (D.held frames.new.device) m) }
+    ensures whole { IfOk result (λ m. IsLogOf (D.bytes frames.new.device) m) }
     ensures sound { IfOk result IsSound }
-    ensures err { OnErr result (AddsFront (D.held frames.old.device) (frame_for (Begin copies)) (D.held frames.new.device)) }
+    ensures err { OnErr result (AddsFront (D.bytes frames.old.device) (frame_for (Begin copies)) (D.bytes frames.new.device)) }
     ensures cause { IfErr result (λ e. fault_of e ≡ None) }
     ensures counts { D.failures frames.new.device ≡ count_after (errs_with is_device result) (D.failures frames.old.device) }
     ensures header { frames.new.header ≡ frames.old.header }

@@ -14,7 +14,7 @@ use Rattle.doc.specs.Outcome.{◌>>=◌, try_map}
 use Rattle.doc.specs.Scalar.{Scalar, text, long, flag}
 use Rattle.query.specs.declared.query.Operator.{Operator}
 use Rattle.query.specs.Fault.{Fault, too_many_clauses}
-use Rattle.query.specs.Leaves.{scalar_of, match_all_of, term_at, term_of, terms_at, terms_of, match_at, match_of, operator_in, prefix_with, prefix_at, prefix_of, Written, written_in, bound_at, bounds_at, range_at, range_of, exists_at, exists_of, leaf_of, few}
+use Rattle.query.specs.Leaves.{scalar_of, match_all_of, term_at, term_of, terms_at, terms_of, match_at, match_of, operator_in, prefix_with, prefix_at, prefix_of, WrittenBounds, written_in, bound_at, bounds_at, range_at, range_of, exists_at, exists_of, leaf_of, few}
 use Rattle.query.specs.Query.{Query, Queries, match_all, queries_of, clauses, clauses_in, depth, depth_of}
 use Rattle.query.specs.Reading.{thread, parts_of, bool_of, and_left, named_query, query_at, query_of, max_depth, max_clauses}
 use Rattle.query.specs.Shape.{only_of, items_in, text_in, value_of, required, named, check, is_value, is_value_key, is_field_key}
@@ -81,11 +81,11 @@ prefix_leaf : (m : MappingData) (d : Data) → IfOk (prefix_of m d) IsLeaf
 unfolding prefix_of
 prefix_leaf m d = onward IsLeaf _ (only_of d) (λ at. onward IsLeaf _ (value_of is_value_key (codes "value") at.1) (λ v. onward IsLeaf _ (text_in v) (λ p. prefix_at_leaf at.0 (kind_at at.0 m.fields) p)))
 
-bounds_leaf : (field : List ℕ) (k : Kind) (w : Written) → IfOk (bounds_at field k w) IsLeaf
+bounds_leaf : (field : List ℕ) (k : Kind) (w : WrittenBounds) → IfOk (bounds_at field k w) IsLeaf
 unfolding bounds_at
 bounds_leaf field k w = onward IsLeaf _ (bound_at field k w.gt) (λ gt. onward IsLeaf _ (bound_at field k w.gte) (λ gte. onward IsLeaf _ (bound_at field k w.lt) (λ lt. onward IsLeaf _ (bound_at field k w.lte) (λ lte. (refl, refl)))))
 
-range_at_leaf : (field : List ℕ) (k : Option Kind) (w : Written) → IfOk (range_at field k w) IsLeaf
+range_at_leaf : (field : List ℕ) (k : Option Kind) (w : WrittenBounds) → IfOk (range_at field k w) IsLeaf
 range_at_leaf field None w = (refl, refl)
 range_at_leaf field (Some Keyword) w = bounds_leaf field Keyword w
 range_at_leaf field (Some Text) w = bounds_leaf field Text w

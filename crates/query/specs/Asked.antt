@@ -1,4 +1,5 @@
 -- What is asked of the terms of a field, as it is handed on.
+-- For proofs alone: no public contract rests on it.
 use Rattle.std.specs.Prelude.{Bool}
 use Rattle.doc.specs.Scalar.{Scalar, is_scalar}
 use Rattle.doc.specs.ScalarView.{scalar_view, scalars_view}

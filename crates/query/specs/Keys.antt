@@ -1,4 +1,5 @@
 -- Which keys an object of a query may have, as it is handed on.
+-- For proofs alone: no public contract rests on it.
 use Rattle.std.specs.Prelude.{ℕ, Bool, false, List}
 use Rattle.query.specs.declared.shape.Keys.{Keys}
 use Rattle.query.specs.declared.shape.Keys.TheVariants.{MatchAll, Value, Field, Match, Range, Bool as Clauses}

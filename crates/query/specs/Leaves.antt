@@ -13,7 +13,7 @@ use Rattle.doc.specs.Scalar.{Scalar, text, long, flag, Converted, wrong, nothing
 use Rattle.query.specs.declared.query.Operator.{Operator}
 use Rattle.query.specs.declared.query.Operator.TheVariants.{Or, And}
 use Rattle.query.specs.Fault.{Fault, parsing, too_many_clauses, wrong_kind}
-use Rattle.query.specs.Meaning.{cut}
+use Rattle.query.specs.Meaning.{terms_of_value}
 use Rattle.query.specs.Query.{Query, match_all, nothing, term, terms, match_tokens, prefix, range, exists}
 use Rattle.query.specs.Shape.{only_of, required, text_in, items_in, is_value, check, named, value_of, is_value_key, is_field_key, is_match_key, is_range_key}
 
@@ -86,7 +86,7 @@ match_at field operator (Some Long) d = term_at field (Some Long) d
 match_at field operator (Some Boolean) d = term_at field (Some Boolean) d
 match_at field operator (Some Text) d = do
   v ← scalar_of field Text d
-  Ok (match_tokens field operator (cut v))
+  Ok (match_tokens field operator (terms_of_value v))
 
 -- the operator of a long form; a short form has none
 abbrev pub operator_in : Data → Result Operator Fault
@@ -134,13 +134,13 @@ bound_in (Some (array ds)) = Err parsing
 bound_in (Some (object ms)) = Err parsing
 
 -- the bounds as they are written
-pub record Written : Type 0 where
+pub record WrittenBounds : Type 0 where
   pub gt : Option Data
   pub gte : Option Data
   pub lt : Option Data
   pub lte : Option Data
 
-unfoldable pub written_in : Data → Result Written Fault
+unfoldable pub written_in : Data → Result WrittenBounds Fault
 written_in d = do
   known ← named is_range_key d
   gt ← bound_in (get (codes "gt") d)
@@ -155,7 +155,7 @@ bound_at field k (Some d) = do
   v ← scalar_of field k d
   Ok (Some v)
 
-unfoldable pub bounds_at : List ℕ → Kind → Written → Result Query Fault
+unfoldable pub bounds_at : List ℕ → Kind → WrittenBounds → Result Query Fault
 bounds_at field k w = do
   gt ← bound_at field k w.gt
   gte ← bound_at field k w.gte
@@ -164,7 +164,7 @@ bounds_at field k w = do
   Ok (range field (record { gt = gt; gte = gte; lt = lt; lte = lte }))
 
 -- truth values have no order
-abbrev pub range_at : List ℕ → Option Kind → Written → Result Query Fault
+abbrev pub range_at : List ℕ → Option Kind → WrittenBounds → Result Query Fault
 range_at field None w = Ok nothing
 range_at field (Some Keyword) w = bounds_at field Keyword w
 range_at field (Some Text) w = bounds_at field Text w

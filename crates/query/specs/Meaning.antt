@@ -17,16 +17,16 @@ use Rattle.query.specs.Query.{Query, Queries, Bounds, match_all, nothing, term, 
 -- ---- terms
 
 -- the tokens of a text
-abbrev pub cut : Scalar → List Scalar
-cut (text s) = map text (tokens_of s)
-cut (long z) = long z ∷ []
-cut (flag b) = flag b ∷ []
+abbrev pub terms_of_value : Scalar → List Scalar
+terms_of_value (text s) = map text (tokens_of s)
+terms_of_value (long z) = long z ∷ []
+terms_of_value (flag b) = flag b ∷ []
 
 -- the terms of a field with these values: the values, or of a text field the tokens of all its values
 abbrev pub terms_by : Option Kind → List Scalar → List Scalar
 terms_by None vs = []
 terms_by (Some Keyword) vs = vs
-terms_by (Some Text) vs = flat_map cut vs
+terms_by (Some Text) vs = flat_map terms_of_value vs
 terms_by (Some Long) vs = vs
 terms_by (Some Boolean) vs = vs
 

@@ -1,4 +1,5 @@
 -- The parts of a `bool` as they are handed on.
+-- For proofs alone: no public contract rests on it.
 use Rattle.serde_json.specs.View.{items_view}
 use Rattle.doc.specs.Entries.{elements}
 use Rattle.query.specs.declared.reading.Parts.{Parts}

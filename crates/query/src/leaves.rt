@@ -15,7 +15,7 @@ ghost use Rattle.query.specs.View.{query_view};
 use crate::fault::QueryFault;
 use crate::query::{Bounds, Operator, Query};
 use crate::shape::{Keys, check_keys, is_value, items_in, only_of, required, text_in, value_of};
-use crate::terms::cut;
+use crate::terms::terms_of_value;
 use doc::scalar::MAX_KEYWORD;
 use doc::{Converted, Kind, Mapping, Scalar, convert};
 use serde_json::Value;
@@ -194,7 +194,7 @@ fn match_at(
         None => Ok(Query::Nothing),
         Some(Kind::Text) => {
             let text = scalar_of(alloc, field, Kind::Text, value)?;
-            let tokens = cut(alloc, &text)?;
+            let tokens = terms_of_value(alloc, &text)?;
             let field = String::from_str(alloc, field)?;
             Ok(Query::Match(field, operator, tokens))
         }
@@ -243,7 +243,7 @@ fn prefix(alloc: Global, field: &str, text: &str) -> Result<Query, QueryFault>
 
 /// The bounds of a range as they are written.
 #[derive(Clone, Copy)]
-struct Written<'a> {
+struct WrittenBounds<'a> {
     gt: Option<&'a Value>,
     gte: Option<&'a Value>,
     lt: Option<&'a Value>,
@@ -260,7 +260,7 @@ fn range_of(alloc: Global, mapping: &Mapping, body: &Value) -> Result<Query, Que
 }
 
 #[tactic(auto, unfolding(crate::specs::Leaves::written_in))]
-fn written_in(body: &Value) -> Result<Written<'_>, QueryFault>
+fn written_in(body: &Value) -> Result<WrittenBounds<'_>, QueryFault>
     ensures { Gives fault_of written_view result (spec.written_in (view body.now)) }
 {
     check_keys(Keys::Range, body)?;
@@ -268,7 +268,7 @@ fn written_in(body: &Value) -> Result<Written<'_>, QueryFault>
     let gte = bound_in(body.get("gte"))?;
     let lt = bound_in(body.get("lt"))?;
     let lte = bound_in(body.get("lte"))?;
-    Ok(Written { gt, gte, lt, lte })
+    Ok(WrittenBounds { gt, gte, lt, lte })
 }
 
 fn bound_in(value: Option<&Value>) -> Result<Option<&Value>, QueryFault>
@@ -290,7 +290,7 @@ fn range_at(
     alloc: Global,
     field: &str,
     kind: Option<Kind>,
-    written: Written<'_>,
+    written: WrittenBounds<'_>,
 ) -> Result<Query, QueryFault>
     ensures { Gives fault_of query_view result (spec.range_at field.now kind (written_view written.entry)) }
 {
@@ -306,7 +306,7 @@ fn bounds_at(
     alloc: Global,
     field: &str,
     kind: Kind,
-    written: Written<'_>,
+    written: WrittenBounds<'_>,
 ) -> Result<Query, QueryFault>
     ensures { Gives fault_of query_view result (spec.bounds_at field.now kind (written_view written.entry)) }
 {

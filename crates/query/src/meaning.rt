@@ -10,7 +10,7 @@ ghost use Rattle.query.specs.View.{query_view};
 
 use crate::asked::Asked;
 use crate::query::{Operator, Query};
-use crate::terms::cut;
+use crate::terms::terms_of_value;
 use doc::{Doc, FieldValues, Kind, Mapping, Scalar};
 use std::alloc::{AllocError, Global};
 
@@ -230,7 +230,7 @@ fn some_token(
     name: &str,
     asked: Asked<'_>,
 ) -> Result<bool, AllocError>
-    ensures { IfOk result (λ b. b ≡ list_any (passes asked.entry) (flat_map spec.cut (values_at name.now (values_view fields.now)))) }
+    ensures { IfOk result (λ b. b ≡ list_any (passes asked.entry) (flat_map spec.terms_of_value (values_at name.now (values_view fields.now)))) }
 {
     for field in fields {
         if field.name.as_str() == name && some_token_of(alloc, &field.values, asked)? {
@@ -241,10 +241,10 @@ fn some_token(
 }
 
 fn some_token_of(alloc: Global, values: &[Scalar], asked: Asked<'_>) -> Result<bool, AllocError>
-    ensures { IfOk result (λ b. b ≡ list_any (passes asked.entry) (flat_map spec.cut (scalars_view values.now))) }
+    ensures { IfOk result (λ b. b ≡ list_any (passes asked.entry) (flat_map spec.terms_of_value (scalars_view values.now))) }
 {
     for value in values {
-        let terms = cut(alloc, value)?;
+        let terms = terms_of_value(alloc, value)?;
         if some_passes(&terms, asked) {
             return Ok(true);
         }

@@ -9,8 +9,8 @@ use doc::Scalar;
 use std::alloc::{AllocError, Global};
 
 /// The terms of one value of a text field: the tokens of a text.
-pub(crate) fn cut(alloc: Global, value: &Scalar) -> Result<Vec<Scalar>, AllocError>
-    ensures { IfOk result (λ v. scalars_view v.items ≡ spec.cut (scalar_view value.now)) }
+pub(crate) fn terms_of_value(alloc: Global, value: &Scalar) -> Result<Vec<Scalar>, AllocError>
+    ensures { IfOk result (λ v. scalars_view v.items ≡ spec.terms_of_value (scalar_view value.now)) }
 {
     match value {
         Scalar::Text(text) => token_terms(alloc, text.as_str()),
@@ -20,7 +20,7 @@ pub(crate) fn cut(alloc: Global, value: &Scalar) -> Result<Vec<Scalar>, AllocErr
 }
 
 fn token_terms(alloc: Global, text: &str) -> Result<Vec<Scalar>, AllocError>
-    ensures { IfOk result (λ v. scalars_view v.items ≡ spec.cut (spec_text text.now)) }
+    ensures { IfOk result (λ v. scalars_view v.items ≡ spec.terms_of_value (spec_text text.now)) }
 {
     let mut terms = Vec::new(alloc);
     for token in tokens(alloc, text)? {

@@ -76,7 +76,7 @@ module _ (c : Copy) (from : ℕ) (g : ℤ) (o : Op) where
   new_within within = rw within refl
 
   -- an operation that is refused for its size alone
-  pub new_spelled : (p : Planned) (r : Result Planned CopyFault) → nat_le (local_count (operations c) + 1024) o.seq ≡ false → IsFollower c.role → p.kept ≡ Kept g o → stepped_by c p ≡ op_gives c from g o
+  pub new_spelled : (p : Planned) (r : Result Planned CopyFault) → nat_le (local_count (operations c) + 1024) o.seq ≡ false → IsFollower c.role → p.next_record ≡ Kept g o → stepped_by c p ≡ op_gives c from g o
       → Gives fault_of (λ (x : Planned). x) r (spelled p) → Gives fault_of (stepped_by c) r (settled (take_new c from g o))
   new_spelled p r within follows kept gives sized =
       subst (λ (step : Step). Gives fault_of (stepped_by c) r step) (ap (λ (x : Record). settled (unless (spellable x) (ok (op_gives c from g o)))) kept ∙ ap settled (sym (new_within within)))
@@ -93,7 +93,7 @@ module _ (c : Copy) (from term : ℕ) (g : ℤ) (tail : List Op) where
   unfolding unless
   resync_within new within = rw (new, within) refl
 
-  pub resync_spelled : (p : Planned) (r : Result Planned CopyFault) → (term == c.term) ≡ false → nat_lt (local_count (operations c)) (known g) ≡ false → p.kept ≡ Resynced term g tail → stepped_by c p ≡ resync_gives c from term g tail
+  pub resync_spelled : (p : Planned) (r : Result Planned CopyFault) → (term == c.term) ≡ false → nat_lt (local_count (operations c)) (known g) ≡ false → p.next_record ≡ Resynced term g tail → stepped_by c p ≡ resync_gives c from term g tail
       → Gives fault_of (λ (x : Planned). x) r (spelled p) → Gives fault_of (stepped_by c) r (settled (take_resync c from term g tail (term == c.term)))
   resync_spelled p r new within kept gives sized =
       subst (λ (step : Step). Gives fault_of (stepped_by c) r step) (ap (λ (x : Record). settled (unless (spellable x) (ok (resync_gives c from term g tail)))) kept ∙ ap settled (sym (resync_within new within)))
@@ -104,7 +104,7 @@ module _ (c : Copy) (from term : ℕ) (g : ℤ) (tail : List Op) where
   resync_local up is there = ap local_checkpoint (operations-Resync c.records term g tail) ∙ ap checkpoint_of (local_count-resynced (known g) (operations c) tail up there is.2.runs)
 
   pub resync_found : IsAscending (operations c) → IsRecord (Resynced term g tail) → known g ≤ local_count (operations c) →
-      stepped_by c (record { kept = Resynced term g tail; term = term; known = max c.known (known g); role = Replica; output = record { answer = Taken; sent = ack_all_of c.id from term (known g + length tail) ∷ []; acknowledged = []; members = 0 } }) ≡ resync_gives c from term g tail
+      stepped_by c (record { next_record = Resynced term g tail; term = term; known = max c.known (known g); role = Replica; output = record { answer = Taken; sent = ack_all_of c.id from term (known g + length tail) ∷ []; acknowledged = []; members = 0 } }) ≡ resync_gives c from term g tail
   resync_found up is there = rw (resync_local up is there) refl
 
 -- ---- recoveries
@@ -122,7 +122,7 @@ module _ (c : Copy) (from term : ℕ) where
   recover_same stands same = ap settled (again same) ∙ settled_done c Repeated _ stands
 
   module _ (all : List Op) where
-    pub recover_spelled : (p : Planned) (r : Result Planned CopyFault) → c.role ≡ Empty → p.kept ≡ Recovered term all → stepped_by c p ≡ recover_gives c from term all
+    pub recover_spelled : (p : Planned) (r : Result Planned CopyFault) → c.role ≡ Empty → p.next_record ≡ Recovered term all → stepped_by c p ≡ recover_gives c from term all
         → Gives fault_of (λ (x : Planned). x) r (spelled p) → Gives fault_of (stepped_by c) r (settled (take_recover c from term all c.role))
     recover_spelled p r empty kept gives sized =
         subst (λ (step : Step). Gives fault_of (stepped_by c) r step) (ap (λ (x : Record). settled (unless (spellable x) (ok (recover_gives c from term all)))) kept ∙ ap (λ (role : Role). settled (take_recover c from term all role)) (sym empty))
@@ -132,5 +132,5 @@ module _ (c : Copy) (from term : ℕ) where
     recover_local is = ap local_checkpoint (operations-Recover c.records term all) ∙ ap checkpoint_of (local_count-recovered all is.1.runs)
 
     pub recover_found : IsRecord (Recovered term all) →
-        stepped_by c (record { kept = Recovered term all; term = term; known = c.known; role = Replica; output = record { answer = Taken; sent = recovery_of c.id from term (length all); acknowledged = []; members = 0 } }) ≡ recover_gives c from term all
+        stepped_by c (record { next_record = Recovered term all; term = term; known = c.known; role = Replica; output = record { answer = Taken; sent = recovery_of c.id from term (length all); acknowledged = []; members = 0 } }) ≡ recover_gives c from term all
     recover_found is = rw (recover_local is) refl

@@ -40,7 +40,7 @@ module _ (c : Copy) (term : ℕ) (set : List ℕ) where
   unfolding unless
   promoted_whole new whole = rw (new, whole) refl
 
-  pub promoted_spelled : (p : Planned) (r : Result Planned CopyFault) → (term == c.term) ≡ false → is_record (resync_of c term) ≡ true → p.kept ≡ resync_of c term → stepped_by c p ≡ promotion_gives c term set
+  pub promoted_spelled : (p : Planned) (r : Result Planned CopyFault) → (term == c.term) ≡ false → is_record (resync_of c term) ≡ true → p.next_record ≡ resync_of c term → stepped_by c p ≡ promotion_gives c term set
       → Gives fault_of (λ (x : Planned). x) r (spelled p) → Gives fault_of (stepped_by c) r (settled (take_promoted c term set (term == c.term)))
   promoted_spelled p r new whole kept gives sized =
       subst (λ (step : Step). Gives fault_of (stepped_by c) r step) (ap (λ (x : Record). settled (unless (spellable x) (ok c term set))) kept ∙ ap settled (sym (promoted_whole new whole)))

@@ -47,8 +47,8 @@ large_or r s true is = rw is refl
 large_or r s false is = rw is refl
 
 -- a step that is refused for the size of its record alone
-pub spelled_step : (c : Copy) (p : Planned) (r : Result Planned CopyFault) (s : Step) → Gives fault_of (λ (x : Planned). x) r (spelled p) → settled s ≡ Ok (stepped_by c p) → Gives fault_of (stepped_by c) r (settled (unless (spellable p.kept) s))
-spelled_step c p r s gives is = subst (λ (step : Step). Gives fault_of (stepped_by c) r step) (sym (large_or p.kept s (is_too_large p.kept) refl)) (on (is_too_large p.kept) r gives)
+pub spelled_step : (c : Copy) (p : Planned) (r : Result Planned CopyFault) (s : Step) → Gives fault_of (λ (x : Planned). x) r (spelled p) → settled s ≡ Ok (stepped_by c p) → Gives fault_of (stepped_by c) r (settled (unless (spellable p.next_record) s))
+spelled_step c p r s gives is = subst (λ (step : Step). Gives fault_of (stepped_by c) r step) (sym (large_or p.next_record s (is_too_large p.next_record) refl)) (on (is_too_large p.next_record) r gives)
   where
     on : (b : Bool) (r : Result Planned CopyFault) → Gives fault_of (λ (x : Planned). x) r (if b then Err Exhausted else Ok p) → Gives fault_of (stepped_by c) r (if b then Err Exhausted else settled s)
     on true (Ok q) h = absurd cc

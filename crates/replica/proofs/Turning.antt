@@ -14,7 +14,8 @@ use Rattle.replica.specs.declared.role.Lead.{Lead}
 use Rattle.replica.specs.declared.role.Role.{Role}
 use Rattle.replica.specs.declared.role.Role.TheVariants.{Primary}
 use Rattle.replica.specs.Copy.{Copy, operations}
-use Rattle.replica.specs.Acks.{acks_of, marked}
+use Rattle.replica.specs.Acks.{acks_of}
+use Rattle.checkpoint.specs.Numbers.{marked}
 use Rattle.replica.specs.Planned.{turned_step}
 use Rattle.replica.specs.Standing.{IsStanding}
 use Rattle.replica.specs.Step.{Step, done, message, settled, unless, first_fault, report, ack_faults, take_ack, take_marked, take_track, take_removed}

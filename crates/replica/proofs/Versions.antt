@@ -1,5 +1,5 @@
 -- The versions that writes give.
-use Rattle.std.proofs.Common.{◌≡◌, ◌<◌, suc, Some, refl, sym, ap, ◌∙◌, arith}
+use Rattle.std.proofs.Common.{◌≡◌, ◌<◌, ◌++◌, suc, Some, refl, sym, ap, ◌∙◌, arith}
 use Rattle.std.specs.Prelude.{⊤, Result, Ok, Err, is_some}
 use Rattle.doc.specs.Outcome.{◌>>=◌}
 use Rattle.op.specs.declared.operation.Op.{Op}
@@ -12,7 +12,7 @@ use Rattle.replica.specs.declared.output.Written.{Written}
 use Rattle.replica.specs.declared.role.Role.{Role}
 use Rattle.replica.specs.declared.role.Role.TheVariants.{Empty, Replica, Primary}
 use Rattle.replica.specs.Copy.{Copy, operations}
-use Rattle.replica.specs.Step.{Stepped, copy_step, client, settled, settled_as, unless, first_fault, write_faults, wrote, op_of, outcome_of, found_by}
+use Rattle.replica.specs.Step.{Stepped, copy_step, client, settled, settled_as, unless, first_fault, write_faults, spellable, wrote, record_of, op_of, outcome_of, found_by}
 
 same_answer : (s : Stepped) (role : Role) → (settled_as s role).answer ≡ s.answer
 same_answer s Empty = refl
@@ -28,7 +28,7 @@ write_answer : (c : Copy) (w : Write) (s : Stepped) (role : Role) → settled (c
 unfolding unless
 write_answer c w s Empty e = absurd cc
 write_answer c w s Replica e = absurd cc
-write_answer c w s (Primary lead) e = answered (first_fault (write_faults c w)) _ s e
+write_answer c w s (Primary lead) e = answered (first_fault (write_faults c w ++ spellable (record_of c (op_of c w)))) _ s e
 
 pub version_rises : (c : Copy) (w : Write) (s : Stepped) (written : Written) (o : Op) → copy_step c (Client w) ≡ Ok s → s.answer ≡ Wrote written → last_on (operations c) w.id ≡ Some o → o.version < written.version
 version_rises c w s written o e is last =

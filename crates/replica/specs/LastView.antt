@@ -1,9 +1,10 @@
 -- The last operation on an id, as the engine answers it.
+-- For proofs alone: no public contract rests on it.
 use Rattle.std.specs.Prelude.{ℕ, suc, Bool, true, false, not, ◌&&◌, ◌==◌, Option, Some, None}
 use Rattle.engine.specs.declared.engine.Last.{Last}
 use Rattle.replica.specs.declared.input.Condition.{Condition}
-use Rattle.replica.specs.declared.input.Kind.{Kind}
-use Rattle.replica.specs.declared.input.Kind.TheVariants.{Index, Create, Delete}
+use Rattle.replica.specs.declared.input.OpType.{OpType}
+use Rattle.replica.specs.declared.input.OpType.TheVariants.{Index, Create, Delete}
 
 -- the version after it
 abbrev pub version_of : Option Last → ℕ
@@ -22,7 +23,7 @@ is_met_by None (Some condition) = false
 is_met_by (Some last) (Some condition) = last.live && ((last.seq == condition.seq) && (last.term == condition.term))
 
 -- whether it allows a write
-abbrev pub is_allowed_by : Option Last → Kind → Bool
+abbrev pub is_allowed_by : Option Last → OpType → Bool
 is_allowed_by last (Index source condition) = is_met_by last condition
 is_allowed_by last (Create source) = not (is_live last)
 is_allowed_by last (Delete condition) = is_met_by last condition

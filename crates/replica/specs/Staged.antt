@@ -1,4 +1,5 @@
 -- A refresh or a restart that is ready.
+-- Contracts name it only in what `prepare` hands to `commit`.
 use Rattle.engine.specs.Contents.{Contents}
 use Rattle.engine.specs.Staged.{StagedData, records_of}
 use Rattle.replica.specs.declared.planned.Reopened.{Reopened}

@@ -11,7 +11,7 @@ use op::{Record, is_too_large};
 /// A step that keeps a record: the record, the term, the checkpoint and the role that it leaves, and what it gives.
 #[derive(Drop)]
 pub struct Planned {
-    pub(crate) kept: Record,
+    pub(crate) next_record: Record,
     pub(crate) term: u64,
     pub(crate) known: u64,
     pub(crate) role: Role,
@@ -27,10 +27,10 @@ impl Planned {
     pub(crate) fn spelled(self) -> Result<Planned, CopyFault>
         ensures gives { Gives fault_of (λ p. p) result (spelled self) }
         ensures same { IfOk result (λ p. p ≡ self) }
-        ensures small { IfOk result (λ p. is_too_large p.kept ≡ false) }
+        ensures small { IfOk result (λ p. is_too_large p.next_record ≡ false) }
         ensures no_log { IfErr result (λ e. is_log e ≡ false) }
     {
-        if is_too_large(&self.kept) {
+        if is_too_large(&self.next_record) {
             return Err(CopyFault::Exhausted);
         }
         Ok(self)
@@ -49,8 +49,8 @@ impl Settled {
     ghost use Rattle.replica.specs.Planned.{with_record};
 
     /// The same step with a record that it keeps, and the term that it leaves.
-    pub(crate) fn keeping(self, kept: Record, term: u64) -> Planned
-        ensures { result ≡ with_record self kept term }
+    pub(crate) fn keeping(self, next_record: Record, term: u64) -> Planned
+        ensures { result ≡ with_record self next_record term }
     {
         let Settled {
             known,
@@ -58,7 +58,7 @@ impl Settled {
             output,
         } = self;
         Planned {
-            kept,
+            next_record,
             term,
             known,
             role,

@@ -3,7 +3,7 @@ ghost use Rattle.std.specs.Prelude.{◌≡◌, ◌<◌, ◌^◌};
 ghost use Rattle.replica.specs.LastView as view;
 ghost use Rattle.replica.specs.Step.{body_of, is_number, outcome_of};
 
-use crate::input::{Condition, Kind, Write};
+use crate::input::{Condition, OpType, Write};
 use crate::output::Outcome;
 use engine::Last;
 use op::Body;
@@ -12,13 +12,13 @@ use op::Body;
 pub(crate) const GREATEST: u64 = 9_223_372_036_854_775_807;
 
 /// Whether the last operation allows the write.
-pub(crate) fn is_allowed(last: Option<Last>, kind: &Kind) -> bool
+pub(crate) fn is_allowed(last: Option<Last>, kind: &OpType) -> bool
     ensures { result ≡ view.is_allowed_by last kind.now }
 {
     match kind {
-        Kind::Index(_, condition) => is_met(last, *condition),
-        Kind::Create(_) => !is_live(last),
-        Kind::Delete(condition) => is_met(last, *condition),
+        OpType::Index(_, condition) => is_met(last, *condition),
+        OpType::Create(_) => !is_live(last),
+        OpType::Delete(condition) => is_met(last, *condition),
     }
 }
 
@@ -67,17 +67,17 @@ pub(crate) fn version_after(last: Option<Last>) -> u64
 }
 
 /// What the write makes of a document that is there or not.
-pub(crate) fn outcome(live: bool, kind: &Kind) -> Outcome
+pub(crate) fn outcome(live: bool, kind: &OpType) -> Outcome
     ensures { result ≡ outcome_of live kind.now }
 {
     match kind {
-        Kind::Index(_, _) => if live {
+        OpType::Index(_, _) => if live {
             Outcome::Updated
         } else {
             Outcome::Created
         },
-        Kind::Create(_) => Outcome::Created,
-        Kind::Delete(_) => if live {
+        OpType::Create(_) => Outcome::Created,
+        OpType::Delete(_) => if live {
             Outcome::Deleted
         } else {
             Outcome::NotFound
@@ -91,8 +91,8 @@ pub(crate) fn body(write: Write) -> Body
 {
     let Write { id, kind } = write;
     match kind {
-        Kind::Index(source, _) => Body::Index(id, source),
-        Kind::Create(source) => Body::Index(id, source),
-        Kind::Delete(_) => Body::Delete(id),
+        OpType::Index(source, _) => Body::Index(id, source),
+        OpType::Create(source) => Body::Index(id, source),
+        OpType::Delete(_) => Body::Delete(id),
     }
 }

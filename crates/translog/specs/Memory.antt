@@ -1,4 +1,5 @@
 -- A device in memory.
+-- For proofs alone: no public contract rests on it.
 use Rattle.std.specs.Prelude.{ℕ, ◌-◌, vec_len, vec_capacity}
 use Rattle.translog.specs.declared.memory.MemDevice.{MemDevice}
 

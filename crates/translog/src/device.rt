@@ -30,7 +30,7 @@ impl From<AllocError> for DeviceFault {
 /// A list of bytes that grows at its end, in memory or in a file. Each call that fails is counted once, and no other.
 pub trait LogDevice: Drop {
     /// The bytes that it holds.
-    ghost held: { Self → List ℕ };
+    ghost bytes: { Self → List ℕ };
 
     /// How many bytes the room that was made takes.
     ghost room: { Self → ℕ };
@@ -43,28 +43,28 @@ pub trait LogDevice: Drop {
 
     /// Makes room for so many bytes more. A device that isn't in memory has nothing to do.
     fn reserve(&mut self, additional: usize) -> Result<(), AllocError>
-        ensures held { held self.new ≡ held self.old }
+        ensures bytes { bytes self.new ≡ bytes self.old }
         ensures failures { failures self.new ≡ failures self.old }
         ensures room { OnOk result (additional ≤ room self.new) };
 
     /// Adds a piece at the end, for good: at `Ok` it is there after a crash too. Where it fails, a front of the piece may be added.
     fn append(&mut self, piece: &[u8]) -> Result<(), Failed>
-        ensures ok { OnOk result (held self.new ≡ held self.old ++ piece.now) }
-        ensures err { OnErr result (AddsFront (held self.old) piece.now (held self.new)) }
+        ensures ok { OnOk result (bytes self.new ≡ bytes self.old ++ piece.now) }
+        ensures err { OnErr result (AddsFront (bytes self.old) piece.now (bytes self.new)) }
         ensures counts { failures self.new ≡ count_after (is_err result) (failures self.old) }
         ensures in_memory { in_memory ≡ true → length piece.now ≤ room self.old → IsOk result };
 
     /// All its bytes.
     fn read_all(&mut self, alloc: Global) -> Result<Vec<u8>, DeviceFault>
-        ensures bytes { IfOk result (λ bytes. bytes.items ≡ held self.old) }
-        ensures held { held self.new ≡ held self.old }
+        ensures all { IfOk result (λ found. found.items ≡ bytes self.old) }
+        ensures bytes { bytes self.new ≡ bytes self.old }
         ensures counts { failures self.new ≡ count_after (errs_with is_failed result) (failures self.old) }
         ensures in_memory { in_memory ≡ true → IsErrOf result Broken → ⊥ };
 
     /// Keeps its first bytes, so many, and drops the others. Where it fails, all of them or those are left.
     fn cut(&mut self, len: usize) -> Result<(), Failed>
-        ensures ok { OnOk result (held self.new ≡ take len (held self.old)) }
-        ensures err { OnErr result ((held self.new ≡ held self.old) ⊎ (held self.new ≡ take len (held self.old))) }
+        ensures ok { OnOk result (bytes self.new ≡ take len (bytes self.old)) }
+        ensures err { OnErr result ((bytes self.new ≡ bytes self.old) ⊎ (bytes self.new ≡ take len (bytes self.old))) }
         ensures counts { failures self.new ≡ count_after (is_err result) (failures self.old) }
         ensures room { room self.old ≤ room self.new }
         ensures in_memory { in_memory ≡ true → IsOk result };

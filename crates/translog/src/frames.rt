@@ -95,9 +95,9 @@ impl<D: LogDevice> Frames<D> {
         header: [u8; 4],
         device: D,
     ) -> Result<(Frames<D>, Vec<Vec<u8>>), Refused<D, LogFault>>
-        ensures found { Gives (λ r. fault_of r.fault) (λ x. map (λ c. c.items) x.1.items) result (contents_in header (D.held device)) }
-        ensures opened { IfOk result (λ x. IsOpened header (D.held device) (D.held x.0.device) (map (λ c. c.items) x.1.items) (D.failures device) (D.failures x.0.device)) }
-        ensures refused { IfErr result (λ r. IsUnopened (is_device r.fault) header (D.held device) (D.held r.device) (D.failures device) (D.failures r.device)) }
+        ensures found { Gives (λ r. fault_of r.fault) (λ x. map (λ c. c.items) x.1.items) result (contents_in header (D.bytes device)) }
+        ensures opened { IfOk result (λ x. IsOpened header (D.bytes device) (D.bytes x.0.device) (map (λ c. c.items) x.1.items) (D.failures device) (D.failures x.0.device)) }
+        ensures refused { IfErr result (λ r. IsUnopened (is_device r.fault) header (D.bytes device) (D.bytes r.device) (D.failures device) (D.failures r.device)) }
         ensures offsets { IfOk result (λ x. 4 + length (flat_map framed (map (λ c. c.items) x.1.items)) < 2 ^ 64) }
         ensures header { IfOk result (λ x. x.0.header ≡ header) }
         ensures in_memory { D.in_memory ≡ true → IfErr result (λ r. is_device r.fault ≡ false) }
@@ -114,9 +114,9 @@ impl<D: LogDevice> Frames<D> {
 
     /// Opens the log again, as after a failed `append`: `read` and then `mend`.
     pub fn reopen(&mut self, alloc: Global) -> Result<Vec<Vec<u8>>, LogFault>
-        ensures found { Gives fault_of (λ cs. map (λ c. c.items) cs.items) result (contents_in self.old.header (D.held self.old.device)) }
-        ensures opened { IfOk result (λ cs. IsOpened self.old.header (D.held self.old.device) (D.held self.new.device) (map (λ c. c.items) cs.items) (D.failures self.old.device) (D.failures self.new.device)) }
-        ensures refused { IfErr result (λ e. IsUnopened (is_device e) self.old.header (D.held self.old.device) (D.held self.new.device) (D.failures self.old.device) (D.failures self.new.device)) }
+        ensures found { Gives fault_of (λ cs. map (λ c. c.items) cs.items) result (contents_in self.old.header (D.bytes self.old.device)) }
+        ensures opened { IfOk result (λ cs. IsOpened self.old.header (D.bytes self.old.device) (D.bytes self.new.device) (map (λ c. c.items) cs.items) (D.failures self.old.device) (D.failures self.new.device)) }
+        ensures refused { IfErr result (λ e. IsUnopened (is_device e) self.old.header (D.bytes self.old.device) (D.bytes self.new.device) (D.failures self.old.device) (D.failures self.new.device)) }
         ensures offsets { IfOk result (λ cs. 4 + length (flat_map framed (map (λ c. c.items) cs.items)) < 2 ^ 64) }
         ensures header { self.new.header ≡ self.old.header }
         ensures in_memory { D.in_memory ≡ true → IfErr result (λ e. is_device e ≡ false) }
@@ -129,11 +129,11 @@ impl<D: LogDevice> Frames<D> {
     /// The contents of the log's whole frames, and what is torn beside them. No byte changes. A length that is damaged so that it passes the
     /// end can't be told from a torn frame.
     pub fn read(&mut self, alloc: Global) -> Result<(Vec<Vec<u8>>, Torn), LogFault>
-        ensures found { Gives fault_of (λ x. map (λ c. c.items) x.0.items) result (contents_in self.old.header (D.held self.old.device)) }
-        ensures torn { IfOk result (λ x. IsTorn self.old.header (D.held self.old.device) (map (λ c. c.items) x.0.items) x.1) }
+        ensures found { Gives fault_of (λ x. map (λ c. c.items) x.0.items) result (contents_in self.old.header (D.bytes self.old.device)) }
+        ensures torn { IfOk result (λ x. IsTorn self.old.header (D.bytes self.old.device) (map (λ c. c.items) x.0.items) x.1) }
         ensures offsets { IfOk result (λ x. 4 + length (flat_map framed (map (λ c. c.items) x.0.items)) < 2 ^ 64) }
         ensures header { self.new.header ≡ self.old.header }
-        ensures held { D.held self.new.device ≡ D.held self.old.device }
+        ensures held { D.bytes self.new.device ≡ D.bytes self.old.device }
         ensures counts { D.failures self.new.device ≡ count_after (errs_with is_device result) (D.failures self.old.device) }
         ensures in_memory { D.in_memory ≡ true → IfErr result (λ e. is_device e ≡ false) }
     {
@@ -142,10 +142,10 @@ impl<D: LogDevice> Frames<D> {
 
     /// Cuts off the torn end that `read` found, or writes the header anew. Want of memory comes for the header alone, before a byte changes.
     pub fn mend(&mut self, torn: Torn) -> Result<(), LogFault>
-        requires { (contents : List (List ℕ)) × IsTorn self.old.header (D.held self.old.device) contents torn }
-        ensures ok { OnOk result (D.held self.new.device ≡ mended self.old.header (D.held self.old.device) torn) }
+        requires { (contents : List (List ℕ)) × IsTorn self.old.header (D.bytes self.old.device) contents torn }
+        ensures ok { OnOk result (D.bytes self.new.device ≡ mended self.old.header (D.bytes self.old.device) torn) }
         ensures counts { OnOk result (D.failures self.new.device ≡ D.failures self.old.device) }
-        ensures refused { IfErr result (λ e. IsUnopened (is_device e) self.old.header (D.held self.old.device) (D.held self.new.device) (D.failures self.old.device) (D.failures self.new.device)) }
+        ensures refused { IfErr result (λ e. IsUnopened (is_device e) self.old.header (D.bytes self.old.device) (D.bytes self.new.device) (D.failures self.old.device) (D.failures self.new.device)) }
         ensures cause { IfErr result (λ e. fault_of e ≡ None) }
         ensures header { self.new.header ≡ self.old.header }
         ensures in_memory { D.in_memory ≡ true → IfErr result (λ e. is_device e ≡ false) }
@@ -158,7 +158,7 @@ impl<D: LogDevice> Frames<D> {
         ensures frame { Gives fault_of (λ f. f) result (frame_of content.now) }
         ensures room { IfOk result (λ f. length f ≤ D.room self.new.device) }
         ensures header { self.new.header ≡ self.old.header }
-        ensures held { D.held self.new.device ≡ D.held self.old.device }
+        ensures held { D.bytes self.new.device ≡ D.bytes self.old.device }
         ensures failures { D.failures self.new.device ≡ D.failures self.old.device }
         ensures no_failure { IfErr result (λ e. is_device e ≡ false) }
     {
@@ -169,8 +169,8 @@ impl<D: LogDevice> Frames<D> {
 
     /// Adds the frame that was prepared last. It takes no memory. At `Err` the log is to be opened again.
     pub fn append(&mut self, frame: Frame) -> Result<(), LogFault>
-        ensures ok { OnOk result (D.held self.new.device ≡ D.held self.old.device ++ frame) }
-        ensures err { OnErr result (AddsFront (D.held self.old.device) frame (D.held self.new.device)) }
+        ensures ok { OnOk result (D.bytes self.new.device ≡ D.bytes self.old.device ++ frame) }
+        ensures err { OnErr result (AddsFront (D.bytes self.old.device) frame (D.bytes self.new.device)) }
         ensures cause { IfErr result (λ e. e ≡ Device) }
         ensures counts { D.failures self.new.device ≡ count_after (is_err result) (D.failures self.old.device) }
         ensures in_memory { D.in_memory ≡ true → length frame ≤ D.room self.old.device → IsOk result }
@@ -204,10 +204,10 @@ fn scanned<D: LogDevice>(
     header: &[u8; 4],
     device: &mut D,
 ) -> Result<(Vec<Vec<u8>>, Torn), LogFault>
-    ensures found { Gives fault_of (λ x. map (λ c. c.items) x.0.items) result (contents_in header.now (D.held device.old)) }
-    ensures torn { IfOk result (λ x. IsTorn header.now (D.held device.old) (map (λ c. c.items) x.0.items) x.1) }
+    ensures found { Gives fault_of (λ x. map (λ c. c.items) x.0.items) result (contents_in header.now (D.bytes device.old)) }
+    ensures torn { IfOk result (λ x. IsTorn header.now (D.bytes device.old) (map (λ c. c.items) x.0.items) x.1) }
     ensures offsets { IfOk result (λ x. 4 + length (flat_map framed (map (λ c. c.items) x.0.items)) < 2 ^ 64) }
-    ensures held { D.held device.new ≡ D.held device.old }
+    ensures held { D.bytes device.new ≡ D.bytes device.old }
     ensures counts { D.failures device.new ≡ count_after (errs_with is_device result) (D.failures device.old) }
     ensures in_memory { D.in_memory ≡ true → IfErr result (λ e. is_device e ≡ false) }
 {
@@ -217,8 +217,8 @@ fn scanned<D: LogDevice>(
 
 /// All the bytes of a device.
 fn read<D: LogDevice>(alloc: Global, device: &mut D) -> Result<Vec<u8>, LogFault>
-    ensures bytes { IfOk result (λ bytes. bytes.items ≡ D.held device.old) }
-    ensures held { D.held device.new ≡ D.held device.old }
+    ensures bytes { IfOk result (λ bytes. bytes.items ≡ D.bytes device.old) }
+    ensures held { D.bytes device.new ≡ D.bytes device.old }
     ensures cause { IfErr result (λ e. fault_of e ≡ None) }
     ensures counts { D.failures device.new ≡ count_after (errs_with is_device result) (D.failures device.old) }
     ensures in_memory { D.in_memory ≡ true → IfErr result (λ e. is_device e ≡ false) }
@@ -308,10 +308,10 @@ fn split(alloc: Global, bytes: &[u8]) -> Result<(Vec<Vec<u8>>, &[u8]), AllocErro
 
 /// Cuts off a torn end, or writes a torn header anew.
 fn mend<D: LogDevice>(header: &[u8; 4], device: &mut D, torn: Torn) -> Result<(), LogFault>
-    requires { (contents : List (List ℕ)) × IsTorn header.now (D.held device.old) contents torn }
-    ensures ok { OnOk result (D.held device.new ≡ mended header.now (D.held device.old) torn) }
+    requires { (contents : List (List ℕ)) × IsTorn header.now (D.bytes device.old) contents torn }
+    ensures ok { OnOk result (D.bytes device.new ≡ mended header.now (D.bytes device.old) torn) }
     ensures counts { OnOk result (D.failures device.new ≡ D.failures device.old) }
-    ensures refused { IfErr result (λ e. IsUnopened (is_device e) header.now (D.held device.old) (D.held device.new) (D.failures device.old) (D.failures device.new)) }
+    ensures refused { IfErr result (λ e. IsUnopened (is_device e) header.now (D.bytes device.old) (D.bytes device.new) (D.failures device.old) (D.failures device.new)) }
     ensures cause { IfErr result (λ e. fault_of e ≡ None) }
     ensures in_memory { D.in_memory ≡ true → IfErr result (λ e. is_device e ≡ false) }
 {
@@ -327,10 +327,10 @@ fn mend<D: LogDevice>(header: &[u8; 4], device: &mut D, torn: Torn) -> Result<()
 
 /// Writes the header of a log that has none, or a part of it.
 fn write_header<D: LogDevice>(header: &[u8; 4], device: &mut D) -> Result<(), LogFault>
-    requires { (m : ℕ) × (m < 4) × (D.held device.old ≡ take m header.now) }
-    ensures ok { OnOk result (D.held device.new ≡ header.now) }
+    requires { (m : ℕ) × (m < 4) × (D.bytes device.old ≡ take m header.now) }
+    ensures ok { OnOk result (D.bytes device.new ≡ header.now) }
     ensures counts { OnOk result (D.failures device.new ≡ D.failures device.old) }
-    ensures refused { IfErr result (λ e. IsUnopened (is_device e) header.now (D.held device.old) (D.held device.new) (D.failures device.old) (D.failures device.new)) }
+    ensures refused { IfErr result (λ e. IsUnopened (is_device e) header.now (D.bytes device.old) (D.bytes device.new) (D.failures device.old) (D.failures device.new)) }
     ensures cause { IfErr result (λ e. fault_of e ≡ None) }
     ensures in_memory { D.in_memory ≡ true → IfErr result (λ e. is_device e ≡ false) }
 {

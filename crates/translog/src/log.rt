@@ -56,11 +56,11 @@ impl<D: LogDevice> Translog<D> {
         alloc: Global,
         device: D,
     ) -> Result<(Translog<D>, Vec<Record>), Refused<D, LogFault>>
-        ensures found { Gives (λ r. fault_of r.fault) (λ x. x.1.items) result (kept (D.held device)) }
-        ensures whole { IfOk result (λ x. IsTranslog (D.held x.0) x.1.items) }
+        ensures found { Gives (λ r. fault_of r.fault) (λ x. x.1.items) result (kept (D.bytes device)) }
+        ensures whole { IfOk result (λ x. IsTranslog (D.bytes x.0) x.1.items) }
         ensures rules { IfOk result (λ x. All IsRecord x.1.items) }
-        ensures opened { IfOk result (λ x. IsOpened header (D.held device) (D.held x.0) (map spelling x.1.items) (D.failures device) (D.failures x.0)) }
-        ensures refused { IfErr result (λ r. IsUnopened (is_device r.fault) header (D.held device) (D.held r.device) (D.failures device) (D.failures r.device)) }
+        ensures opened { IfOk result (λ x. IsOpened header (D.bytes device) (D.bytes x.0) (map spelling x.1.items) (D.failures device) (D.failures x.0)) }
+        ensures refused { IfErr result (λ r. IsUnopened (is_device r.fault) header (D.bytes device) (D.bytes r.device) (D.failures device) (D.failures r.device)) }
         ensures in_memory { D.in_memory ≡ true → IfErr result (λ r. is_device r.fault ≡ false) }
     {
         let mut log = Translog::over(device);
@@ -75,11 +75,11 @@ impl<D: LogDevice> Translog<D> {
 
     /// Opens it again, as after a failed `append`: `read` and then `mend`.
     pub fn reopen(&mut self, alloc: Global) -> Result<Vec<Record>, LogFault>
-        ensures found { Gives fault_of (λ rs. rs.items) result (kept (D.held self.old)) }
-        ensures whole { IfOk result (λ rs. IsTranslog (D.held self.new) rs.items) }
+        ensures found { Gives fault_of (λ rs. rs.items) result (kept (D.bytes self.old)) }
+        ensures whole { IfOk result (λ rs. IsTranslog (D.bytes self.new) rs.items) }
         ensures rules { IfOk result (λ rs. All IsRecord rs.items) }
-        ensures opened { IfOk result (λ rs. IsOpened header (D.held self.old) (D.held self.new) (map spelling rs.items) (D.failures self.old) (D.failures self.new)) }
-        ensures refused { IfErr result (λ e. IsUnopened (is_device e) header (D.held self.old) (D.held self.new) (D.failures self.old) (D.failures self.new)) }
+        ensures opened { IfOk result (λ rs. IsOpened header (D.bytes self.old) (D.bytes self.new) (map spelling rs.items) (D.failures self.old) (D.failures self.new)) }
+        ensures refused { IfErr result (λ e. IsUnopened (is_device e) header (D.bytes self.old) (D.bytes self.new) (D.failures self.old) (D.failures self.new)) }
         ensures in_memory { D.in_memory ≡ true → IfErr result (λ e. is_device e ≡ false) }
     {
         let (records, torn) = self.read(alloc)?;
@@ -90,11 +90,11 @@ impl<D: LogDevice> Translog<D> {
     /// The records that the translog keeps, and what is torn beside them. No byte changes. Else `BadMagic`, or `Damaged` with the offset of
     /// the first whole frame that isn't a record.
     pub fn read(&mut self, alloc: Global) -> Result<(Vec<Record>, Torn), LogFault>
-        ensures found { Gives fault_of (λ x. x.0.items) result (kept (D.held self.old)) }
-        ensures torn { IfOk result (λ x. IsTorn header (D.held self.old) (map spelling x.0.items) x.1) }
-        ensures whole { IfOk result (λ x. IsTranslog (mended header (D.held self.old) x.1) x.0.items) }
+        ensures found { Gives fault_of (λ x. x.0.items) result (kept (D.bytes self.old)) }
+        ensures torn { IfOk result (λ x. IsTorn header (D.bytes self.old) (map spelling x.0.items) x.1) }
+        ensures whole { IfOk result (λ x. IsTranslog (mended header (D.bytes self.old) x.1) x.0.items) }
         ensures rules { IfOk result (λ x. All IsRecord x.0.items) }
-        ensures held { D.held self.new ≡ D.held self.old }
+        ensures held { D.bytes self.new ≡ D.bytes self.old }
         ensures counts { D.failures self.new ≡ count_after (errs_with is_device result) (D.failures self.old) }
         ensures in_memory { D.in_memory ≡ true → IfErr result (λ e. is_device e ≡ false) }
     {
@@ -105,10 +105,10 @@ impl<D: LogDevice> Translog<D> {
 
     /// Cuts off the torn end that `read` found, or writes the header anew. Want of memory comes for the header alone, before a byte changes.
     pub fn mend(&mut self, torn: Torn) -> Result<(), LogFault>
-        requires { (contents : List (List ℕ)) × IsTorn header (D.held self.old) contents torn }
-        ensures ok { OnOk result (D.held self.new ≡ mended header (D.held self.old) torn) }
+        requires { (contents : List (List ℕ)) × IsTorn header (D.bytes self.old) contents torn }
+        ensures ok { OnOk result (D.bytes self.new ≡ mended header (D.bytes self.old) torn) }
         ensures counts { OnOk result (D.failures self.new ≡ D.failures self.old) }
-        ensures refused { IfErr result (λ e. IsUnopened (is_device e) header (D.held self.old) (D.held self.new) (D.failures self.old) (D.failures self.new)) }
+        ensures refused { IfErr result (λ e. IsUnopened (is_device e) header (D.bytes self.old) (D.bytes self.new) (D.failures self.old) (D.failures self.new)) }
         ensures cause { IfErr result (λ e. fault_of e ≡ None) }
         ensures in_memory { D.in_memory ≡ true → IfErr result (λ e. is_device e ≡ false) }
     {
@@ -121,7 +121,7 @@ impl<D: LogDevice> Translog<D> {
         ensures frame { Gives fault_of (λ f. f) result (record_frame entry.now) }
         ensures spelt { OnOk result (IsSpelt entry.now) }
         ensures room { IfOk result (λ f. length f ≤ D.room self.new) }
-        ensures held { D.held self.new ≡ D.held self.old }
+        ensures held { D.bytes self.new ≡ D.bytes self.old }
         ensures failures { D.failures self.new ≡ D.failures self.old }
         ensures no_failure { IfErr result (λ e. is_device e ≡ false) }
     {
@@ -132,8 +132,8 @@ impl<D: LogDevice> Translog<D> {
     /// Adds the frame that was prepared last. It takes no memory. At `Err` the translog is to be opened again, and gives its records with the
     /// new one or without it.
     pub fn append(&mut self, frame: Frame) -> Result<(), LogFault>
-        ensures ok { OnOk result (D.held self.new ≡ D.held self.old ++ frame) }
-        ensures err { OnErr result (AddsFront (D.held self.old) frame (D.held self.new)) }
+        ensures ok { OnOk result (D.bytes self.new ≡ D.bytes self.old ++ frame) }
+        ensures err { OnErr result (AddsFront (D.bytes self.old) frame (D.bytes self.new)) }
         ensures cause { IfErr result (λ e. e ≡ Device) }
         ensures counts { D.failures self.new ≡ count_after (is_err result) (D.failures self.old) }
         ensures in_memory { D.in_memory ≡ true → length frame ≤ D.room self.old → IsOk result }

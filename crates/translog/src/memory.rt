@@ -30,7 +30,7 @@ impl MemDevice {
 }
 
 impl LogDevice for MemDevice {
-    ghost held = { λ m. m.bytes.items };
+    ghost bytes = { λ m. m.bytes.items };
 
     ghost room = { λ m. spare m };
 

@@ -2,7 +2,7 @@
 
 use crate::devices::Faulty;
 use doc::{DocId, Mapping, Source};
-use replica::{Answer, Copy, CopyFault, Input, Kind, Output, Write};
+use replica::{Answer, Copy, CopyFault, Input, OpType, Output, Write};
 use serde_json::Value;
 use std::alloc::Global;
 use std::test::Fail;
@@ -17,7 +17,7 @@ fn input(alloc: Global, is_restart: bool) -> Result<Input, Fail> {
         return Ok(Input::Restart);
     }
     let id = DocId::new(alloc, "a")?;
-    let kind = Kind::Index(Source::new(alloc, "{}")?, None);
+    let kind = OpType::Index(Source::new(alloc, "{}")?, None);
     Ok(Input::Write(Write { id, kind }))
 }
 

@@ -34,7 +34,7 @@ fn is_bad(calls: &mut usize, bad: (usize, usize)) -> bool {
 }
 
 impl LogDevice for Faulty {
-    ghost held = { λ d. d.bytes.items };
+    ghost bytes = { λ d. d.bytes.items };
 
     ghost room = { λ d. vec_capacity d.bytes - vec_len d.bytes };
 

@@ -4,7 +4,7 @@ ghost use Rattle.std.specs.Prelude.{◌<◌};
 
 use doc::{DocId, Mapping, Source};
 use op::{Content, CopyIds, Msg};
-use replica::{Answer, Birth, Copy, CopyFault, Input, Kind, Output, Write};
+use replica::{Answer, Birth, Copy, CopyFault, Input, OpType, Output, Write};
 use serde_json::Value;
 use std::alloc::{AllocError, Global};
 use std::test::Fail;
@@ -40,7 +40,7 @@ fn added(alloc: Global, id: u32) -> Result<InMemory, Fail> {
 /// A write of `{}` at `a`.
 fn put(alloc: Global) -> Result<Input, Fail> {
     let id = DocId::new(alloc, "a")?;
-    let kind = Kind::Index(Source::new(alloc, "{}")?, None);
+    let kind = OpType::Index(Source::new(alloc, "{}")?, None);
     Ok(Input::Write(Write { id, kind }))
 }
 

@@ -5,7 +5,7 @@ ghost use Rattle.op.specs.Records.{IsRecord};
 use doc::{DocId, Mapping, Source};
 use engine::{Applied, Engine};
 use op::{Record, decode, encode};
-use replica::{Birth, Copy, Input, Kind, Write};
+use replica::{Birth, Copy, Input, OpType, Write};
 use serde_json::Value;
 use std::alloc::Global;
 use std::test::Fail;
@@ -104,7 +104,7 @@ fn a_write_of_the_primary_of_three_waits_for_them(rt: HostRuntime) -> Result<(),
     let alloc = rt.alloc();
     let device = MemDevice::new(Vec::new(alloc));
     let mut copy = Copy::begin(alloc, 1, 3, mapping(alloc)?, device)?;
-    let kind = Kind::Create(Source::new(alloc, "{}")?);
+    let kind = OpType::Create(Source::new(alloc, "{}")?);
     let id = DocId::new(alloc, "a")?;
     let output = copy.step(alloc, Input::Write(Write { id, kind }))?;
     assert_eq!(rt; output.members, 3);

@@ -81,7 +81,7 @@ impl State {
         requires { IsFollowing self.now known op role }
         ensures gives { IfOk result (λ p. stepped_by self.now p ≡ op_gives self.now from known op) }
         ensures planned { IfOk result (IsPlanned self.now) }
-        ensures kept { IfOk result (λ p. p.kept ≡ Record.Op known op) }
+        ensures kept { IfOk result (λ p. p.next_record ≡ Record.Op known op) }
     {
         let answer = if self.engine.is_stale(&op) {
             Answer::Stale
@@ -90,7 +90,7 @@ impl State {
         };
         let sent = self.ack(alloc, from, op.seq as i64, self.engine.local_with(&op))?;
         Ok(Planned {
-            kept: Record::Op(known, op),
+            next_record: Record::Op(known, op),
             term: self.term,
             known: self.known.max(checkpoint::count(known)),
             role,
@@ -155,12 +155,12 @@ impl State {
         requires there { count_of known ≤ local_count (operations self.now) }
         ensures gives { IfOk result (λ p. stepped_by self.now p ≡ resync_gives self.now from term known tail) }
         ensures planned { IfOk result (IsPlanned self.now) }
-        ensures kept { IfOk result (λ p. p.kept ≡ Record.Resync term known tail) }
+        ensures kept { IfOk result (λ p. p.next_record ≡ Record.Resync term known tail) }
     {
         let count = checkpoint::count(known);
         let sent = self.ack_all(alloc, from, term, count + tail.as_slice().len() as u64)?;
         Ok(Planned {
-            kept: Record::Resync(term, known, tail),
+            next_record: Record::Resync(term, known, tail),
             term,
             known: self.known.max(count),
             role: Role::Replica,
@@ -214,11 +214,11 @@ impl State {
         requires { IsRecord (Record.Recover term all) }
         ensures gives { IfOk result (λ p. stepped_by self.now p ≡ recover_gives self.now from term all) }
         ensures planned { IfOk result (IsPlanned self.now) }
-        ensures kept { IfOk result (λ p. p.kept ≡ Record.Recover term all) }
+        ensures kept { IfOk result (λ p. p.next_record ≡ Record.Recover term all) }
     {
         let sent = self.recovery(alloc, from, term, all.as_slice().len() as u64)?;
         Ok(Planned {
-            kept: Record::Recover(term, all),
+            next_record: Record::Recover(term, all),
             term,
             known: self.known,
             role: Role::Replica,

@@ -1,5 +1,5 @@
 //! What a primary does: it counts acknowledgements, takes members in and out, and reports them.
-ghost use Rattle.std.specs.Prelude.{◌≡◌, ◌≤◌, ◌^◌, false, Ok, IfOk, IfErr};
+ghost use Rattle.std.specs.Prelude.{◌≡◌, ◌≤◌, ◌+◌, ◌^◌, false, Ok, IfOk, IfErr};
 ghost use Rattle.std.specs.Option.{option_copied};
 ghost use Rattle.std.specs.List.{filter_map};
 ghost use Rattle.doc.specs.Outcome.{Gives};
@@ -160,10 +160,11 @@ impl State {
         let seq = checkpoint::count(seq);
         let below = checkpoint::count(below);
         check_ack(lead, self.next_seq(), from, seq, below)?;
-        let numbers = Numbers::marked(alloc, lead.acks.of(from), seq, below)?;
-        if numbers.is(lead.acks.of(from)) {
+        let mut numbers = lead.acks.of(from);
+        if numbers.has_acknowledged(seq, below) {
             return Ok(Handled::Answered(self.output(alloc, Answer::Repeated)));
         }
+        numbers.acknowledge(seq, below);
         let acked = lead.acked(alloc, from, &numbers)?;
         let turned = self.turned(alloc, acked, Messages::none(alloc))?;
         Ok(Handled::Settled(turned))
@@ -218,6 +219,7 @@ impl State {
 fn check_ack(lead: &Lead, next: u64, from: u32, seq: u64, below: u64) -> Result<(), CopyFault>
     requires { below ≤ 2 ^ 63 }
     ensures gives { Gives fault_of (λ u. u) result (first_fault (spec.ack_faults lead.now next from seq below)) }
+    ensures near { IfOk result (λ u. seq ≤ below + 1024) }
     ensures no_log { IfErr result (λ e. is_log e ≡ false) }
 {
     if !lead.members.has(from) {

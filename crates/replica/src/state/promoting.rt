@@ -66,7 +66,7 @@ impl State {
         requires { IsPromotion self.now term set tail }
         ensures gives { IfOk result (λ p. stepped_by self.now p ≡ promotion_gives self.now term set) }
         ensures planned { IfOk result (IsPlanned self.now) }
-        ensures kept { IfOk result (λ p. p.kept ≡ resync_of self.now term) }
+        ensures kept { IfOk result (λ p. p.next_record ≡ resync_of self.now term) }
     {
         let sent = self.resync_messages(alloc, &set, term, &tail)?;
         let led = self.settle(alloc, new_lead(alloc, set), self.next_seq(), None)?;

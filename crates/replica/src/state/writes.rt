@@ -4,11 +4,12 @@ ghost use Rattle.doc.specs.Outcome.{Gives};
 ghost use Rattle.op.specs.Checkpoint.{checkpoint_of};
 ghost use Rattle.replica.specs.Fault.{fault_of, is_log};
 ghost use Rattle.replica.specs.declared.input.Input.TheVariants.{Write as Client};
-ghost use Rattle.replica.specs.Planned.{IsKeepable, IsNextOp, IsPlanned, faults_by, stepped_by, write_gives};
-ghost use Rattle.replica.specs.Step.{copy_step, first_fault, op_messages, record_of, wrote};
+ghost use Rattle.replica.specs.Planned.{IsKeepable, IsNextOp, IsPlanned, stepped_by, write_gives};
+ghost use Rattle.replica.specs.Step.{copy_step, first_fault, op_messages, record_of, write_faults_by, wrote};
+ghost use Rattle.replica.specs.LastView.{is_allowed_by, version_of};
 
 use crate::fault::CopyFault;
-use crate::input::{Kind, Write};
+use crate::input::{OpType, Write};
 use crate::output::{Answer, Outcome, Written};
 use crate::planned::Planned;
 use crate::role::{Lead, Role};
@@ -54,7 +55,7 @@ impl State {
         requires { IsNextOp self.now lead.now op }
         ensures gives { IfOk result (λ p. stepped_by self.now p ≡ write_gives self.now lead.now op outcome) }
         ensures planned { IfOk result (IsPlanned self.now) }
-        ensures kept { IfOk result (λ p. p.kept ≡ record_of self.now op) }
+        ensures kept { IfOk result (λ p. p.next_record ≡ record_of self.now op) }
     {
         let answer = wrote(&op, outcome);
         let sent = self.op_messages(alloc, lead, &op)?;
@@ -86,9 +87,9 @@ fn wrote(op: &Op, outcome: Outcome) -> Answer
 }
 
 /// Why a write is refused, by the checkpoint, its number, and the last operation on its id.
-fn check(known: u64, seq: u64, last: Option<Last>, kind: &Kind) -> Result<(), CopyFault>
+fn check(known: u64, seq: u64, last: Option<Last>, kind: &OpType) -> Result<(), CopyFault>
     requires { known ≤ 2 ^ 63 }
-    ensures gives { Gives fault_of (λ u. u) result (first_fault (faults_by known seq last kind.now)) }
+    ensures gives { Gives fault_of (λ u. u) result (first_fault (write_faults_by (is_allowed_by last kind.now) known seq (version_of last))) }
     ensures no_log { IfErr result (λ e. is_log e ≡ false) }
 {
     if !writing::is_allowed(last, kind) {

@@ -12,13 +12,13 @@ returns-in_err-contents-clause-state g c =
 
 pub returns-in_err-state-clause-state : goal.returns-in_err-state-clause-state
 returns-in_err-state-clause-state g c =
-    let is : kept_state (g.D.LogDevice.held c.args.frames.now.device) ≡ state_of (map (λ v. v.items) c.in_ok-contents.contents.items) = found_kept c.args.frames.now.header _ _ c.requires c.in_ok-contents.ensures.found in
+    let is : kept_state (g.D.LogDevice.bytes c.args.frames.now.device) ≡ state_of (map (λ v. v.items) c.in_ok-contents.contents.items) = found_kept c.args.frames.now.header _ _ c.requires c.in_ok-contents.ensures.found in
     let p = err_from_is_err_and c.from_residual-in_err-state.result c.from_residual-in_err-state.ensures.1 in
     rw (p.1, p.2) (rw (is, ← c.as_slice.ensures.value) c.in_err-state.ensures.state)
 
 pub returns-clause-state : goal.returns-clause-state
 returns-clause-state g c =
-    let is : kept_state (g.D.LogDevice.held c.args.frames.now.device) ≡ state_of (map (λ v. v.items) c.in_ok-contents.contents.items) = found_kept c.args.frames.now.header _ _ c.requires c.in_ok-contents.ensures.found in
+    let is : kept_state (g.D.LogDevice.bytes c.args.frames.now.device) ≡ state_of (map (λ v. v.items) c.in_ok-contents.contents.items) = found_kept c.args.frames.now.header _ _ c.requires c.in_ok-contents.ensures.found in
     rw (is, ← c.as_slice.ensures.value) c.in_ok-state.ensures.state
 
 pub returns-clause-left : goal.returns-clause-left

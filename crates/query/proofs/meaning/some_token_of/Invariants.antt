@@ -3,9 +3,9 @@ use Rattle.std.specs.Prelude.{flat_map}
 use Rattle.std.specs.List.{list_any}
 use Rattle.doc.specs.ScalarView.{scalars_view}
 use Rattle.query.specs.Asked.{passes}
-use Rattle.query.specs.Meaning.{cut}
+use Rattle.query.specs.Meaning.{terms_of_value}
 use Rattle.query.proofs.meaning.some_token_of.Given as goal
 
 -- the values that are left decide
 abbrev pub invariant-loop-value : goal.invariant-loop-value
-invariant-loop-value l = list_any (passes l.asked) (flat_map cut (scalars_view (drop l.value-index l.values))) ≡ list_any (passes l.asked) (flat_map cut (scalars_view l.values))
+invariant-loop-value l = list_any (passes l.asked) (flat_map terms_of_value (scalars_view (drop l.value-index l.values))) ≡ list_any (passes l.asked) (flat_map terms_of_value (scalars_view l.values))

@@ -7,10 +7,10 @@ use Rattle.translog.proofs.frames.mend.Goals as goal
 pub returns-in-Err-clause-refused : goal.returns-in-Err-clause-refused
 returns-in-Err-clause-refused g c =
     let header = c.args.header.now in
-    let old = g.D.LogDevice.held c.args.device.now in
+    let old = g.D.LogDevice.bytes c.args.device.now in
     let torn = subst (λ (t : Torn). IsTorn header old c.requires.0 t) c.in-End.is c.requires.1 in
     record {
       same = λ no. absurd cc;
-      left = cut_loses_nothing header old (g.D.LogDevice.held c.cut.new.self) c.requires.0 c.in-End.whole torn c.in-Err.ensures.err;
+      left = cut_loses_nothing header old (g.D.LogDevice.bytes c.cut.new.self) c.requires.0 c.in-End.whole torn c.in-Err.ensures.err;
       counts = c.in-Err.ensures.counts;
     }

@@ -9,7 +9,7 @@ returns-in_err-cut-clause-refused g c =
     let p = err_from_is_err_and c.from_residual-in_err-cut.result c.from_residual-in_err-cut.ensures.1 in
     rw (p.1, p.2) record {
       same = λ no. absurd cc;
-      left = header_cut c.args.header.now _ _ _ c.requires.0 c.requires.1 c.requires.2 c.reserve.ensures.held c.in_err-cut.ensures.err;
+      left = header_cut c.args.header.now _ _ _ c.requires.0 c.requires.1 c.requires.2 c.reserve.ensures.bytes c.in_err-cut.ensures.err;
       counts = c.in_err-cut.ensures.counts ∙ ap (count_after true) c.reserve.ensures.failures;
     }
 

@@ -12,5 +12,5 @@ state_kept m = Ok m
 pub returns-clause-kept : goal.returns-clause-kept
 returns-clause-kept g c = λ is.
     let shut : c.self.inside.closed ≡ false = ap (λ l. l.closed) c.self.view_is ∙ is in
-    let kept = kept_log (g.D.LogDevice.held c.self.inside.frames.device) c.self.inside.state (c.self.invariant.kept shut) in
+    let kept = kept_log (g.D.LogDevice.bytes c.self.inside.frames.device) c.self.inside.state (c.self.invariant.log shut) in
     rw c.into_device.ensures (kept ∙ ap (λ (l : Logged). state_kept l.state) c.self.view_is)

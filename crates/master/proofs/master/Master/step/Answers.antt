@@ -18,7 +18,7 @@ returns-in-Err-clause-refused g c =
     let l : Logged = record {
       state = c.self.inside.state;
       closed = c.self.inside.closed;
-      log = g.D.LogDevice.held c.self.inside.frames.device;
+      log = g.D.LogDevice.bytes c.self.inside.frames.device;
       failures = g.D.LogDevice.failures c.self.inside.frames.device;
       room = g.D.LogDevice.room c.self.inside.frames.device;
     } in
@@ -27,10 +27,10 @@ returns-in-Err-clause-refused g c =
     let reads : entry_of (spelled (entry_for c.args.request)) ≡ Some (entry_for c.args.request) = rw entry at c.in_ok-frame.ensures.reads in
     let frame = c.in_ok-frame.ensures.frame ∙ ap frame_for entry in
     let now = c.append.new.self.device in
-    let added : AddsFront l.log (frame_for (entry_for c.args.request)) (g.D.LogDevice.held now) = rw (c.prepared.ensures.held, frame) at c.in-Err.ensures.err in
+    let added : AddsFront l.log (frame_for (entry_for c.args.request)) (g.D.LogDevice.bytes now) = rw (c.prepared.ensures.held, frame) at c.in-Err.ensures.err in
     let counts : g.D.LogDevice.failures now ≡ count_after true l.failures = c.in-Err.ensures.counts ∙ ap (count_after true) c.prepared.ensures.failures in
-    let refused = fails l c.self.inside.frames.header c.args.request d c.self.invariant c.if-self.false c.in_ok-decided.ensures.step reads (g.D.LogDevice.held now) (g.D.LogDevice.failures now) (g.D.LogDevice.room now) added counts in
-    let new : Logged = record { state = c.self.inside.state; closed = true; log = g.D.LogDevice.held now; failures = g.D.LogDevice.failures now; room = g.D.LogDevice.room now } in
+    let refused = fails l c.self.inside.frames.header c.args.request d c.self.invariant c.if-self.false c.in_ok-decided.ensures.step reads (g.D.LogDevice.bytes now) (g.D.LogDevice.failures now) (g.D.LogDevice.room now) added counts in
+    let new : Logged = record { state = c.self.inside.state; closed = true; log = g.D.LogDevice.bytes now; failures = g.D.LogDevice.failures now; room = g.D.LogDevice.room now } in
     subst (λ (x : Logged). IsRefused (Log c.in-Err.fault) x new (master_step x.state c.args.request)) c.self.view_is (rw c.in-Err.ensures.cause refused)
 
 pub invariant_of-self-2 : goal.invariant_of-self-2
@@ -38,7 +38,7 @@ invariant_of-self-2 g c =
     let l : Logged = record {
       state = c.self.inside.state;
       closed = c.self.inside.closed;
-      log = g.D.LogDevice.held c.self.inside.frames.device;
+      log = g.D.LogDevice.bytes c.self.inside.frames.device;
       failures = g.D.LogDevice.failures c.self.inside.frames.device;
       room = g.D.LogDevice.room c.self.inside.frames.device;
     } in
@@ -46,7 +46,7 @@ invariant_of-self-2 g c =
     let entry = c.of.ensures in
     let reads : entry_of (spelled (entry_for c.args.request)) ≡ Some (entry_for c.args.request) = rw entry at c.in_ok-frame.ensures.reads in
     let frame = c.in_ok-frame.ensures.frame ∙ ap frame_for entry in
-    let log = c.in_default.ensures.ok ∙ ap (λ bs. bs ++ c.in_ok-frame.frame) c.prepared.ensures.held ∙ ap (λ f. g.D.LogDevice.held c.self.inside.frames.device ++ f) frame in
+    let log = c.in_default.ensures.ok ∙ ap (λ bs. bs ++ c.in_ok-frame.frame) c.prepared.ensures.held ∙ ap (λ f. g.D.LogDevice.bytes c.self.inside.frames.device ++ f) frame in
     record {
       header = c.append.ensures.header ∙ c.prepared.ensures.header ∙ c.self.invariant.header;
       sound = rw c.into_parts-state.ensures.state c.in_ok-decided.ensures.sound;

@@ -11,7 +11,7 @@ returns-clause-closed g c failed =
     let log = ap (λ (l : Logged). l.log) c.self.view_is in
     record {
       closed = refl;
-      copy = c.in_ok-place.ensures.ok ∙ ap (λ (l : Logged). placed l.copy c.args.planned.kept c.args.planned.term c.args.planned.known c.args.planned.role) c.self.view_is;
-      records = torn_at _ _ _ s.copy.records c.args.planned.kept c.args.frame log (logged c.requires.0) c.requires.2 c.requires.3 c.in-Err.ensures.err;
+      copy = c.in_ok-place.ensures.ok ∙ ap (λ (l : Logged). placed l.copy c.args.planned.next_record c.args.planned.term c.args.planned.known c.args.planned.role) c.self.view_is;
+      records = torn_at _ _ _ s.copy.records c.args.planned.next_record c.args.frame log (logged c.requires.0) c.requires.2 c.requires.3 c.in-Err.ensures.err;
       log = front_at _ _ c.args.frame _ log c.in-Err.ensures.err;
     }

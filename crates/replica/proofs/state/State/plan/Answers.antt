@@ -6,11 +6,11 @@ use Rattle.engine.specs.Last.{last_of}
 use Rattle.replica.specs.declared.fault.CopyFault.{CopyFault}
 use Rattle.replica.specs.declared.role.Role.TheVariants.{Primary}
 use Rattle.replica.specs.Copy.{Copy, operations}
-use Rattle.replica.specs.Planned.{faults_by, plan_faults}
+use Rattle.replica.specs.LastView.{is_allowed_by, version_of}
 use Rattle.replica.specs.Standing.{IsStanding}
 use Rattle.doc.specs.Outcome.{Fails}
 use Rattle.replica.specs.Fault.{fault_of}
-use Rattle.replica.specs.Step.{first_fault}
+use Rattle.replica.specs.Step.{first_fault, write_faults, write_faults_by}
 use Rattle.replica.proofs.Writes.{write_refused, write_spelled, faults-last, next_op, version_of-last, is_live-last}
 use Rattle.replica.proofs.state.State.plan.Goals as goal
 
@@ -22,7 +22,7 @@ returns-in_err-check-clause-gives c =
     let last : c.last-last.result ≡ option_map last_of (last_on (operations s) w.id) = c.last-last.ensures ∙ ap (λ (x : Copy). option_map last_of (last_on (operations x) w.id)) c.self.view_is in
     let primary : s.role ≡ Primary c.in-Primary.lead = sym (ap (λ (x : Copy). x.role) c.self.view_is) ∙ c.in-Primary.is in
     let p = err_from_is_err_and c.from_residual.result c.from_residual.ensures.1 in
-    let same : faults_by c.self.inside.known c.next_seq-seq.result c.last-last.result w.kind ≡ plan_faults s w = rw (known, c.next_seq-seq.ensures.next, last) (faults-last s w) in
+    let same : write_faults_by (is_allowed_by c.last-last.result w.kind) c.self.inside.known c.next_seq-seq.result (version_of c.last-last.result) ≡ write_faults s w = rw (known, c.next_seq-seq.ensures.next, last) (faults-last s w) in
     rw (p.1, p.2) (write_refused s c.in-Primary.lead w c.in_err-check.field-0.0 primary (subst (λ (fs : List (Bool × CopyFault)). Fails fault_of c.in_err-check.field-0.0 (first_fault fs)) same c.in_err-check.ensures.gives))
 
 pub planned-requires : goal.planned-requires
@@ -34,7 +34,7 @@ planned-requires c =
     let last : c.last-last.result ≡ option_map last_of (last_on (operations s) w.id) = c.last-last.ensures ∙ ap (λ (x : Copy). option_map last_of (last_on (operations x) w.id)) c.self.view_is in
     let primary : s.role ≡ Primary c.in-Primary.lead = sym (ap (λ (x : Copy). x.role) c.self.view_is) ∙ c.in-Primary.is in
     let stands : IsStanding s = subst (λ (x : Copy). IsStanding x) c.self.view_is c.self.invariant in
-    let same : faults_by c.self.inside.known c.next_seq-seq.result c.last-last.result w.kind ≡ plan_faults s w = rw (known, c.next_seq-seq.ensures.next, last) (faults-last s w) in
+    let same : write_faults_by (is_allowed_by c.last-last.result w.kind) c.self.inside.known c.next_seq-seq.result (version_of c.last-last.result) ≡ write_faults s w = rw (known, c.next_seq-seq.ensures.next, last) (faults-last s w) in
     let none = subst (λ (fs : List (Bool × CopyFault)). first_fault fs ≡ Ok c.in_ok-check.field-0) same c.in_ok-check.ensures.gives in
     rw (c.next_seq-seq.ensures.next, term, c.version_after.ensures, last, version_of-last (last_on (operations s) w.id), c.body.ensures)
     (next_op s c.in-Primary.lead w c.in_ok-check.field-0 stands primary c.next_seq-seq.ensures.up none)
@@ -47,7 +47,7 @@ returns-clause-gives c =
     let term : c.self.inside.term ≡ s.term = ap (λ (x : Copy). x.term) c.self.view_is in
     let last : c.last-last.result ≡ option_map last_of (last_on (operations s) w.id) = c.last-last.ensures ∙ ap (λ (x : Copy). option_map last_of (last_on (operations x) w.id)) c.self.view_is in
     let primary : s.role ≡ Primary c.in-Primary.lead = sym (ap (λ (x : Copy). x.role) c.self.view_is) ∙ c.in-Primary.is in
-    let same : faults_by c.self.inside.known c.next_seq-seq.result c.last-last.result w.kind ≡ plan_faults s w = rw (known, c.next_seq-seq.ensures.next, last) (faults-last s w) in
+    let same : write_faults_by (is_allowed_by c.last-last.result w.kind) c.self.inside.known c.next_seq-seq.result (version_of c.last-last.result) ≡ write_faults s w = rw (known, c.next_seq-seq.ensures.next, last) (faults-last s w) in
     let none = subst (λ (fs : List (Bool × CopyFault)). first_fault fs ≡ Ok c.in_ok-check.field-0) same c.in_ok-check.ensures.gives in
     let gives = rw (c.next_seq-seq.ensures.next, term, c.version_after.ensures, c.outcome-outcome.ensures, c.is_live.ensures, last, version_of-last (last_on (operations s) w.id), is_live-last (last_on (operations s) w.id), c.body.ensures) at c.in_ok-planned.ensures.gives in
     let kept = rw (c.next_seq-seq.ensures.next, term, c.version_after.ensures, last, version_of-last (last_on (operations s) w.id), c.body.ensures) at c.in_ok-planned.ensures.kept in

@@ -3,7 +3,8 @@ use Rattle.std.specs.Prelude.{nat_eq}
 use Rattle.std.specs.Cmp.Lexicographic.{pointwise}
 use Rattle.std.proofs.lemmas.Int.{to_z-of_z}
 use Rattle.op.specs.Checkpoint.{known}
-use Rattle.replica.specs.Acks.{acks_of, marked}
+use Rattle.replica.specs.Acks.{acks_of}
+use Rattle.checkpoint.specs.Numbers.{marked}
 use Rattle.replica.specs.declared.role.Role.TheVariants.{Primary}
 use Rattle.replica.specs.Copy.{Copy}
 use Rattle.replica.specs.Standing.{IsStanding}
@@ -25,8 +26,8 @@ returns-in_err-check_ack-clause-gives c =
     let fails = rw (c.next_seq.ensures.next, seq, below) at c.in_err-check_ack.ensures.gives in
     rw (p.1, p.2) (fails_on c.in_err-check_ack.field-0.0 _ _ (λ f h. ack_refused s lead primary c.args.from (known c.args.seq) (known c.args.below) f h) fails)
 
-pub returns-then-is-clause-gives : goal.returns-then-is-clause-gives
-returns-then-is-clause-gives c =
+pub returns-then-has_acknowledged-clause-gives : goal.returns-then-has_acknowledged-clause-gives
+returns-then-has_acknowledged-clause-gives c =
     let s = c.args.self.now in
     let lead = c.in-Primary.lead in
     let primary : s.role ≡ Primary lead = sym (ap (λ (x : Copy). x.role) c.self.view_is) ∙ c.in-Primary.is in
@@ -36,9 +37,8 @@ returns-then-is-clause-gives c =
     let below : c.count-below.result ≡ known c.args.below = simp to_z-of_z at c.count-below.ensures.counted in
     let stands : IsStanding s = subst (λ (x : Copy). IsStanding x) c.self.view_is c.self.invariant in
     let none = rw (c.next_seq.ensures.next, seq, below) at c.in_ok-check_ack.ensures.gives in
-    let numbers : c.in_ok-numbers.numbers ≡ marked (acks_of lead.acks c.args.from) (known c.args.seq) (known c.args.below) = rw (c.of.ensures, seq, below) at c.in_ok-numbers.ensures in
-    let is : c.is.result ≡ pointwise nat_eq (acks_of lead.acks c.args.from) (marked (acks_of lead.acks c.args.from) (known c.args.seq) (known c.args.below)) = rw (c.of-2.ensures, numbers) at c.is.ensures in
-    rw c.output.ensures (ack_again s lead primary c.args.from (known c.args.seq) (known c.args.below) c.in_ok-check_ack.field-0 stands none (sym is ∙ c.if-is.true))
+    let is : c.has_acknowledged.result ≡ pointwise nat_eq (acks_of lead.acks c.args.from) (marked (acks_of lead.acks c.args.from) (known c.args.seq) (known c.args.below)) = rw (c.of-numbers.ensures, seq, below) at c.has_acknowledged.ensures in
+    rw c.output.ensures (ack_again s lead primary c.args.from (known c.args.seq) (known c.args.below) c.in_ok-check_ack.field-0 stands none (sym is ∙ c.if-has_acknowledged.true))
 
 pub returns-clause-gives : goal.returns-clause-gives
 returns-clause-gives c =
@@ -50,9 +50,9 @@ returns-clause-gives c =
     let seq : c.count-seq.result ≡ known c.args.seq = simp to_z-of_z at c.count-seq.ensures.counted in
     let below : c.count-below.result ≡ known c.args.below = simp to_z-of_z at c.count-below.ensures.counted in
     let none = rw (c.next_seq.ensures.next, seq, below) at c.in_ok-check_ack.ensures.gives in
-    let numbers : c.in_ok-numbers.numbers ≡ marked (acks_of lead.acks c.args.from) (known c.args.seq) (known c.args.below) = rw (c.of.ensures, seq, below) at c.in_ok-numbers.ensures in
-    let is : c.is.result ≡ pointwise nat_eq (acks_of lead.acks c.args.from) (marked (acks_of lead.acks c.args.from) (known c.args.seq) (known c.args.below)) = rw (c.of-2.ensures, numbers) at c.is.ensures in
-    ack_taken s lead primary c.args.from (known c.args.seq) (known c.args.below) c.in_ok-check_ack.field-0 none (sym is ∙ c.if-is.false) ∙ ap Ok (sym (rw (c.in_ok-acked.ensures, c.none.ensures, numbers) at c.in_ok-turned.ensures.gives))
+    let is : c.has_acknowledged.result ≡ pointwise nat_eq (acks_of lead.acks c.args.from) (marked (acks_of lead.acks c.args.from) (known c.args.seq) (known c.args.below)) = rw (c.of-numbers.ensures, seq, below) at c.has_acknowledged.ensures in
+    let numbers : c.acknowledge.new.self ≡ marked (acks_of lead.acks c.args.from) (known c.args.seq) (known c.args.below) = rw (c.of-numbers.ensures, seq, below) at c.acknowledge.ensures in
+    ack_taken s lead primary c.args.from (known c.args.seq) (known c.args.below) c.in_ok-check_ack.field-0 none (sym is ∙ c.if-has_acknowledged.false) ∙ ap Ok (sym (rw (c.in_ok-acked.ensures, c.none.ensures, numbers) at c.in_ok-turned.ensures.gives))
 
 pub turned-requires : goal.turned-requires
 turned-requires c =

@@ -2,15 +2,15 @@
 use Rattle.std.specs.Prelude.{length, All}
 use Rattle.op.specs.Records.{IsRecord}
 use Rattle.engine.specs.Contents.{Contents}
-use Rattle.engine.specs.declared.staged.Change.{Change}
-use Rattle.engine.specs.declared.staged.Change.TheVariants.{Refresh, Reopen}
+use Rattle.engine.specs.declared.staged.SnapshotChange.{SnapshotChange}
+use Rattle.engine.specs.declared.staged.SnapshotChange.TheVariants.{Refresh, Reopen}
 
 -- a refresh shows all records, new records are all shown
-abbrev pub changed : Contents → Change → Contents
+abbrev pub changed : Contents → SnapshotChange → Contents
 changed c Refresh = record c { point = length c.records }
 changed c (Reopen rs) = record c { records = rs.items; point = length rs.items }
 
 -- new records are records
-abbrev pub IsChange : Change → Type 0
-IsChange Refresh = Unit {0}
-IsChange (Reopen rs) = All IsRecord rs.items
+abbrev pub IsSnapshotChange : SnapshotChange → Type 0
+IsSnapshotChange Refresh = Unit {0}
+IsSnapshotChange (Reopen rs) = All IsRecord rs.items
