@@ -39,7 +39,7 @@ abbrev pub source_in : MappingData → List ℕ → Result (List ℕ) doc.Fault
 source_in m text = doc_of m text >>= λ d. Ok d.source
 
 -- what a write does, with its document read under the mapping
-abbrev pub kind_of : MappingData → Change → Result Kind Refusal
+abbrev pub kind_of : MappingData → Change → Result OpType Refusal
 kind_of m (index text condition) = in_doc (source_in m text) >>= λ source. Ok (Index source condition)
 kind_of m (create text) = in_doc (source_in m text) >>= λ source. Ok (Create source)
 kind_of m (delete condition) = Ok (Delete condition)

@@ -1,15 +1,16 @@
 //! Why a script was not played to its end.
 
 use std::alloc::{AllocError, AllocFailed};
+use std::io;
 use thiserror::Error;
 
 /// A fault that ends a script: what was written by then is a beginning of its output.
 #[derive(Debug, Drop, Error)]
 pub enum ReplayFault {
-    #[error("the script can't be read")]
-    Read,
-    #[error("the output can't be written")]
-    Write,
+    #[error("the script can't be read: {0}")]
+    Read(io::Error),
+    #[error("standard output: {0}")]
+    Write(io::Error),
     #[error("out of memory")]
     NoMemory,
 }

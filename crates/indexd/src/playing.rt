@@ -13,7 +13,9 @@ use crate::fault::ReplayFault;
 use crate::refusal::Refusal;
 use crate::reply::{Reply, refused};
 use crate::step::{OneCopy, step};
+use crate::telling::{Listener, Silent};
 use crate::writing::{Flushing, write_line};
+use doc::Mapping;
 use std::alloc::{AllocError, Global};
 use std::io::{BufRead, ErrorKind, Write};
 
@@ -29,15 +31,16 @@ pub fn replay<R: BufRead, W: Write>(
     ensures err { OnErr result (IfSome (R.remaining reader.old) (λ script.
         spec.AppendsFront (W.contents writer.old) (W.contents writer.new) (spec.lines script))) }
 {
-    replay_flushing(alloc, reader, writer, Flushing::ByTheWriter)
+    replay_telling(alloc, reader, writer, Flushing::ByTheWriter, &mut Silent)
 }
 
-/// Plays a script as `replay` does, with a choice of when its output is handed on.
-pub(crate) fn replay_flushing<R: BufRead, W: Write>(
+/// Plays a script as `replay` does, with a choice of when its output is handed on, and one who hears of each line.
+pub(crate) fn replay_telling<R: BufRead, W: Write, L: Listener>(
     alloc: Global,
     reader: &mut R,
     writer: &mut W,
     flushing: Flushing,
+    listener: &mut L,
 ) -> Result<(), ReplayFault>
     ensures ok { OnOk result (IfSome (R.remaining reader.old) (λ script.
         Appends (W.contents writer.old) (W.contents writer.new) (spec.lines script))) }
@@ -49,15 +52,29 @@ pub(crate) fn replay_flushing<R: BufRead, W: Write>(
         let Some(line) = read_line(alloc, reader)? else {
             return Ok(());
         };
-        let text = played(alloc, &mut index, &line)?;
+        let mut refusal: Option<Refusal> = None;
+        let text = played(alloc, &mut index, &line, &mut refusal)?;
         write_line(writer, text.as_bytes(), flushing)?;
+        listener.hear(alloc, &line, refusal.as_ref(), mapping_of(&index));
     }
-    Err(ReplayFault::Read)
+    Err(ReplayFault::Read(ErrorKind::Other.into()))
 }
 
-/// Plays one line, and answers what it prints.
+fn mapping_of(index: &Option<OneCopy>) -> Option<&Mapping> {
+    match index {
+        Some(copy) => Some(copy.mapping()),
+        None => None,
+    }
+}
+
+/// Plays one line, and answers what it prints. A refusal that is printed is left beside it.
 #[tactic(auto, unfolding(crate::specs::Output::played))]
-fn played(alloc: Global, index: &mut Option<OneCopy>, line: &[u8]) -> Result<String, AllocError>
+fn played(
+    alloc: Global,
+    index: &mut Option<OneCopy>,
+    line: &[u8],
+    refused_for: &mut Option<Refusal>,
+) -> Result<String, AllocError>
     requires { IsOpen index.old }
     ensures text { IfOk result (λ text. spec.played (copy_in index.old) line.now ≡ (copy_in index.new, string_bytes text)) }
     ensures unfailed { OnOk result (IsOpen index.new) }
@@ -70,7 +87,9 @@ fn played(alloc: Global, index: &mut Option<OneCopy>, line: &[u8]) -> Result<Str
         Err(refusal) => if refusal.is_memory() {
             Err(AllocError)
         } else {
-            refused(alloc, refusal.name())
+            let text = refused(alloc, refusal.name());
+            *refused_for = Some(refusal);
+            text
         },
     }
 }
@@ -101,7 +120,7 @@ fn read_line<R: BufRead>(alloc: Global, reader: &mut R) -> Result<Option<Vec<u8>
         Err(e) => if e.kind() == ErrorKind::OutOfMemory {
             Err(ReplayFault::NoMemory)
         } else {
-            Err(ReplayFault::Read)
+            Err(ReplayFault::Read(e))
         },
     }
 }

@@ -1,22 +1,32 @@
-//! The command line.
+//! The program: its command line, its streams, and its exit status.
 ghost use Rattle.std.specs.Prelude.{◌≡◌, ◌<◌, IfSome, OnOk, codes};
 ghost use Rattle.std.specs.Io.KnownBytes.{Appends};
 ghost use Rattle.indexd.specs.Output.{lines};
 
+use crate::command_line::{Words, words_of};
 use crate::fault::ReplayFault;
-use crate::playing::replay_flushing;
+use crate::names::shown;
+use crate::playing::replay_telling;
+use crate::telling::{Listener, Teller, Wanted};
 use crate::writing::Flushing;
 use clap::error::ErrorKind;
-use clap::{Arg, ArgAction, Command};
-use std::alloc::{AllocError, Global};
+use std::alloc::Global;
 use std::io::{BufRead, BufReader, Write};
 use std::rt::Files;
+use std::time::Clock;
 use std::{fs, io};
 
 /// The paths by which a program sees its own standard streams (Linux).
 const STANDARD_INPUT: &str = "/proc/self/fd/0";
 
 const STANDARD_OUTPUT: &str = "/proc/self/fd/1";
+
+/// Which of the program's streams are terminals.
+#[derive(Clone, Copy, Debug, PartialEq, Eq)]
+pub struct Terminals {
+    pub output: bool,
+    pub errors: bool,
+}
 
 /// Why the program ends with status 1.
 #[derive(Debug, Drop)]
@@ -27,37 +37,47 @@ enum ProgramFault {
 
 /// Runs the program on its words (the first is its name), and answers its exit status: 0, or 1 with one line
 /// `indexd: TEXT` on `errors`, or 2 with a usage text there where the words can't be read.
-pub fn program<R: Files + AllocGlobal, I: BufRead, O: Write, E: Write>(
+pub fn program<R: Files + Clock + AllocGlobal, I: BufRead, O: Write, E: Write>(
     rt: &R,
     words: &[String],
+    terminals: Terminals,
     input: &mut I,
     output: &mut O,
     errors: &mut E,
 ) -> u8
     ensures { result < 3 }
 {
-    match file_of(rt.alloc(), words) {
-        Ok(file) => run(rt, file, input, output, errors),
+    match words_of(rt.alloc(), words) {
+        Ok(words) => run(rt, words, terminals, input, output, errors),
         Err(error) => explain(&error, output, errors),
     }
 }
 
 /// Plays a script, and answers the exit status: 0, or 1 with one line on `errors`.
-fn run<R: Files + AllocGlobal, I: BufRead, O: Write, E: Write>(
+fn run<R: Files + Clock + AllocGlobal, I: BufRead, O: Write, E: Write>(
     rt: &R,
-    file: &str,
+    words: Words<'_>,
+    terminals: Terminals,
     input: &mut I,
     output: &mut O,
     errors: &mut E,
 ) -> u8
     ensures status { result < 2 }
-    ensures whole { result ≡ 0 → file.now ≡ codes "-" → IfSome (I.remaining input.old) (λ script.
+    ensures whole { result ≡ 0 → words.entry.file.now ≡ codes "-" → IfSome (I.remaining input.old) (λ script.
         Appends (O.contents output.old) (O.contents output.new) (lines script)) }
 {
-    match play(rt, file, input, output) {
+    let Ok(file) = shown(rt.alloc(), words.file) else {
+        let _ = writeln!(errors, "indexd: out of memory");
+        return 1;
+    };
+    let wanted = Wanted {
+        explains: words.explains || terminals.errors,
+        progress: terminals.errors && !terminals.output,
+    };
+    match play_telling(rt, words.file, &file, wanted, input, output, errors) {
         Ok(()) => 0,
         Err(fault) => {
-            report(errors, file, &fault);
+            report(errors, &file, &fault);
             1
         }
     }
@@ -71,35 +91,12 @@ fn report<E: Write>(errors: &mut E, file: &str, fault: &ProgramFault) {
     };
 }
 
-/// The file that the command line names.
-fn file_of<'a>(alloc: Global, words: &'a [String]) -> Result<&'a str, clap::Error> {
-    let matches = command(alloc)?.try_get_matches_from(words)?;
-    match matches.subcommand() {
-        Some((_, replay)) => Ok(replay.get_str("FILE").unwrap_or("-")),
-        None => Ok("-"),
-    }
-}
-
-fn command<'a>(alloc: Global) -> Result<Command<'a>, AllocError> {
-    let file = Arg::new(alloc, "FILE")
-        .required(true)
-        .action(ArgAction::Set)
-        .help("The script, or `-` for standard input");
-    let replay = Command::new(alloc, "replay")
-        .about("Plays a script over a new index, and prints what each line answers")
-        .arg(file)?;
-    Command::new(alloc, "indexd")
-        .about("An index of JSON documents whose promises are proved")
-        .subcommand_required(true)
-        .subcommand(replay)
-}
-
 /// Prints what the command line asked for, or what is wrong with it.
 fn explain<O: Write, E: Write>(error: &clap::Error, output: &mut O, errors: &mut E) -> u8
     ensures { result < 3 }
 {
     match error.kind() {
-        ErrorKind::DisplayHelp => {
+        ErrorKind::DisplayHelp | ErrorKind::DisplayVersion => {
             let _ = write!(output, "{error}");
             let _ = output.flush();
             0
@@ -115,37 +112,68 @@ fn explain<O: Write, E: Write>(error: &clap::Error, output: &mut O, errors: &mut
     }
 }
 
-/// Plays the script of a file, and that of the input where the file is `-`.
-fn play<R: Files + AllocGlobal, I: BufRead, O: Write>(
+/// Plays a script, and tells on `errors` what is wanted of its lines; `name` is the file's there.
+fn play_telling<R: Files + Clock + AllocGlobal, I: BufRead, O: Write, E: Write>(
+    rt: &R,
+    file: &str,
+    name: &str,
+    wanted: Wanted,
+    input: &mut I,
+    output: &mut O,
+    errors: &mut E,
+) -> Result<(), ProgramFault>
+    ensures { OnOk result (file.now ≡ codes "-" → IfSome (I.remaining input.old) (λ script.
+        Appends (O.contents output.old) (O.contents output.new) (lines script))) }
+{
+    let mut teller = Teller::new(errors, rt, name, wanted, size_of(rt, file));
+    let played = play(rt, file, input, output, &mut teller);
+    teller.end();
+    played
+}
+
+/// Plays the script of a file, and that of the input where the file is `-`. After a write that failed nothing more is written.
+fn play<R: Files + AllocGlobal, I: BufRead, O: Write, L: Listener>(
     rt: &R,
     file: &str,
     input: &mut I,
     output: &mut O,
+    listener: &mut L,
 ) -> Result<(), ProgramFault>
     ensures { OnOk result (file.now ≡ codes "-" → IfSome (I.remaining input.old) (λ script.
         Appends (O.contents output.old) (O.contents output.new) (lines script))) }
 {
     let flushing = flushing_for(rt, file);
     let played = if file == "-" {
-        replay_flushing(rt.alloc(), input, output, flushing)
+        replay_telling(rt.alloc(), input, output, flushing, listener)
     } else {
         let opened = fs::open(rt, file).map_err(ProgramFault::Open)?;
         let mut reader = BufReader::new(rt.alloc(), opened).map_err(ProgramFault::Open)?;
-        replay_flushing(rt.alloc(), &mut reader, output, flushing)
+        replay_telling(rt.alloc(), &mut reader, output, flushing, listener)
     };
-    let flushed = output.flush();
-    played.map_err(ProgramFault::Replay)?;
-    flushed.map_err(|_| ProgramFault::Replay(ReplayFault::Write))
+    match played {
+        Ok(()) => match output.flush() {
+            Ok(()) => Ok(()),
+            Err(error) => Err(ProgramFault::Replay(ReplayFault::Write(error))),
+        },
+        Err(ReplayFault::Write(error)) => Err(ProgramFault::Replay(ReplayFault::Write(error))),
+        Err(fault) => {
+            let _ = output.flush();
+            Err(ProgramFault::Replay(fault))
+        }
+    }
 }
 
 /// From a regular file to a regular file the output is handed on as the buffer fills; else somebody may wait for the answer to a line.
 fn flushing_for<R: Files>(rt: &R, file: &str) -> Flushing {
-    let script = if file == "-" { STANDARD_INPUT } else { file };
-    if is_regular(rt, script) && is_regular(rt, STANDARD_OUTPUT) {
+    if is_regular(rt, path_of(file)) && is_regular(rt, STANDARD_OUTPUT) {
         Flushing::ByTheWriter
     } else {
         Flushing::EachLine
     }
+}
+
+fn path_of(file: &str) -> &str {
+    if file == "-" { STANDARD_INPUT } else { file }
 }
 
 /// Whether a path is that of a regular file. Where that can't be told it counts as none.
@@ -153,5 +181,17 @@ fn is_regular<R: Files>(rt: &R, path: &str) -> bool {
     match fs::metadata(rt, path) {
         Ok(found) => found.is_file(),
         Err(_) => false,
+    }
+}
+
+/// How many bytes a script has, where it is a regular file.
+fn size_of<R: Files>(rt: &R, file: &str) -> Option<u64> {
+    match fs::metadata(rt, path_of(file)) {
+        Ok(found) => if found.is_file() {
+            Some(found.len())
+        } else {
+            None
+        },
+        Err(_) => None,
     }
 }

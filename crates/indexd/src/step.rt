@@ -15,7 +15,7 @@ use crate::refusal::Refusal;
 use crate::reply::Reply;
 use doc::{Doc, DocFault, DocId, Mapping, Source};
 use query::{QueryFault, SearchBody};
-use replica::{Copy, CopyFault, Input, Kind, Write};
+use replica::{Copy, CopyFault, Input, OpType, Write};
 use serde_json::Value;
 use std::alloc::Global;
 use translog::MemDevice;
@@ -163,19 +163,19 @@ fn write(alloc: Global, copy: &mut OneCopy, id: &str, change: Change<'_>) -> Res
 }
 
 /// What a write does, its document read under the mapping.
-fn kind_of(alloc: Global, mapping: &Mapping, change: Change<'_>) -> Result<Kind, Refusal>
+fn kind_of(alloc: Global, mapping: &Mapping, change: Change<'_>) -> Result<OpType, Refusal>
     ensures { Gives refusal_of (λ k. k) result (spec.kind_of mapping.now (change_view change.entry)) }
 {
     match change {
         Change::Index(text, condition) => {
             let source = source_of(alloc, mapping, text)?;
-            Ok(Kind::Index(source, condition))
+            Ok(OpType::Index(source, condition))
         }
         Change::Create(text) => {
             let source = source_of(alloc, mapping, text)?;
-            Ok(Kind::Create(source))
+            Ok(OpType::Create(source))
         }
-        Change::Delete(condition) => Ok(Kind::Delete(condition)),
+        Change::Delete(condition) => Ok(OpType::Delete(condition)),
     }
 }
 

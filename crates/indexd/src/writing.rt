@@ -4,7 +4,7 @@ ghost use Rattle.std.specs.Io.KnownBytes.{Appends};
 ghost use Rattle.indexd.specs.Output.{AppendsFront};
 
 use crate::fault::ReplayFault;
-use std::io::Write;
+use std::io::{ErrorKind, Write};
 
 /// When what is written is handed on.
 #[derive(Clone, Copy, Debug, PartialEq, Eq)]
@@ -25,10 +25,13 @@ pub(crate) fn write_line<W: Write>(
     ensures err { OnErr result (AppendsFront (W.contents writer.old) (W.contents writer.new) bytes.now) }
 {
     write_whole(writer, bytes)?;
-    if flushing == Flushing::EachLine && !bytes.is_empty() && writer.flush().is_err() {
-        return Err(ReplayFault::Write);
+    if flushing == Flushing::ByTheWriter || bytes.is_empty() {
+        return Ok(());
     }
-    Ok(())
+    match writer.flush() {
+        Ok(()) => Ok(()),
+        Err(error) => Err(ReplayFault::Write(error)),
+    }
 }
 
 /// Writes all of the bytes. After a refusal a beginning of them was written.
@@ -39,9 +42,9 @@ pub(crate) fn write_whole<W: Write>(writer: &mut W, bytes: &[u8]) -> Result<(), 
     let mut rest = bytes;
     while !rest.is_empty() {
         match writer.write(rest) {
-            Ok(0) => return Err(ReplayFault::Write),
+            Ok(0) => return Err(ReplayFault::Write(ErrorKind::WriteZero.into())),
             Ok(n) => rest = &rest[n..],
-            Err(_) => return Err(ReplayFault::Write),
+            Err(error) => return Err(ReplayFault::Write(error)),
         }
     }
     Ok(())

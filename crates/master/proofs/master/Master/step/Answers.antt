@@ -50,5 +50,5 @@ invariant_of-self-2 g c =
     record {
       header = c.append.ensures.header ∙ c.prepared.ensures.header ∙ c.self.invariant.header;
       sound = rw c.into_parts-state.ensures.state c.in_ok-decided.ensures.sound;
-      kept = λ _. rw (log, c.into_parts-state.ensures.state) (grows l c.self.inside.frames.header c.args.request d c.self.invariant c.if-self.false c.in_ok-decided.ensures.step reads);
+      log = λ _. rw (log, c.into_parts-state.ensures.state) (grows l c.self.inside.frames.header c.args.request d c.self.invariant c.if-self.false c.in_ok-decided.ensures.step reads);
     }

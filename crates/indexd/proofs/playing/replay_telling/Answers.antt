@@ -4,7 +4,7 @@ use Rattle.indexd.specs.Held.{copy_in}
 use Rattle.indexd.specs.Step.{State}
 use Rattle.indexd.specs.Output.{played}
 use Rattle.indexd.proofs.Played.{goes_on, cut_short}
-use Rattle.indexd.proofs.playing.replay_flushing.Goals as goal
+use Rattle.indexd.proofs.playing.replay_telling.Goals as goal
 
 -- the line was played, and its text was cut short
 pub returns-in_err-write_line-clause-err : goal.returns-in_err-write_line-clause-err

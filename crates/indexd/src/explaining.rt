@@ -1,0 +1,230 @@
+//! Why a line is refused, in words: what stands beside the name of the refusal for whoever wrote the line.
+
+use crate::refusal::Refusal;
+use doc::{DocFault, Kind, Mapping};
+use query::QueryFault;
+use replica::CopyFault;
+use serde_json::Value;
+use std::alloc::{AllocError, Global};
+use std::str;
+
+/// How many characters of a value are shown.
+const SHOWN: usize = 60;
+
+/// The lines of a script, by their first word.
+const FORMS: [(&str, &str); 10] = [
+    ("open", "open 1 MAPPING"),
+    ("put", "put COPY ID JSON"),
+    ("create", "create COPY ID JSON"),
+    ("del", "del COPY ID"),
+    ("putif", "putif COPY SEQ TERM ID JSON"),
+    ("delif", "delif COPY SEQ TERM ID"),
+    ("get", "get COPY ID"),
+    ("refresh", "refresh COPY"),
+    ("restart", "restart COPY"),
+    ("search", "search COPY JSON"),
+];
+
+/// What is wrong with a line that was refused.
+pub(crate) fn reason(
+    alloc: Global,
+    refusal: &Refusal,
+    line: &[u8],
+    mapping: Option<&Mapping>,
+) -> Result<String, AllocError> {
+    match refusal {
+        Refusal::BadLine => bad_line(alloc, line),
+        Refusal::NotOpen => text(alloc, "no index is open yet; `open 1 MAPPING` comes first"),
+        Refusal::AlreadyOpen => text(alloc, "an index is open already"),
+        Refusal::BadCount => text(alloc, "an index has one copy here: `open 1 MAPPING`"),
+        Refusal::NoSuchCopy => text(alloc, "there is no such copy"),
+        Refusal::Doc(fault) => doc_reason(alloc, fault, line, mapping),
+        Refusal::Query(fault) => query_reason(alloc, fault, line),
+        Refusal::Copy(fault) => copy_reason(alloc, fault, line),
+        Refusal::NoMemory => text(alloc, "out of memory"),
+    }
+}
+
+fn text(alloc: Global, words: &str) -> Result<String, AllocError> {
+    String::from_str(alloc, words)
+}
+
+// ---- lines that can't be read
+
+fn bad_line(alloc: Global, line: &[u8]) -> Result<String, AllocError> {
+    if line.starts_with(&[0xef, 0xbb, 0xbf]) {
+        return text(
+            alloc,
+            "the line begins with a byte order mark; save the file as UTF-8 without one",
+        );
+    }
+    let read = match str::from_utf8(line) {
+        Ok(read) => read,
+        Err(error) => {
+            let at = error.valid_up_to();
+            return format!(in alloc; "byte {at} of the line isn't UTF-8");
+        }
+    };
+    if read.ends_with('\r') {
+        return text(
+            alloc,
+            "the line ends in a carriage return; save the file with line ends of Unix",
+        );
+    }
+    let word = match read.split_once(' ') {
+        Some((word, _)) => word,
+        None => read,
+    };
+    match form_of(word) {
+        Some(form) => format!(in alloc;
+            "the line isn't of the form `{form}`, with one space between words"
+        ),
+        None => {
+            let word = cut(alloc, word)?;
+            format!(in alloc;
+                "{word:?} is no word of a script; a line begins with open, put, create, del, putif, delif, get, refresh, restart or search"
+            )
+        }
+    }
+}
+
+fn form_of(word: &str) -> Option<&'static str> {
+    for (name, form) in FORMS {
+        if name == word {
+            return Some(form);
+        }
+    }
+    None
+}
+
+// ---- documents, mappings and ids
+
+fn doc_reason(
+    alloc: Global,
+    fault: &DocFault,
+    line: &[u8],
+    mapping: Option<&Mapping>,
+) -> Result<String, AllocError> {
+    match fault {
+        DocFault::NotJson => not_json(alloc, line),
+        DocFault::WrongValue(field) => wrong_value(alloc, field, line, mapping),
+        DocFault::TooLarge => {
+            let len = json_of(line).len();
+            format!(in alloc; "the document has {len} bytes; at most 65,536 are taken")
+        }
+        _ => format!(in alloc; "{fault}"),
+    }
+}
+
+/// Where the text of a line isn't JSON, as its reader says it.
+fn not_json(alloc: Global, line: &[u8]) -> Result<String, AllocError> {
+    match Value::from_str(alloc, json_of(line)) {
+        Ok(_) => text(alloc, "not JSON"),
+        Err(error) => {
+            let at = error.column();
+            format!(in alloc; "not JSON: {error} (byte {at} of the JSON)")
+        }
+    }
+}
+
+/// The value of a field that doesn't fit its type, and the type.
+fn wrong_value(
+    alloc: Global,
+    field: &str,
+    line: &[u8],
+    mapping: Option<&Mapping>,
+) -> Result<String, AllocError> {
+    let value = match Value::from_str(alloc, json_of(line)) {
+        Ok(value) => value,
+        Err(_) => return format!(in alloc; "field {field}: a value doesn't fit"),
+    };
+    let shown = match value.get(field) {
+        Some(found) => cut(alloc, &found.to_string(alloc)?)?,
+        None => text(alloc, "a value")?,
+    };
+    let kind = match mapping {
+        Some(mapping) => mapping.kind(field),
+        None => None,
+    };
+    match kind {
+        Some(kind) => {
+            let kind = kind_name(kind);
+            format!(in alloc; "field {field}: {shown} is no {kind}")
+        }
+        None => format!(in alloc;
+            "field {field}: {shown} has an object, or an array within an array"
+        ),
+    }
+}
+
+fn kind_name(kind: Kind) -> &'static str {
+    match kind {
+        Kind::Keyword =>
+            "keyword (a text, a whole number or a truth value, of at most 32,766 bytes)",
+        Kind::Text => "text (a text, a whole number or a truth value)",
+        Kind::Long => "long (a whole number within 64 bits)",
+        Kind::Boolean => "boolean (true or false)",
+    }
+}
+
+// ---- searches and steps
+
+fn query_reason(alloc: Global, fault: &QueryFault, line: &[u8]) -> Result<String, AllocError> {
+    if let QueryFault::Parsing(_) = fault {
+        if let Err(error) = Value::from_str(alloc, json_of(line)) {
+            let at = error.column();
+            return format!(in alloc; "the body isn't JSON: {error} (byte {at} of it)");
+        }
+    }
+    format!(in alloc; "{fault}")
+}
+
+fn copy_reason(alloc: Global, fault: &CopyFault, line: &[u8]) -> Result<String, AllocError> {
+    match fault {
+        CopyFault::VersionConflict => {
+            if line.starts_with(b"create") {
+                text(alloc, "the document is there already")
+            } else {
+                text(
+                    alloc,
+                    "the document isn't there, or its last change has other numbers; `get` shows them",
+                )
+            }
+        }
+        CopyFault::NotPrimary => text(
+            alloc,
+            "the copy isn't the primary; after a restart it takes no writes",
+        ),
+        _ => format!(in alloc; "{fault}"),
+    }
+}
+
+// ---- parts of a line
+
+/// The JSON of a line: what stands from its first brace, bracket or quote on; else its last word.
+fn json_of(line: &[u8]) -> &str {
+    let read = match str::from_utf8(line) {
+        Ok(read) => read,
+        Err(_) => return "",
+    };
+    match read.find(['{', '[', '"']) {
+        Some(at) => match read.get(at..) {
+            Some(json) => json,
+            None => "",
+        },
+        None => "",
+    }
+}
+
+/// The first characters of a text.
+fn cut(alloc: Global, whole: &str) -> Result<String, AllocError> {
+    let mut shown = String::new(alloc);
+    for (count, c) in whole.chars().enumerate() {
+        if count == SHOWN {
+            shown.push_str("...")?;
+            return Ok(shown);
+        }
+        shown.push(c)?;
+    }
+    Ok(shown)
+}
