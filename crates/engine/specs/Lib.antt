@@ -9,3 +9,4 @@ pub mod Contents
 pub mod Staged
 pub mod Change
 pub mod Last
+pub mod OperationIndex
