@@ -2,7 +2,7 @@
 #![tactic(auto)]
 
 ghost use Rattle.std.specs.Prelude.{◌≡◌, map, IfOk, string_bytes};
-ghost use Rattle.analysis.specs.Tokens.{tokens_of};
+ghost use Rattle.analysis.specs.Tokens.{tokens_of, folded};
 
 use caseless::default_case_fold_str;
 use std::alloc::{AllocError, Global};
@@ -16,7 +16,19 @@ pub fn tokens(alloc: Global, text: &str) -> Result<Vec<String>, AllocError>
 {
     let mut found = Vec::new(alloc);
     for word in text.unicode_words() {
-        found.push(default_case_fold_str(alloc, word)?)?;
+        found.push(folded(alloc, word)?)?;
     }
     Ok(found)
+}
+
+/// A word under default case folding. Of an ASCII word that is its small letters.
+fn folded(alloc: Global, word: &str) -> Result<String, AllocError>
+    ensures { IfOk result (λ s. string_bytes s ≡ folded word.now) }
+{
+    if !word.is_ascii() {
+        return default_case_fold_str(alloc, word);
+    }
+    let mut small = String::from_str(alloc, word)?;
+    small.make_ascii_lowercase();
+    Ok(small)
 }

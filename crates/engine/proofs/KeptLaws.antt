@@ -1,5 +1,5 @@
 -- The operations kept beside the records stay theirs.
-use Rattle.std.proofs.Common.{◌≡◌, ℕ, suc, ◌<◌, ◌≤◌, ◌-◌, ◌^◌, length, get_or, List, [], ◌∷◌, ◌++◌, refl, sym, ap, ◌∙◌, arith}
+use Rattle.std.proofs.Common.{◌≡◌, ℕ, ℤ, suc, ◌<◌, ◌≤◌, ◌-◌, ◌^◌, length, get_or, List, [], ◌∷◌, ◌++◌, refl, sym, ap, subst, ◌∙◌, arith}
 use Rattle.std.specs.List.{AllByRecursion}
 use Rattle.op.specs.declared.operation.Op.{Op}
 use Rattle.op.specs.declared.record.Record.{Record}
@@ -47,3 +47,9 @@ IsKept-push os rs r kept is = record {
 -- the last operation has the greatest number
 pub next_seq-last : (os : List Op) (o : Op) → 0 < length os → o ≡ get_or os (length os - 1) o → next_seq os ≡ suc o.seq
 next_seq-last os o some is = next_seq-at os (length os - 1) o (omega arith) ∙ ap (λ (p : Op). suc p.seq) (sym is)
+
+-- what a resync leaves rises
+pub IsAscending-resynced : (os ps all tail : List Op) (r : Record) (term n : ℕ) (g : ℤ) → IsAscending os → IsRecord r → r ≡ Resync term g tail → n ≡ known g → ps ≡ os → all ≡ below n ps ++ tail → IsAscending all
+IsAscending-resynced os ps all tail r term n g up is same counted kept made =
+    let after : IsAscending (after_record os (Resync term g tail)) = subst (λ (q : Record). IsAscending (after_record os q)) same (IsAscending-after os r up is) in
+    subst IsAscending (sym (made ∙ ap (λ m. below m ps ++ tail) counted ∙ ap (λ qs. below (known g) qs ++ tail) kept)) after

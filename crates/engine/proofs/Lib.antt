@@ -1,4 +1,5 @@
 pub mod PlaceLaws
 pub mod KeptLaws
-pub mod EntryLaws
 pub mod ShownLaws
+pub mod IndexLaws
+pub mod DocumentMap

@@ -1,6 +1,9 @@
 -- Where a number is, or goes, in a list of operations.
-use Rattle.std.proofs.Common.{◌≡◌, ℕ, zero, suc, ◌<◌, ◌≤◌, List, [], ◌∷◌, length, get_or, None, slice_get, refl, arith}
+use Rattle.std.proofs.Common.{◌≡◌, ℕ, zero, suc, ◌<◌, ◌≤◌, List, [], ◌∷◌, length, get_or, None, slice_get, Result, Ok, Err, IfOk, IfErr, refl, sym, ap, arith}
 use Rattle.std.specs.List.{AllWithin, AllByRecursion}
+use Rattle.std.specs.List.Sorted.{IsSearchInRange, IsBinarySearchResult, IsNonDecreasingBy}
+use Rattle.std.specs.Ordering.{nat_cmp, ordering_index}
+use Rattle.std.proofs.lemmas.Cmp.{ranked}
 use Rattle.std.proofs.lemmas.Bool.Decides.{nat_tests}
 use Rattle.op.specs.declared.operation.Op.{Op}
 use Rattle.op.specs.Operations.{IsAscending, op_at}
@@ -41,3 +44,46 @@ pub end_gap : (os : List Op) (n : ℕ) → IsAscending os → (i : ℕ) → leng
 end_gap [] n up i le h = record { in_range = omega arith; free = refl; place = λ o is. refl }
 end_gap (p ∷ ps) n up i le h =
     is_gap (p ∷ ps) n (length (p ∷ ps)) p up (omega arith) (λ k d low lt. h k d low (omega arith)) (λ lt. absurd (omega arith))
+
+each_at : (P : Op → Type 0) (os : List Op) (k : ℕ) (d : Op) → AllByRecursion P os → k < length os → P (get_or os k d)
+each_at P [] k d all lt = absurd (omega arith)
+each_at P (o ∷ os) zero d all lt = all.0
+each_at P (o ∷ os) (suc k) d all lt = each_at P os k d all.1 (omega arith)
+
+-- the numbers rise, place by place
+pub rise : (os : List Op) (i j : ℕ) (d : Op) → IsAscending os → i < j → j < length os → (get_or os i d).seq < (get_or os j d).seq
+rise [] i j d up lt in_range = absurd (omega arith)
+rise (o ∷ os) i zero d up lt in_range = absurd (omega arith)
+rise (o ∷ os) zero (suc j) d up lt in_range = each_at (λ p. o.seq < p.seq) os j d up.0 (omega arith)
+rise (o ∷ os) (suc i) (suc j) d up lt in_range = rise os i j d up.1 (omega arith) (omega arith)
+
+module _ (n : ℕ) where
+  -- the comparisons with the number rise along the list, as a binary search asks
+  comparisons_rise : (os : List Op) → IsAscending os → IsNonDecreasingBy (λ o. ordering_index (nat_cmp o.seq n)) os
+  comparisons_rise os up = λ i j d le in_range.
+      let numbers_rise : (get_or os i d).seq ≤ (get_or os j d).seq = grind (arith, rise os i j d up, λ (same : i ≡ j). ap (λ k. (get_or os k d).seq) same) in
+      grind (arith, nat_tests)
+
+  pub record IsPlace (os : List Op) (r : Result ℕ ℕ) : Type 0 where
+    pub found : IfOk r (λ at. slice_get os at ≡ op_at os n)
+    pub there : IfOk r (λ at. suc at ≤ length os)
+    pub absent : IfErr r (IsGap os n)
+
+  -- a binary search ends at the number, or at its gap
+  pub searched : (os : List Op) → IsAscending os → (r : Result ℕ ℕ) → IsSearchInRange r (length os) → IsBinarySearchResult (λ o. nat_cmp o.seq n) os r → IsPlace os r
+  searched [] up (Ok at) in_range equal = absurd (omega (arith, in_range))
+  searched (p ∷ ps) up (Ok at) in_range equal = record {
+    found = op_at_found (p ∷ ps) n at p in_range
+        (λ k d low lt. let same : (get_or (p ∷ ps) at d).seq ≡ n = ranked _ n _ (sym (equal d)) in omega (arith, rise (p ∷ ps) k at d up lt in_range))
+        (ranked _ n _ (sym (equal p)));
+    there = omega (arith, in_range);
+    absent = tt;
+  }
+  searched [] up (Err at) in_range parted = record { found = tt; there = tt; absent = let none : at ≡ 0 = omega (arith, in_range) in rw none (end_gap [] n up 0 (omega arith) (λ k d low lt. absurd (omega arith))) }
+  searched (p ∷ ps) up (Err at) in_range parted = record {
+    found = tt;
+    there = tt;
+    absent = is_gap (p ∷ ps) n at p up in_range
+        (λ k d low lt. ranked _ n _ (sym ((parted (comparisons_rise (p ∷ ps) up)).0 k d low lt)))
+        (λ lt. ranked _ n _ (sym ((parted (comparisons_rise (p ∷ ps) up)).1 at p (omega arith) lt)));
+  }

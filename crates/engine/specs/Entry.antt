@@ -1,8 +1,10 @@
--- A document where it stands, and its place in a list.
+-- A document where it stands, and documents by their ids.
 -- For proofs alone: no public contract rests on it.
-use Rattle.std.specs.Prelude.{◌≡◌, ℕ, ◌<◌, ◌≤◌, length, insert, slice_set}
-use Rattle.std.specs.FinMap.Entries.{put}
-use Rattle.doc.specs.Id.{Id, id_cmp}
+use denote.Ref.{Bor}
+use Rattle.std.specs.Prelude.{◌≡◌, ℕ, List, map}
+use Rattle.std.specs.List.{AllByRecursion}
+use Rattle.std.specs.BTreeMap.{BTreeMap}
+use Rattle.doc.specs.Id.{Id}
 use Rattle.op.specs.Documents.{Document, Documents}
 use Rattle.engine.specs.declared.documents.Entry.{Entry}
 
@@ -13,12 +15,10 @@ document_in e = record { seq = e.seq; term = e.term; version = e.version; source
 abbrev pub entry_view : Entry → Id × Document
 entry_view e = (e.id.now, document_in e)
 
--- the id is at this place, where another document of it goes
-pub record IsTaken (ds : Documents) (id : Id) (at : ℕ) : Type 0 where
-  pub in_range : at < length ds
-  pub place : (d : Document) → slice_set ds at (id, d) ≡ put id_cmp id d ds
+-- the documents of a map
+abbrev pub documents_in : BTreeMap (Bor (List ℕ)) Entry → Documents
+documents_in m = map (λ e. entry_view e.1) m.entries
 
--- the id is not there, and a document of it goes in at this place
-pub record IsFree (ds : Documents) (id : Id) (at : ℕ) : Type 0 where
-  pub in_range : at ≤ length ds
-  pub place : (d : Document) → insert ds at (id, d) ≡ put id_cmp id d ds
+-- each document is at its id
+abbrev pub IsByIds : BTreeMap (Bor (List ℕ)) Entry → Type 0
+IsByIds m = AllByRecursion (λ e. e.0.now ≡ e.1.id.now) m.entries

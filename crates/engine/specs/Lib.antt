@@ -9,3 +9,4 @@ pub mod Contents
 pub mod Staged
 pub mod SnapshotChange
 pub mod Last
+pub mod OperationIndex

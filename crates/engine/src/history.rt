@@ -7,6 +7,7 @@ ghost use Rattle.op.specs.Operations.{IsAscending, add, from_number, is_stale, l
 ghost use Rattle.op.specs.Records.{IsRecord, operations};
 ghost use Rattle.engine.specs.Found.{found_document};
 
+use crate::operation_index::OperationIndex;
 use crate::operations;
 use doc::{DocId, Source};
 use op::{Body, Op, Record, checkpoint};
@@ -37,7 +38,7 @@ pub struct Found<'a> {
 #[derive(Drop)]
 pub(crate) struct History {
     records: Vec<Record>,
-    operations: Vec<Op>,
+    operations: OperationIndex,
 }
 
 impl Model for History {
@@ -49,7 +50,7 @@ impl Model for History {
 
     ghost view = { λ h. h.records.items };
 
-    ghost invariant = { λ h. IsKept h.operations.items h.records.items };
+    ghost invariant = { λ h. IsKept h.operations h.records.items };
 }
 
 impl History {
@@ -62,9 +63,9 @@ impl History {
         requires { All IsRecord records.items }
         ensures { IfOk result (λ h. h ≡ records.items) }
     {
-        let mut operations = Vec::new(alloc);
+        let mut operations = OperationIndex::new(alloc);
         for kept in &records {
-            operations::keep(alloc, &mut operations, kept)?;
+            operations.keep(alloc, kept)?;
         }
         Ok(History {
             records,
@@ -83,14 +84,14 @@ impl History {
     pub(crate) fn operations(&self) -> &[Op]
         ensures { result.now ≡ operations self.now }
     {
-        &self.operations
+        self.operations.as_slice()
     }
 
     /// The last operation on the id.
     pub(crate) fn last(&self, id: &DocId) -> Option<&Op>
         ensures { option_copied result ≡ last_on (operations self.now) id.now }
     {
-        operations::last_on(&self.operations, id)
+        self.operations.last_on(id)
     }
 
     /// The document with the id.
@@ -107,10 +108,7 @@ impl History {
     pub(crate) fn op_at(&self, seq: u64) -> Option<&Op>
         ensures { option_copied result ≡ op_at (operations self.now) seq }
     {
-        match operations::place_of(&self.operations, seq) {
-            Ok(at) => Some(&self.operations[at]),
-            Err(_) => None,
-        }
+        self.operations.op_at(seq)
     }
 
     /// The greatest number, or -1 where there is none.
@@ -118,7 +116,7 @@ impl History {
         ensures number { result ≡ checkpoint_of (next_seq (operations self.now)) }
         ensures ascending { IsAscending (operations self.now) }
     {
-        operations::greatest(&self.operations)
+        operations::greatest(self.operations.as_slice())
     }
 
     /// The greatest number up to which none is missing, or -1.
@@ -126,7 +124,7 @@ impl History {
         ensures number { result ≡ local_checkpoint (operations self.now) }
         ensures ascending { IsAscending (operations self.now) }
     {
-        checkpoint::from_count(operations::local_count(&self.operations))
+        checkpoint::from_count(self.operations.local())
     }
 
     /// The same once an operation is kept whose number is free.
@@ -135,21 +133,21 @@ impl History {
         requires free { op_at (operations self.now) op.now.seq ≡ None }
         ensures { result ≡ local_checkpoint (add (operations self.now) op.now) }
     {
-        checkpoint::from_count(operations::local_count_with(&self.operations, op))
+        checkpoint::from_count(self.operations.local_with(op))
     }
 
     /// Whether an operation on the same id has a greater number.
     pub(crate) fn is_stale(&self, op: &Op) -> bool
         ensures { result ≡ is_stale (operations self.now) op.now }
     {
-        operations::has_newer(&self.operations, op)
+        self.operations.is_stale(op)
     }
 
     /// The operations above a checkpoint.
     pub(crate) fn above(&self, alloc: Global, global: i64) -> Result<Vec<Op>, AllocError>
         ensures { IfOk result (λ v. v.items ≡ from_number (known global) (operations self.now)) }
     {
-        operations::from_number(alloc, &self.operations, checkpoint::count(global))
+        operations::from_number(alloc, self.operations.as_slice(), checkpoint::count(global))
     }
 
     /// Keeps the record, where it isn't an operation whose number is there.
@@ -159,13 +157,13 @@ impl History {
         ensures records { IfOk result (λ a. self.new ≡ records_after self.old kept.now a) }
         ensures err { OnErr result (self.new ≡ self.old) }
     {
-        let applied = operations::applied_of(&self.operations, kept);
+        let applied = self.operations.applied_of(kept);
         if let Applied::Repeated = applied {
             return Ok(applied);
         }
         self.records.reserve(1)?;
         let copy = kept.copy(alloc)?;
-        operations::keep(alloc, &mut self.operations, kept)?;
+        self.operations.keep(alloc, kept)?;
         self.records.push(copy)?;
         Ok(applied)
     }

@@ -4,6 +4,7 @@
 mod documents;
 pub mod engine;
 mod history;
+mod operation_index;
 mod operations;
 pub mod snapshot;
 pub mod staged;

@@ -7,9 +7,7 @@ ghost use Rattle.op.specs.Checkpoint.{checkpoint_of};
 ghost use Rattle.engine.specs.Place.{IsGap};
 ghost use Rattle.engine.specs.Applied as spec;
 
-use crate::history::Applied;
-use doc::DocId;
-use op::{Body, Op, Operations, Record, checkpoint};
+use op::{Op, Operations};
 use std::alloc::{AllocError, Global};
 
 /// Where the number is, or where it would go.
@@ -19,106 +17,11 @@ pub(crate) fn place_of(operations: &[Op], seq: u64) -> Result<usize, usize>
     ensures there { IfOk result (λ at. suc at ≤ length operations.now) }
     ensures absent { IfErr result (λ at. IsGap operations.now seq at) }
 {
-    for (at, op) in operations.iter().enumerate() {
-        if op.seq == seq {
-            return Ok(at);
-        }
-        if seq < op.seq {
-            return Err(at);
-        }
-    }
-    Err(operations.len())
-}
-
-/// The last operation on the id.
-pub(crate) fn last_on<'a>(operations: &'a [Op], id: &DocId) -> Option<&'a Op>
-    ensures { option_copied result ≡ last_on operations.now id.now }
-{
-    let mut found = None;
-    for op in operations {
-        if op.is_on(id) {
-            found = Some(op);
-        }
-    }
-    found
-}
-
-/// Whether an operation on the same id has a greater number.
-pub(crate) fn has_newer(operations: &[Op], op: &Op) -> bool
-    ensures { result ≡ is_stale operations.now op.now }
-{
-    let id = match &op.body {
-        Body::Index(id, _) => id,
-        Body::Delete(id) => id,
-        Body::NoOp => return false,
-    };
-    match last_on(operations, id) {
-        Some(last) => op.seq < last.seq,
-        None => false,
-    }
-}
-
-/// What becomes of a record.
-pub(crate) fn applied_of(operations: &[Op], kept: &Record) -> Applied
-    requires { IsAscending operations.now }
-    ensures { result ≡ spec.applied_of operations.now kept.now }
-{
-    match kept {
-        Record::Op(_, op) => outcome(operations, op),
-        Record::Resync(_, _, _) => Applied::Taken,
-        Record::Recover(_, _) => Applied::Taken,
-    }
-}
-
-/// What becomes of an operation.
-fn outcome(operations: &[Op], op: &Op) -> Applied
-    requires { IsAscending operations.now }
-    ensures { result ≡ spec.outcome operations.now op.now }
-{
-    if place_of(operations, op.seq).is_ok() {
-        Applied::Repeated
-    } else if has_newer(operations, op) {
-        Applied::Stale
-    } else {
-        Applied::Taken
-    }
-}
-
-/// The operations after one more record.
-pub(crate) fn keep(alloc: Global, operations: &mut Vec<Op>, kept: &Record) -> Result<(), AllocError>
-    requires { IsAscending operations.old.items }
-    ensures ok { OnOk result (operations.new.items ≡ after_record operations.old.items kept.now) }
-    ensures err { OnErr result (operations.new.items ≡ operations.old.items) }
-{
-    match kept {
-        Record::Op(_, op) => add(alloc, operations, op),
-        Record::Resync(_, known, tail) => {
-            let count = checkpoint::count(*known);
-            let resynced = resynced(alloc, operations, count, tail)?;
-            *operations = resynced;
-            Ok(())
-        }
-        Record::Recover(_, all) => {
-            *operations = all.copy(alloc)?.into_vec();
-            Ok(())
-        }
-    }
-}
-
-/// Adds the operation, where its number is free.
-fn add(alloc: Global, operations: &mut Vec<Op>, op: &Op) -> Result<(), AllocError>
-    requires { IsAscending operations.old.items }
-    ensures ok { OnOk result (operations.new.items ≡ add operations.old.items op.now) }
-    ensures err { OnErr result (operations.new.items ≡ operations.old.items) }
-{
-    if let Err(at) = place_of(operations, op.seq) {
-        operations.insert(at, op.copy(alloc)?)?;
-    }
-    Ok(())
+    operations.binary_search_by_key(&seq, |op| op.seq)
 }
 
 /// The first operations up to a number, and the tail of a resync.
-fn resynced(
+pub(crate) fn resynced(
     alloc: Global,
     operations: &[Op],
     count: u64,
@@ -173,12 +76,12 @@ pub(crate) fn local_count(operations: &[Op]) -> u64
 }
 
 /// The same once an operation is kept whose number is free.
-pub(crate) fn local_count_with(operations: &[Op], op: &Op) -> u64
+pub(crate) fn local_count_with(operations: &[Op], count: u64, op: &Op) -> u64
     requires up { IsAscending operations.now }
+    requires counted { count ≡ local_count operations.now }
     requires free { op_at operations.now op.now.seq ≡ None }
     ensures { result ≡ local_count (add operations.now op.now) }
 {
-    let count = local_count(operations);
     if op.seq != count {
         return count;
     }

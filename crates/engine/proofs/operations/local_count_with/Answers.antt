@@ -1,8 +1,24 @@
 use Rattle.std.proofs.Common.{arith}
 use Rattle.std.proofs.lemmas.Bool.Decides.{nat_tests}
 use Rattle.std.proofs.lemmas.Grind.{common_steps}
-use Rattle.op.proofs.LocalLaws.{local_count-add}
+use Rattle.op.proofs.LocalLaws.{local_count-add, reached-length}
 use Rattle.engine.proofs.operations.local_count_with.Goals as goal
+
+-- there are no more than operations
+pub overflow_add-count : goal.overflow_add-count
+overflow_add-count c = omega (arith, reached-length 0 c.args.operations.now)
+
+pub offset_bounds-operations-count : goal.offset_bounds-operations-count
+offset_bounds-operations-count c = omega (arith, reached-length 0 c.args.operations.now)
+
+pub slice_bounds-reached-count : goal.slice_bounds-reached-count
+slice_bounds-reached-count c = omega (arith, reached-length 0 c.args.operations.now)
+
+pub slice_bounds-reached-start : goal.slice_bounds-reached-start
+slice_bounds-reached-start c = omega (arith, reached-length 0 c.args.operations.now)
+
+pub reached-requires : goal.reached-requires
+reached-requires c = grind (arith, common_steps, reached-length 0 c.args.operations.now)
 
 pub returns-then-op-count : goal.returns-then-op-count
 returns-then-op-count c = grind (arith, nat_tests, local_count-add c.args.operations.now c.args.op.now c.requires.up c.requires.free)

@@ -5,6 +5,10 @@ use Rattle.op.specs.Records.{IsRecord}
 use Rattle.engine.proofs.KeptLaws.{IsKept-push}
 use Rattle.engine.proofs.history.History.of.Goals as goal
 
+-- each is a record
+pub keep-requires : goal.keep-requires
+keep-requires c = rw (c.kept-item.is, c.deref-kept-items.ensures.value) (c.requires c.loop-kept.kept-index c.kept-item.result (rw (← c.deref-kept-items.ensures.value) c.loop-kept-test.true))
+
 -- the next record is kept too
 pub loop-kept-preserved : goal.loop-kept-preserved
 loop-kept-preserved c =

@@ -4,4 +4,4 @@ use Rattle.engine.proofs.history.History.of.Given as goal
 
 -- the operations so far are those of the records so far
 abbrev pub invariant-loop-kept : goal.invariant-loop-kept
-invariant-loop-kept l = IsKept l.operations.items (take l.kept-index l.kept-items)
+invariant-loop-kept l = IsKept l.operations (take l.kept-index l.kept-items)

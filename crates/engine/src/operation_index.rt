@@ -1,0 +1,242 @@
+//! The operations of a copy in order of number, found by number and by id without a walk.
+ghost use Rattle.std.specs.Prelude.{◌≡◌, ◌<◌, ◌^◌, ◌&&◌, not, Bool, None, Some, [], if◌then◌else◌, IfOk, OnOk, OnErr, false};
+ghost use Rattle.std.specs.Option.{option_copied, option_map};
+ghost use Rattle.std.specs.HashMap.{get_by_text};
+ghost use Rattle.std.specs.Str.{bytes_eq};
+ghost use Rattle.doc.specs.Id.{Id, is_id};
+ghost use Rattle.op.specs.Operations.{IsAscending, add, is_newer, is_on, is_stale, last_on, local_count, op_at};
+ghost use Rattle.op.specs.Records.{IsRecord, after_record};
+ghost use Rattle.engine.specs.Applied as spec;
+
+use crate::history::Applied;
+use crate::operations;
+use doc::DocId;
+use op::{Body, Op, Record, checkpoint};
+use std::alloc::{AllocError, Global};
+use std::collections::HashMap;
+use std::marker::Model;
+
+/// By id, the number of the last operation on it.
+type Latest = HashMap<String, u64>;
+
+/// Operations in ascending order of their numbers.
+#[derive(Drop)]
+pub(crate) struct OperationIndex {
+    operations: Vec<Op>,
+    latest: Latest,
+    local: u64,
+}
+
+impl Model for OperationIndex {
+    ghost use Rattle.std.specs.Prelude.{List};
+    ghost use Rattle.std.specs.HashMap.{get_by_text};
+    ghost use Rattle.op.specs.declared.operation.Op.{Op};
+    ghost use Rattle.engine.specs.OperationIndex.{IsIndexed};
+
+    ghost Value = { List Op };
+
+    ghost view = { λ i. i.operations.items };
+
+    ghost invariant = { λ i. IsIndexed i.operations.items (λ id. get_by_text i.latest id) i.local };
+}
+
+impl OperationIndex {
+    /// No operations.
+    pub(crate) fn new(alloc: Global) -> OperationIndex
+        ensures { result ≡ [] }
+    {
+        OperationIndex {
+            operations: Vec::new(alloc),
+            latest: HashMap::new(alloc),
+            local: 0,
+        }
+    }
+
+    /// These operations.
+    fn of(alloc: Global, operations: Vec<Op>) -> Result<OperationIndex, AllocError>
+        requires { IsAscending operations.items }
+        ensures { IfOk result (λ i. i ≡ operations.items) }
+    {
+        let latest = latest_of(alloc, &operations)?;
+        let local = operations::local_count(&operations);
+        Ok(OperationIndex {
+            operations,
+            latest,
+            local,
+        })
+    }
+
+    pub(crate) fn as_slice(&self) -> &[Op]
+        ensures same { result.now ≡ self.now }
+        ensures ascending { IsAscending self.now }
+    {
+        &self.operations
+    }
+
+    /// How many operations from number 0 up are there without a gap.
+    pub(crate) fn local(&self) -> u64
+        ensures { result ≡ local_count self.now }
+    {
+        self.local
+    }
+
+    /// The operation with the number.
+    pub(crate) fn op_at(&self, seq: u64) -> Option<&Op>
+        ensures { option_copied result ≡ op_at self.now seq }
+    {
+        match operations::place_of(&self.operations, seq) {
+            Ok(at) => Some(&self.operations[at]),
+            Err(_) => None,
+        }
+    }
+
+    /// The last operation on the id.
+    pub(crate) fn last_on(&self, id: &DocId) -> Option<&Op>
+        ensures { option_copied result ≡ last_on self.now id.now }
+    {
+        match self.latest.get(id.as_str()) {
+            Some(seq) => self.op_at(*seq),
+            None => None,
+        }
+    }
+
+    /// Whether an operation on the id has a greater number.
+    fn has_newer(&self, id: &DocId, seq: u64) -> bool
+        ensures { result ≡ is_newer (last_on self.now id.now) seq }
+    {
+        match self.latest.get(id.as_str()) {
+            Some(last) => seq < *last,
+            None => false,
+        }
+    }
+
+    /// Whether an operation on the same id has a greater number.
+    pub(crate) fn is_stale(&self, op: &Op) -> bool
+        ensures { result ≡ is_stale self.now op.now }
+    {
+        match &op.body {
+            Body::Index(id, _) => self.has_newer(id, op.seq),
+            Body::Delete(id) => self.has_newer(id, op.seq),
+            Body::NoOp => false,
+        }
+    }
+
+    /// What becomes of a record.
+    pub(crate) fn applied_of(&self, kept: &Record) -> Applied
+        ensures { result ≡ spec.applied_of self.now kept.now }
+    {
+        match kept {
+            Record::Op(_, op) => self.outcome(op),
+            Record::Resync(_, _, _) => Applied::Taken,
+            Record::Recover(_, _) => Applied::Taken,
+        }
+    }
+
+    /// What becomes of an operation.
+    fn outcome(&self, op: &Op) -> Applied
+        ensures { result ≡ spec.outcome self.now op.now }
+    {
+        if self.op_at(op.seq).is_some() {
+            Applied::Repeated
+        } else if self.is_stale(op) {
+            Applied::Stale
+        } else {
+            Applied::Taken
+        }
+    }
+
+    /// The same once an operation is kept whose number is free: how many are there without a gap.
+    pub(crate) fn local_with(&self, op: &Op) -> u64
+        requires { op_at self.now op.now.seq ≡ None }
+        ensures { result ≡ local_count (add self.now op.now) }
+    {
+        operations::local_count_with(&self.operations, self.local, op)
+    }
+
+    /// Takes one more record.
+    pub(crate) fn keep(&mut self, alloc: Global, kept: &Record) -> Result<(), AllocError>
+        requires { IsRecord kept.now }
+        ensures ok { OnOk result (self.new ≡ after_record self.old kept.now) }
+        ensures err { OnErr result (self.new ≡ self.old) }
+    {
+        match kept {
+            Record::Op(_, op) => self.add(alloc, op),
+            Record::Resync(_, known, tail) => {
+                let count = checkpoint::count(*known);
+                let all = operations::resynced(alloc, &self.operations, count, tail)?;
+                *self = OperationIndex::of(alloc, all)?;
+                Ok(())
+            }
+            Record::Recover(_, all) => {
+                *self = OperationIndex::of(alloc, all.copy(alloc)?.into_vec())?;
+                Ok(())
+            }
+        }
+    }
+
+    /// Adds the operation, where its number is free.
+    fn add(&mut self, alloc: Global, op: &Op) -> Result<(), AllocError>
+        ensures ok { OnOk result (self.new ≡ add self.old op.now) }
+        ensures err { OnErr result (self.new ≡ self.old) }
+    {
+        match operations::place_of(&self.operations, op.seq) {
+            Ok(_) => Ok(()),
+            Err(at) => {
+                let stale = self.is_stale(op);
+                let local = operations::local_count_with(&self.operations, self.local, op);
+                let copy = op.copy(alloc)?;
+                self.operations.reserve(1)?;
+                note(alloc, &mut self.latest, op, stale)?;
+                self.operations.insert(at, copy)?;
+                self.local = local;
+                Ok(())
+            }
+        }
+    }
+}
+
+/// By id, the number of the last of these operations.
+fn latest_of(alloc: Global, operations: &[Op]) -> Result<Latest, AllocError>
+    ensures { IfOk result (λ m. (id : Id) → get_by_text m id ≡ option_map (λ o. o.seq) (last_on operations.now id)) }
+{
+    let mut latest = HashMap::new(alloc);
+    for op in operations {
+        note(alloc, &mut latest, op, false)?;
+    }
+    Ok(latest)
+}
+
+/// Notes the number of an operation at its id, unless it is stale.
+fn note(alloc: Global, latest: &mut Latest, op: &Op, stale: bool) -> Result<(), AllocError>
+    ensures ok { OnOk result ((id : Id) → get_by_text latest.new id ≡ (if is_on id op.now && not stale then Some op.now.seq else get_by_text latest.old id)) }
+    ensures err { OnErr result ((id : Id) → get_by_text latest.new id ≡ get_by_text latest.old id) }
+{
+    if stale {
+        return Ok(());
+    }
+    match &op.body {
+        Body::Index(id, _) => {
+            set(alloc, latest, id.as_str(), op.seq)?;
+            Ok(())
+        }
+        Body::Delete(id) => {
+            set(alloc, latest, id.as_str(), op.seq)?;
+            Ok(())
+        }
+        Body::NoOp => Ok(()),
+    }
+}
+
+/// Sets the number at an id.
+fn set(alloc: Global, latest: &mut Latest, id: &str, seq: u64) -> Result<(), AllocError>
+    ensures here { OnOk result (get_by_text latest.new id.now ≡ Some seq) }
+    ensures others { OnOk result ((w : Id) → bytes_eq id.now w ≡ false → get_by_text latest.new w ≡ get_by_text latest.old w) }
+    ensures err { OnErr result ((w : Id) → get_by_text latest.new w ≡ get_by_text latest.old w) }
+{
+    if let Some(last) = latest.get_mut(id) {
+        *last = seq;
+        return Ok(());
+    }
+    latest.insert(String::from_str(alloc, id)?, seq)?;
+    Ok(())
+}
