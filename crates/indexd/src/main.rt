@@ -1,12 +1,14 @@
-//! `indexd`: an index of JSON documents, played from a script.
+//! `indexd`: an index of JSON documents, played from a script or served over HTTP.
 #![tactic(auto)]
 
 mod command;
 mod fault;
+mod index_name;
 mod playing;
 mod program;
 mod refusal;
 mod reply;
+mod serving;
 mod step;
 mod writing;
 

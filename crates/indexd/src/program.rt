@@ -5,11 +5,13 @@ ghost use Rattle.indexd.specs.Output.{lines};
 
 use crate::fault::ReplayFault;
 use crate::playing::replay_flushing;
+use crate::serving::{ServeFault, Settings, serve};
 use crate::writing::Flushing;
 use clap::error::ErrorKind;
-use clap::{Arg, ArgAction, Command};
+use clap::{Arg, ArgAction, ArgMatches, Command};
 use std::alloc::{AllocError, Global};
 use std::io::{BufRead, BufReader, Write};
+use std::net::{Net, TcpListener, TcpStream};
 use std::rt::Files;
 use std::{fs, io};
 
@@ -25,20 +27,52 @@ enum ProgramFault {
     Replay(ReplayFault),
 }
 
+/// What the command line asks for.
+#[derive(Clone, Copy)]
+enum Asked<'a> {
+    /// To play the script of a file.
+    Replay(&'a str),
+    /// To serve an index.
+    Serve(Settings<'a>),
+}
+
 /// Runs the program on its words (the first is its name), and answers its exit status: 0, or 1 with one line
 /// `indexd: TEXT` on `errors`, or 2 with a usage text there where the words can't be read.
-pub fn program<R: Files + AllocGlobal, I: BufRead, O: Write, E: Write>(
+pub fn program<R, I: BufRead, O: Write, E: Write>(
     rt: &R,
     words: &[String],
     input: &mut I,
     output: &mut O,
     errors: &mut E,
 ) -> u8
+where
+    R: Files + AllocGlobal + Net<Listener = TcpListener, Stream = TcpStream>,
     ensures { result < 3 }
 {
-    match file_of(rt.alloc(), words) {
-        Ok(file) => run(rt, file, input, output, errors),
+    match asked_of(rt.alloc(), words) {
+        Ok(Asked::Replay(file)) => run(rt, file, input, output, errors),
+        Ok(Asked::Serve(settings)) => run_server(rt, settings, output, errors),
         Err(error) => explain(&error, output, errors),
+    }
+}
+
+/// Serves an index, and answers the exit status: 0, or 1 with one line on `errors`.
+fn run_server<R, O: Write, E: Write>(
+    rt: &R,
+    settings: Settings<'_>,
+    output: &mut O,
+    errors: &mut E,
+) -> u8
+where
+    R: Files + AllocGlobal + Net<Listener = TcpListener, Stream = TcpStream>,
+    ensures { result < 2 }
+{
+    match serve(rt, settings, output) {
+        Ok(()) => 0,
+        Err(fault) => {
+            let _ = writeln!(errors, "indexd: {fault}");
+            1
+        }
     }
 }
 
@@ -71,12 +105,22 @@ fn report<E: Write>(errors: &mut E, file: &str, fault: &ProgramFault) {
     };
 }
 
-/// The file that the command line names.
-fn file_of<'a>(alloc: Global, words: &'a [String]) -> Result<&'a str, clap::Error> {
+/// What the command line asks for.
+fn asked_of<'a>(alloc: Global, words: &'a [String]) -> Result<Asked<'a>, clap::Error> {
     let matches = command(alloc)?.try_get_matches_from(words)?;
     match matches.subcommand() {
-        Some((_, replay)) => Ok(replay.get_str("FILE").unwrap_or("-")),
-        None => Ok("-"),
+        Some(("serve", options)) => Ok(Asked::Serve(settings_of(options))),
+        Some((_, replay)) => Ok(Asked::Replay(replay.get_str("FILE").unwrap_or("-"))),
+        None => Ok(Asked::Replay("-")),
+    }
+}
+
+fn settings_of<'a>(options: &ArgMatches<'a>) -> Settings<'a> {
+    Settings {
+        port: options.get_one::<u16>("port").unwrap_or(0),
+        index: options.get_str("index").unwrap_or("index"),
+        mapping: options.get_str("mapping"),
+        connections: options.get_one::<u64>("connections"),
     }
 }
 
@@ -91,7 +135,52 @@ fn command<'a>(alloc: Global) -> Result<Command<'a>, AllocError> {
     Command::new(alloc, "indexd")
         .about("An index of JSON documents whose promises are proved")
         .subcommand_required(true)
-        .subcommand(replay)
+        .subcommand(replay)?
+        .subcommand(serve_command(alloc)?)
+}
+
+fn serve_command<'a>(alloc: Global) -> Result<Command<'a>, AllocError> {
+    let port = option(alloc, "port", "The port on 127.0.0.1, 1 to 65535")
+        .required(true)
+        .value_name("P")
+        .value_parser(clap::value_parser!(u16).range(1..));
+    let index = option(
+        alloc,
+        "index",
+        "The name of the index; `index` where none is given",
+    )
+    .value_name("NAME");
+    let mapping = option(
+        alloc,
+        "mapping",
+        "The file of the mapping; an empty mapping where none is given",
+    )
+    .value_name("FILE");
+    let copies = option(alloc, "copies", "How many copies the index has: 1")
+        .value_name("N")
+        .value_parser(clap::value_parser!(u64).range(1..=1));
+    let connections = option(
+        alloc,
+        "connections",
+        "After how many connections to end; no end where none is given",
+    )
+    .value_name("N")
+    .value_parser(clap::value_parser!(u64).range(1..=1_000_000));
+    Command::new(alloc, "serve")
+        .about("Serves a new index over HTTP, as Elasticsearch's requests ask it")
+        .arg(port)?
+        .arg(index)?
+        .arg(mapping)?
+        .arg(copies)?
+        .arg(connections)
+}
+
+/// An option with a value.
+fn option<'a>(alloc: Global, name: &'a str, help: &'a str) -> Arg<'a> {
+    Arg::new(alloc, name)
+        .long(name)
+        .action(ArgAction::Set)
+        .help(help)
 }
 
 /// Prints what the command line asked for, or what is wrong with it.
