@@ -3,6 +3,7 @@ ghost use Rattle.std.specs.Prelude.{◌≡◌, [], IfOk, IfSome, IfNone, OnOk, O
 ghost use Rattle.std.specs.Io.BufRead.{strip_last};
 ghost use Rattle.std.specs.Io.KnownBytes.{Appends};
 ghost use Rattle.doc.specs.Outcome.{Gives};
+ghost use Rattle.wire.specs.Bytes.{AppendsFront};
 ghost use Rattle.indexd.specs.Held.{copy_in, IsOpen, Keeps};
 ghost use Rattle.indexd.specs.Lines.{IsFirstLine};
 ghost use Rattle.indexd.specs.Output as spec;
@@ -27,7 +28,7 @@ pub fn replay<R: BufRead, W: Write>(
     ensures ok { OnOk result (IfSome (R.remaining reader.old) (λ script.
         Appends (W.contents writer.old) (W.contents writer.new) (spec.lines script))) }
     ensures err { OnErr result (IfSome (R.remaining reader.old) (λ script.
-        spec.AppendsFront (W.contents writer.old) (W.contents writer.new) (spec.lines script))) }
+        AppendsFront (W.contents writer.old) (W.contents writer.new) (spec.lines script))) }
 {
     replay_flushing(alloc, reader, writer, Flushing::ByTheWriter)
 }
@@ -42,7 +43,7 @@ pub(crate) fn replay_flushing<R: BufRead, W: Write>(
     ensures ok { OnOk result (IfSome (R.remaining reader.old) (λ script.
         Appends (W.contents writer.old) (W.contents writer.new) (spec.lines script))) }
     ensures err { OnErr result (IfSome (R.remaining reader.old) (λ script.
-        spec.AppendsFront (W.contents writer.old) (W.contents writer.new) (spec.lines script))) }
+        AppendsFront (W.contents writer.old) (W.contents writer.new) (spec.lines script))) }
 {
     let mut index: Option<OneCopy> = None;
     for _ in 0..u64::MAX {

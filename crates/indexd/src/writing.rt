@@ -1,10 +1,11 @@
 //! Writing the output.
 ghost use Rattle.std.specs.Prelude.{OnOk, OnErr};
 ghost use Rattle.std.specs.Io.KnownBytes.{Appends};
-ghost use Rattle.indexd.specs.Output.{AppendsFront};
+ghost use Rattle.wire.specs.Bytes.{AppendsFront};
 
 use crate::fault::ReplayFault;
 use std::io::Write;
+use wire::{write_flushed, write_whole};
 
 /// When what is written is handed on.
 #[derive(Clone, Copy, Debug, PartialEq, Eq)]
@@ -24,25 +25,13 @@ pub(crate) fn write_line<W: Write>(
     ensures ok { OnOk result (Appends (W.contents writer.old) (W.contents writer.new) bytes.now) }
     ensures err { OnErr result (AppendsFront (W.contents writer.old) (W.contents writer.new) bytes.now) }
 {
-    write_whole(writer, bytes)?;
-    if flushing == Flushing::EachLine && !bytes.is_empty() && writer.flush().is_err() {
-        return Err(ReplayFault::Write);
+    let written = if flushing == Flushing::EachLine && !bytes.is_empty() {
+        write_flushed(writer, bytes)
+    } else {
+        write_whole(writer, bytes)
+    };
+    match written {
+        Ok(()) => Ok(()),
+        Err(_) => Err(ReplayFault::Write),
     }
-    Ok(())
-}
-
-/// Writes all of the bytes. After a refusal a beginning of them was written.
-pub(crate) fn write_whole<W: Write>(writer: &mut W, bytes: &[u8]) -> Result<(), ReplayFault>
-    ensures ok { OnOk result (Appends (W.contents writer.old) (W.contents writer.new) bytes.now) }
-    ensures err { OnErr result (AppendsFront (W.contents writer.old) (W.contents writer.new) bytes.now) }
-{
-    let mut rest = bytes;
-    while !rest.is_empty() {
-        match writer.write(rest) {
-            Ok(0) => return Err(ReplayFault::Write),
-            Ok(n) => rest = &rest[n..],
-            Err(_) => return Err(ReplayFault::Write),
-        }
-    }
-    Ok(())
 }
