@@ -4,9 +4,10 @@ use Rattle.std.specs.Io.KnownBytes.{Appends}
 use Rattle.std.proofs.KnownBytes.{Appends-nil, Appends-trans}
 use Rattle.indexd.specs.Lines.{lines_of, IsFirstLine}
 use Rattle.indexd.specs.Step.{State}
-use Rattle.indexd.specs.Output.{outputs, lines, played, AppendsFront}
+use Rattle.indexd.specs.Output.{outputs, lines, played}
 use Rattle.indexd.specs.Going.{Going}
-use Rattle.indexd.proofs.Bytes.{front_front}
+use Rattle.wire.specs.Bytes.{AppendsFront}
+use Rattle.wire.proofs.Bytes.{front_front}
 
 pub begins : (o w : Option (List ℕ)) → IfSome o (λ script. Going w w o None script)
 begins None w = tt

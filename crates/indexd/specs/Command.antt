@@ -2,7 +2,9 @@
 use Rattle.std.specs.Prelude.{ℕ, Bool, ◌||◌, ◌==◌, slice_index, List, length, codes, Option, Some, None, option_map, option_and_then, if◌then◌else◌}
 use Rattle.std.specs.Str.{bytes_eq}
 use Rattle.replica.specs.declared.input.Condition.{Condition}
-use Rattle.indexd.specs.Words.{text_of, split_word, one_word, number_of}
+use Rattle.wire.specs.Number.{number_of}
+use Rattle.wire.specs.Pieces.{text_of}
+use Rattle.indexd.specs.Words.{split_word, one_word}
 
 -- what a write does; documents are texts that are still to be read
 pub data Change : Type 0 where

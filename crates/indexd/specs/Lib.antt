@@ -8,3 +8,4 @@ pub mod Output
 pub mod Going
 pub mod View
 pub mod Held
+pub mod IndexName

@@ -1,6 +1,5 @@
 -- What a script prints.
-use Rattle.std.specs.Prelude.{◌≡◌, ℕ, List, [], ◌∷◌, ◌++◌, Option, Some, None, Result, Ok, Err, if◌then◌else◌}
-use Rattle.std.specs.Io.KnownBytes.{Appends}
+use Rattle.std.specs.Prelude.{ℕ, List, [], ◌∷◌, ◌++◌, Option, Some, None, Result, Ok, Err, if◌then◌else◌}
 use Rattle.doc.specs.Outcome.{◌>>=◌}
 use Rattle.indexd.specs.Lines.{lines_of}
 use Rattle.indexd.specs.Command.{Command, command_of, is_passed_over}
@@ -33,11 +32,3 @@ outputs s (line ∷ lines) = (played s line).1 ++ outputs (played s line).0 line
 -- the output of a script; the index isn't open at first
 abbrev pub lines : List ℕ → List ℕ
 lines script = outputs None (lines_of script)
-
--- a beginning of some bytes
-abbrev pub IsFront : List ℕ → List ℕ → Type 0
-IsFront front all = (rest : List ℕ) × (all ≡ front ++ rest)
-
--- known bytes grew by a beginning of these
-abbrev pub AppendsFront : Option (List ℕ) → Option (List ℕ) → List ℕ → Type 0
-AppendsFront old new all = (front : List ℕ) × IsFront front all × Appends old new front

@@ -1,13 +1,12 @@
 //! The commands of a script.
-ghost use Rattle.std.specs.Prelude.{◌≡◌, ◌^◌, nat_lt, option_map, if◌then◌else◌, Some, None};
-ghost use Rattle.std.specs.Str.{all_ascii_digits};
+ghost use Rattle.std.specs.Prelude.{◌≡◌, option_map};
 ghost use Rattle.std.specs.Option.{option_copied};
 ghost use Rattle.indexd.specs.Command as spec;
 ghost use Rattle.indexd.specs.Words as words;
 ghost use Rattle.indexd.specs.View.{command_view};
 
 use replica::Condition;
-use std::str;
+use wire::{number_of, text_of};
 
 /// What a write does; a document stands as the text of the line.
 #[derive(Clone, Copy)]
@@ -158,16 +157,6 @@ fn condition_then(text: &str) -> Option<(Condition, &str)>
     Some((Condition { seq, term }, rest))
 }
 
-/// The text that some bytes are.
-fn text_of(bytes: &[u8]) -> Option<&str>
-    ensures { option_copied result ≡ words.text_of bytes.now }
-{
-    match str::from_utf8(bytes) {
-        Ok(text) => Some(text),
-        Err(_) => None,
-    }
-}
-
 /// The first word, and the text behind the space after it.
 fn split_word(text: &str) -> Option<(&str, &str)>
     ensures { option_map (λ x. (x.0.now, x.1.now)) result ≡ words.split_word text.now }
@@ -183,42 +172,4 @@ fn one_word(text: &str) -> Option<&str>
         Some(_) => None,
         None => Some(text),
     }
-}
-
-/// The number that a word is.
-fn number_of(word: &str) -> Option<u64>
-    ensures { result ≡ words.number_of word.now }
-{
-    if !is_number(word.as_bytes()) {
-        return None;
-    }
-    match word.parse::<u64>() {
-        Ok(number) => small(number),
-        Err(_) => None,
-    }
-}
-
-/// The number, where it fits 63 bits.
-fn small(number: u64) -> Option<u64>
-    ensures { result ≡ (if nat_lt number (2 ^ 63) then Some number else None) }
-{
-    if number < 1 << 63 { Some(number) } else { None }
-}
-
-/// Whether a word is 1 to 19 digits.
-fn is_number(word: &[u8]) -> bool
-    ensures { result ≡ words.is_number word.now }
-{
-    !word.is_empty() && word.len() <= 19 && all_digits(word)
-}
-
-fn all_digits(word: &[u8]) -> bool
-    ensures { result ≡ all_ascii_digits word.now }
-{
-    for byte in word {
-        if !byte.is_ascii_digit() {
-            return false;
-        }
-    }
-    true
 }

@@ -1,6 +1,7 @@
 //! The words of the command line, and what `--help` says.
 
-use clap::{Arg, ArgAction, Command};
+use crate::serving::Settings;
+use clap::{Arg, ArgAction, ArgMatches, Command};
 use std::alloc::{AllocError, Global};
 
 /// What stands behind the options in `--help`.
@@ -26,28 +27,61 @@ or memory is wanting; 2 for a bad command line.
 README.md beside the program says more, and what is proved.";
 
 /// The script that is to be played, and whether refusals are explained.
-#[derive(Clone, Copy, Debug)]
-pub(crate) struct Words<'a> {
+#[derive(Clone, Copy)]
+pub(crate) struct Played<'a> {
     pub file: &'a str,
     pub explains: bool,
 }
 
-/// What the command line says, or what is wrong with it.
-pub(crate) fn words_of<'a>(alloc: Global, words: &'a [String]) -> Result<Words<'a>, clap::Error> {
+/// What the command line asks for.
+#[derive(Clone, Copy)]
+pub(crate) enum Task<'a> {
+    /// To play a script.
+    Replay(Played<'a>),
+    /// To serve an index.
+    Serve(Settings<'a>),
+}
+
+/// What the command line asks for, or what is wrong with it.
+pub(crate) fn task_of<'a>(alloc: Global, words: &'a [String]) -> Result<Task<'a>, clap::Error> {
     let matches = command(alloc)?.try_get_matches_from(words)?;
     match matches.subcommand() {
-        Some((_, replay)) => Ok(Words {
-            file: replay.get_str("FILE").unwrap_or("-"),
-            explains: replay.get_flag("explain"),
-        }),
-        None => Ok(Words {
+        Some(("serve", options)) => Ok(Task::Serve(settings_of(options))),
+        Some((_, options)) => Ok(Task::Replay(played_of(options))),
+        None => Ok(Task::Replay(Played {
             file: "-",
             explains: false,
-        }),
+        })),
+    }
+}
+
+fn played_of<'a>(options: &ArgMatches<'a>) -> Played<'a> {
+    Played {
+        file: options.get_str("FILE").unwrap_or("-"),
+        explains: options.get_flag("explain"),
+    }
+}
+
+fn settings_of<'a>(options: &ArgMatches<'a>) -> Settings<'a> {
+    Settings {
+        port: options.get_one::<u16>("port").unwrap_or(0),
+        index: options.get_str("index").unwrap_or("index"),
+        mapping: options.get_str("mapping"),
+        connections: options.get_one::<u64>("connections"),
     }
 }
 
 fn command<'a>(alloc: Global) -> Result<Command<'a>, AllocError> {
+    Command::new(alloc, "indexd")
+        .version("0.1.0")
+        .about("An index of JSON documents whose promises are proved")
+        .after_help(LINES)
+        .subcommand_required(true)
+        .subcommand(replay_command(alloc)?)?
+        .subcommand(serve_command(alloc)?)
+}
+
+fn replay_command<'a>(alloc: Global) -> Result<Command<'a>, AllocError> {
     let file = Arg::new(alloc, "FILE")
         .required(true)
         .action(ArgAction::Set)
@@ -56,15 +90,53 @@ fn command<'a>(alloc: Global) -> Result<Command<'a>, AllocError> {
         .long("explain")
         .action(ArgAction::SetTrue)
         .help("Says on standard error why each line is refused (at a terminal it always does)");
-    let replay = Command::new(alloc, "replay")
+    Command::new(alloc, "replay")
         .about("Plays a script over a new index, and prints what each line answers")
         .after_help(LINES)
         .arg(file)?
-        .arg(explain)?;
-    Command::new(alloc, "indexd")
-        .version("0.1.0")
-        .about("An index of JSON documents whose promises are proved")
-        .after_help(LINES)
-        .subcommand_required(true)
-        .subcommand(replay)
+        .arg(explain)
+}
+
+fn serve_command<'a>(alloc: Global) -> Result<Command<'a>, AllocError> {
+    let port = option(alloc, "port", "The port on 127.0.0.1, 1 to 65535")
+        .required(true)
+        .value_name("P")
+        .value_parser(clap::value_parser!(u16).range(1..));
+    let index = option(
+        alloc,
+        "index",
+        "The name of the index; `index` where none is given",
+    )
+    .value_name("NAME");
+    let mapping = option(
+        alloc,
+        "mapping",
+        "The file of the mapping; an empty mapping where none is given",
+    )
+    .value_name("FILE");
+    let copies = option(alloc, "copies", "How many copies the index has: 1")
+        .value_name("N")
+        .value_parser(clap::value_parser!(u64).range(1..=1));
+    let connections = option(
+        alloc,
+        "connections",
+        "After how many connections to end; no end where none is given",
+    )
+    .value_name("N")
+    .value_parser(clap::value_parser!(u64).range(1..=1_000_000));
+    Command::new(alloc, "serve")
+        .about("Serves a new index over HTTP, as Elasticsearch's requests ask it")
+        .arg(port)?
+        .arg(index)?
+        .arg(mapping)?
+        .arg(copies)?
+        .arg(connections)
+}
+
+/// An option with a value.
+fn option<'a>(alloc: Global, name: &'a str, help: &'a str) -> Arg<'a> {
+    Arg::new(alloc, name)
+        .long(name)
+        .action(ArgAction::Set)
+        .help(help)
 }

@@ -1,15 +1,17 @@
-//! `indexd`: an index of JSON documents, played from a script.
+//! `indexd`: an index of JSON documents, played from a script or served over HTTP.
 #![tactic(auto)]
 
 mod command;
 mod command_line;
 mod explaining;
 mod fault;
+mod index_name;
 mod names;
 mod playing;
 mod program;
 mod refusal;
 mod reply;
+mod serving;
 mod step;
 mod telling;
 mod writing;

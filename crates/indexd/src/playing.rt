@@ -3,6 +3,7 @@ ghost use Rattle.std.specs.Prelude.{◌≡◌, [], IfOk, IfSome, IfNone, OnOk, O
 ghost use Rattle.std.specs.Io.BufRead.{strip_last};
 ghost use Rattle.std.specs.Io.KnownBytes.{Appends};
 ghost use Rattle.doc.specs.Outcome.{Gives};
+ghost use Rattle.wire.specs.Bytes.{AppendsFront};
 ghost use Rattle.indexd.specs.Held.{copy_in, IsOpen, Keeps};
 ghost use Rattle.indexd.specs.Lines.{IsFirstLine};
 ghost use Rattle.indexd.specs.Output as spec;
@@ -29,7 +30,7 @@ pub fn replay<R: BufRead, W: Write>(
     ensures ok { OnOk result (IfSome (R.remaining reader.old) (λ script.
         Appends (W.contents writer.old) (W.contents writer.new) (spec.lines script))) }
     ensures err { OnErr result (IfSome (R.remaining reader.old) (λ script.
-        spec.AppendsFront (W.contents writer.old) (W.contents writer.new) (spec.lines script))) }
+        AppendsFront (W.contents writer.old) (W.contents writer.new) (spec.lines script))) }
 {
     replay_telling(alloc, reader, writer, Flushing::ByTheWriter, &mut Silent)
 }
@@ -45,7 +46,7 @@ pub(crate) fn replay_telling<R: BufRead, W: Write, L: Listener>(
     ensures ok { OnOk result (IfSome (R.remaining reader.old) (λ script.
         Appends (W.contents writer.old) (W.contents writer.new) (spec.lines script))) }
     ensures err { OnErr result (IfSome (R.remaining reader.old) (λ script.
-        spec.AppendsFront (W.contents writer.old) (W.contents writer.new) (spec.lines script))) }
+        AppendsFront (W.contents writer.old) (W.contents writer.new) (spec.lines script))) }
 {
     let mut index: Option<OneCopy> = None;
     for _ in 0..u64::MAX {

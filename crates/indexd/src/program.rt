@@ -3,15 +3,17 @@ ghost use Rattle.std.specs.Prelude.{◌≡◌, ◌<◌, IfSome, OnOk, codes};
 ghost use Rattle.std.specs.Io.KnownBytes.{Appends};
 ghost use Rattle.indexd.specs.Output.{lines};
 
-use crate::command_line::{Words, words_of};
+use crate::command_line::{Played, Task, task_of};
 use crate::fault::ReplayFault;
 use crate::names::shown;
 use crate::playing::replay_telling;
+use crate::serving::{Settings, serve};
 use crate::telling::{Listener, Teller, Wanted};
 use crate::writing::Flushing;
 use clap::error::ErrorKind;
 use std::alloc::Global;
 use std::io::{BufRead, BufReader, Write};
+use std::net::{Net, TcpListener, TcpStream};
 use std::rt::Files;
 use std::time::Clock;
 use std::{fs, io};
@@ -37,7 +39,7 @@ enum ProgramFault {
 
 /// Runs the program on its words (the first is its name), and answers its exit status: 0, or 1 with one line
 /// `indexd: TEXT` on `errors`, or 2 with a usage text there where the words can't be read.
-pub fn program<R: Files + Clock + AllocGlobal, I: BufRead, O: Write, E: Write>(
+pub fn program<R, I: BufRead, O: Write, E: Write>(
     rt: &R,
     words: &[String],
     terminals: Terminals,
@@ -45,18 +47,41 @@ pub fn program<R: Files + Clock + AllocGlobal, I: BufRead, O: Write, E: Write>(
     output: &mut O,
     errors: &mut E,
 ) -> u8
+where
+    R: Files + Clock + AllocGlobal + Net<Listener = TcpListener, Stream = TcpStream>,
     ensures { result < 3 }
 {
-    match words_of(rt.alloc(), words) {
-        Ok(words) => run(rt, words, terminals, input, output, errors),
+    match task_of(rt.alloc(), words) {
+        Ok(Task::Replay(played)) => run(rt, played, terminals, input, output, errors),
+        Ok(Task::Serve(settings)) => run_server(rt, settings, output, errors),
         Err(error) => explain(&error, output, errors),
+    }
+}
+
+/// Serves an index, and answers the exit status: 0, or 1 with one line on `errors`.
+fn run_server<R, O: Write, E: Write>(
+    rt: &R,
+    settings: Settings<'_>,
+    output: &mut O,
+    errors: &mut E,
+) -> u8
+where
+    R: Files + AllocGlobal + Net<Listener = TcpListener, Stream = TcpStream>,
+    ensures { result < 2 }
+{
+    match serve(rt, settings, output) {
+        Ok(()) => 0,
+        Err(fault) => {
+            let _ = writeln!(errors, "indexd: {fault}");
+            1
+        }
     }
 }
 
 /// Plays a script, and answers the exit status: 0, or 1 with one line on `errors`.
 fn run<R: Files + Clock + AllocGlobal, I: BufRead, O: Write, E: Write>(
     rt: &R,
-    words: Words<'_>,
+    words: Played<'_>,
     terminals: Terminals,
     input: &mut I,
     output: &mut O,

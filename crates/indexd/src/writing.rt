@@ -1,10 +1,11 @@
 //! Writing the output.
 ghost use Rattle.std.specs.Prelude.{OnOk, OnErr};
 ghost use Rattle.std.specs.Io.KnownBytes.{Appends};
-ghost use Rattle.indexd.specs.Output.{AppendsFront};
+ghost use Rattle.wire.specs.Bytes.{AppendsFront};
 
 use crate::fault::ReplayFault;
-use std::io::{ErrorKind, Write};
+use std::io::Write;
+use wire::write_all;
 
 /// When what is written is handed on.
 #[derive(Clone, Copy, Debug, PartialEq, Eq)]
@@ -24,7 +25,9 @@ pub(crate) fn write_line<W: Write>(
     ensures ok { OnOk result (Appends (W.contents writer.old) (W.contents writer.new) bytes.now) }
     ensures err { OnErr result (AppendsFront (W.contents writer.old) (W.contents writer.new) bytes.now) }
 {
-    write_whole(writer, bytes)?;
+    if let Err(error) = write_all(writer, bytes) {
+        return Err(ReplayFault::Write(error));
+    }
     if flushing == Flushing::ByTheWriter || bytes.is_empty() {
         return Ok(());
     }
@@ -32,20 +35,4 @@ pub(crate) fn write_line<W: Write>(
         Ok(()) => Ok(()),
         Err(error) => Err(ReplayFault::Write(error)),
     }
-}
-
-/// Writes all of the bytes. After a refusal a beginning of them was written.
-pub(crate) fn write_whole<W: Write>(writer: &mut W, bytes: &[u8]) -> Result<(), ReplayFault>
-    ensures ok { OnOk result (Appends (W.contents writer.old) (W.contents writer.new) bytes.now) }
-    ensures err { OnErr result (AppendsFront (W.contents writer.old) (W.contents writer.new) bytes.now) }
-{
-    let mut rest = bytes;
-    while !rest.is_empty() {
-        match writer.write(rest) {
-            Ok(0) => return Err(ReplayFault::Write(ErrorKind::WriteZero.into())),
-            Ok(n) => rest = &rest[n..],
-            Err(error) => return Err(ReplayFault::Write(error)),
-        }
-    }
-    Ok(())
 }

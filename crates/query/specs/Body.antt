@@ -1,4 +1,4 @@
--- The query and the page of a search body, or its first fault.
+-- The query and the page of a search body, and the query of a count's, or its first fault.
 use Rattle.std.specs.Prelude.{ℕ, ◌+◌, Bool, ◌||◌, nat_lt, codes, List, Option, Some, None, Result, Ok, Err, if◌then◌else◌}
 use Rattle.std.specs.Str.{bytes_eq}
 use Rattle.serde_json.specs.Data.{Data}
@@ -32,3 +32,13 @@ body_of m d = do
   q ← query_or_all m (get (codes "query") d)
   page ← page_of from size
   Ok (q, page)
+
+abbrev pub is_count_key : List ℕ → Bool
+is_count_key k = bytes_eq k (codes "query")
+
+-- the query of the body of a count, which has no other key
+unfoldable pub counted_of : MappingData → Data → Result Query Fault
+counted_of m d = do
+  ms ← members_of d
+  known ← check (all_keys is_count_key ms)
+  query_or_all m (get (codes "query") d)

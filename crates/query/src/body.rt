@@ -1,4 +1,4 @@
-//! Search bodies.
+//! The bodies of searches and counts.
 ghost use Rattle.std.specs.Prelude.{◌≡◌, option_map};
 ghost use Rattle.serde_json.specs.View.{view, members_view};
 ghost use Rattle.doc.specs.Mapping.{all_keys};
@@ -38,6 +38,35 @@ impl SearchBody {
         let page = Page::new(from, size)?;
         Ok(SearchBody { query, page })
     }
+}
+
+/// The body of a count, as the Elasticsearch count API has it: `query` (absent: `match_all`) and no other key.
+#[derive(Drop)]
+pub struct CountBody {
+    pub query: Query,
+}
+
+impl CountBody {
+    /// The body that a JSON value is. Another key is `Parsing`, looked for before the query's own faults.
+    #[tactic(auto, unfolding(crate::specs::Body::counted_of))]
+    pub fn read(alloc: Global, mapping: &Mapping, value: &Value) -> Result<CountBody, QueryFault>
+        ensures { Gives fault_of (λ b. query_view b.query) result (spec.counted_of mapping.now (view value.now)) }
+    {
+        check_count_keys(members_of(value)?)?;
+        let query = query_or_all(alloc, mapping, value.get("query"))?;
+        Ok(CountBody { query })
+    }
+}
+
+fn check_count_keys(members: &Map<String, Value>) -> Result<(), QueryFault>
+    ensures { Gives fault_of (λ u. u) result (check (all_keys spec.is_count_key (members_view members.now.entries))) }
+{
+    for (name, _) in members {
+        if name.as_str() != "query" {
+            return Err(QueryFault::Parsing("this key isn't known in a count body"));
+        }
+    }
+    Ok(())
 }
 
 fn check_keys(members: &Map<String, Value>) -> Result<(), QueryFault>

@@ -13,7 +13,7 @@ pub mod reading;
 mod shape;
 mod terms;
 
-pub use body::SearchBody;
+pub use body::{CountBody, SearchBody};
 pub use fault::QueryFault;
 pub use page::Page;
 pub use query::{Bounds, Operator, Query};

@@ -1,0 +1,5 @@
+pub mod BulkLines
+pub mod Bulks
+pub mod Calls
+pub mod Paths
+pub mod Streams

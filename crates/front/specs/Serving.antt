@@ -1,0 +1,73 @@
+-- Requests that a service answers one after another.
+use Rattle.std.specs.Prelude.{◌≡◌, ◌⊎◌, ℕ, List, [], ◌∷◌, ◌++◌, length, Option, Some}
+use Rattle.std.specs.Io.KnownBytes.{Appends}
+use Rattle.doc.specs.Mapping.{MappingData}
+use Rattle.wire.specs.Bytes.{IsFront}
+use Rattle.front.specs.Command.{Command}
+use Rattle.front.specs.Reply.{Reply}
+use Rattle.wire.specs.Requests.{Standing, requests}
+use Rattle.front.specs.Calls.{Calls}
+use Rattle.front.specs.Work.{Work, work_of, commands, page}
+
+-- the service was called with just the commands of this work, and this is the page of its replies
+pub record Answered {S : Type 0} (answers : S → Command → Reply → S → Type 0) (index : List ℕ) (w : Work) (s : S) (out : List ℕ) (t : S) : Type 0 where
+  pub replies : List Reply
+  pub called : Calls answers s (commands w) replies t
+  pub is_page : out ≡ page index w replies
+
+-- the service was called with the first commands of this work
+pub record Begun {S : Type 0} (answers : S → Command → Reply → S → Type 0) (w : Work) (s t : S) : Type 0 where
+  pub done : List Command
+  pub left : List Command
+  pub split : commands w ≡ done ++ left
+  pub replies : List Reply
+  pub called : Calls answers s done replies t
+
+-- these requests were answered in order, and these are their pages
+abbrev pub Serves : {S : Type 0} → (S → Command → Reply → S → Type 0) → List ℕ → MappingData → S → List Standing → List ℕ → S → Type 0
+Serves {S} answers index mapping s [] out t = (t ≡ s) × (out ≡ [])
+Serves {S} answers index mapping s (q ∷ qs) out t =
+    (m : S) × (one : List ℕ) × (rest : List ℕ) × Answered answers index (work_of index mapping q) s one m × Serves answers index mapping m qs rest t × (out ≡ one ++ rest)
+
+-- of the first of these requests some commands were done and nothing was written, or all were done and a beginning of its page was written
+abbrev pub Partly : {S : Type 0} → (S → Command → Reply → S → Type 0) → List ℕ → MappingData → S → List Standing → List ℕ → S → Type 0
+Partly {S} answers index mapping s [] part t = (t ≡ s) × (part ≡ [])
+Partly {S} answers index mapping s (q ∷ qs) part t =
+    (Begun answers (work_of index mapping q) s t × (part ≡ []))
+    ⊎ ((one : List ℕ) × Answered answers index (work_of index mapping q) s one t × IsFront part one)
+
+-- the first of these requests were answered, and the one after them in part
+pub record CutShort {S : Type 0} (answers : S → Command → Reply → S → Type 0) (index : List ℕ) (mapping : MappingData) (s : S) (qs : List Standing) (out : List ℕ) (t : S) : Type 0 where
+  pub done : List Standing
+  pub left : List Standing
+  pub split : qs ≡ done ++ left
+  pub middle : S
+  pub whole : List ℕ
+  pub served : Serves answers index mapping s done whole middle
+  pub part : List ℕ
+  pub partly : Partly answers index mapping middle left part t
+  pub written : out ≡ whole ++ part
+
+-- the requests of the bytes were answered, so many, and their pages were written
+pub record Served {S : Type 0} (answers : S → Command → Reply → S → Type 0) (index : List ℕ) (mapping : MappingData) (s t : S) (old new : Option (List ℕ)) (count : ℕ) (bytes : List ℕ) : Type 0 where
+  pub out : List ℕ
+  pub serves : Serves answers index mapping s (requests bytes) out t
+  pub written : Appends old new out
+  pub counted : count ≡ length (requests bytes)
+
+-- the first requests of the bytes were answered, the one after them in part, and what was written is a beginning of their pages
+pub record Stopped {S : Type 0} (answers : S → Command → Reply → S → Type 0) (index : List ℕ) (mapping : MappingData) (s t : S) (old new : Option (List ℕ)) (bytes : List ℕ) : Type 0 where
+  pub out : List ℕ
+  pub cut : CutShort answers index mapping s (requests bytes) out t
+  pub written : Appends old new out
+
+-- the first requests were answered, and what is left are the others
+pub record Going {S : Type 0} (answers : S → Command → Reply → S → Type 0) (index : List ℕ) (mapping : MappingData) (s t : S) (old new left : Option (List ℕ)) (count : ℕ) (bytes : List ℕ) : Type 0 where
+  pub rest : List ℕ
+  pub is_left : left ≡ Some rest
+  pub done : List Standing
+  pub split : requests bytes ≡ done ++ requests rest
+  pub counted : count ≡ length done
+  pub out : List ℕ
+  pub serves : Serves answers index mapping s done out t
+  pub written : Appends old new out

@@ -1,0 +1,40 @@
+-- What a request asks, and its page.
+use Rattle.std.specs.Prelude.{ℕ, Bool, List, [], ◌∷◌, Result, Ok, Err}
+use Rattle.doc.specs.Mapping.{MappingData}
+use Rattle.front.specs.Asking.{ask}
+use Rattle.front.specs.Bulk.{bulk_commands, bulk_texts, bulk_page}
+use Rattle.front.specs.Command.{Command}
+use Rattle.front.specs.Fault.{Fault, of_head}
+use Rattle.front.specs.Item.{Item, Asked, one, many}
+use Rattle.front.specs.Page.{subject_of, fault_page, reply_page}
+use Rattle.front.specs.Reply.{Reply}
+use Rattle.wire.specs.Requests.{Standing, bad, good}
+
+-- what is done for a request
+pub data Work : Type 0 where
+  refused : Fault → Work
+  single : Command → Work
+  bulk : List ℕ → MappingData → Bool → List Item → Work
+
+abbrev pub worked : List ℕ → MappingData → Result Asked Fault → Work
+worked index mapping (Err f) = refused f
+worked index mapping (Ok (one c)) = single c
+worked index mapping (Ok (many refresh items)) = bulk index mapping refresh items
+
+abbrev pub work_of : List ℕ → MappingData → Standing → Work
+work_of index mapping (bad f) = refused (of_head f)
+work_of index mapping (good r) = worked index mapping (ask index mapping r)
+
+abbrev pub commands : Work → List Command
+commands (refused f) = []
+commands (single c) = c ∷ []
+commands (bulk index mapping refresh items) = bulk_commands index mapping refresh items
+
+abbrev pub single_page : List ℕ → Command → List Reply → List ℕ
+single_page index c [] = []
+single_page index c (r ∷ rs) = reply_page index (subject_of c) r
+
+abbrev pub page : List ℕ → Work → List Reply → List ℕ
+page index (refused f) replies = fault_page f
+page index (single c) replies = single_page index c replies
+page index (bulk served mapping refresh items) replies = bulk_page (bulk_texts served mapping refresh items replies)

@@ -1,0 +1,327 @@
+//! What a request asks, or its first fault.
+ghost use Rattle.std.specs.Prelude.{◌≡◌, option_copied, option_map};
+ghost use Rattle.serde_json.specs.Read.{read};
+ghost use Rattle.serde_json.specs.View.{view};
+ghost use Rattle.doc.specs.Outcome.{Gives};
+ghost use Rattle.front.specs.Asking as spec;
+ghost use Rattle.front.specs.AskedView.{asked_view};
+ghost use Rattle.front.specs.CommandView.{command_view};
+ghost use Rattle.front.specs.Fault.{fault_of, no_index, bad_method, bad_parameter};
+ghost use Rattle.wire.specs.Reading.{request_view};
+ghost use Rattle.wire.specs.Pieces as pieces;
+ghost use Rattle.front.specs.Target as target;
+
+use crate::bulk::Item;
+use crate::command::{Change, Command, Condition, Write};
+use crate::lines::items_in;
+use crate::parameters::parameters_of;
+use crate::request_fault::RequestFault;
+use crate::target::{Endpoint, Method, Parameters, route_of};
+use doc::{Doc, DocId, Mapping};
+use query::{CountBody, QueryFault, SearchBody};
+use serde_json::Value;
+use std::alloc::Global;
+use wire::{Request, cut_at, text_of};
+
+/// What a request asks: one command, or many writes, each with a refresh or not.
+#[derive(Drop)]
+pub(crate) enum Asked<'b> {
+    One(Command),
+    Many(bool, Vec<Item<'b>>),
+}
+
+/// What a request asks, or its first fault, looked for in the order `NoRoute`, `NoIndex`, `BadMethod`, `BadParameter`, the id, the body.
+#[tactic(auto, unfolding(crate::specs::Asking::ask))]
+pub(crate) fn ask<'b>(
+    alloc: Global,
+    index: &str,
+    mapping: &Mapping,
+    request: &'b Request,
+) -> Result<Asked<'b>, RequestFault>
+    ensures { Gives fault_of asked_view result (spec.ask index.now mapping.now (request_view request.now)) }
+{
+    let (path, parameters) = cut_at(&request.target, b'?');
+    let route = route_of(alloc, path)?;
+    check_served(index, &route.index)?;
+    let method = Method::of(&request.method);
+    check_allowed(route.endpoint, method)?;
+    let id = id_text(&route.id)?;
+    let parameters = parameters_of(alloc, or_nothing(parameters))?;
+    check_fits(route.endpoint, method, parameters)?;
+    let named = items_index(index, &route.index);
+    asked_of(
+        alloc,
+        mapping,
+        route.endpoint,
+        method,
+        id,
+        parameters,
+        &request.body,
+        named,
+    )
+}
+
+/// The index that items without one have.
+fn items_index<'a>(index: &'a str, named: &Option<Vec<u8>>) -> Option<&'a str>
+    ensures { option_copied result ≡ spec.items_index index.now (option_map (λ i. i.items) named.now) }
+{
+    if named.is_some() { Some(index) } else { None }
+}
+
+fn asked_of<'b>(
+    alloc: Global,
+    mapping: &Mapping,
+    endpoint: Endpoint,
+    method: Method,
+    id: &str,
+    p: Parameters,
+    body: &'b [u8],
+    named: Option<&str>,
+) -> Result<Asked<'b>, RequestFault>
+    ensures { Gives fault_of asked_view result
+        (spec.asked_of mapping.now endpoint method id.now p body.now (option_copied named.entry)) }
+{
+    match endpoint {
+        Endpoint::Bulk => {
+            let items = items_in(alloc, named, body)?;
+            Ok(Asked::Many(is_true(p.refresh), items))
+        }
+        _ => Ok(Asked::One(command_of(alloc, mapping, endpoint, method, id, p, body)?)),
+    }
+}
+
+fn check_served(index: &str, named: &Option<Vec<u8>>) -> Result<(), RequestFault>
+    ensures { Gives fault_of (λ u. u) result (target.check (target.is_served index.now (option_map (λ i. i.items) named.now)) no_index) }
+{
+    let Some(named) = named else {
+        return Ok(());
+    };
+    if named.as_slice() == index.as_bytes() {
+        Ok(())
+    } else {
+        Err(RequestFault::NoIndex)
+    }
+}
+
+fn check_allowed(endpoint: Endpoint, method: Method) -> Result<(), RequestFault>
+    ensures { Gives fault_of (λ u. u) result (target.check (target.is_allowed endpoint method) (bad_method endpoint)) }
+{
+    if endpoint.allows(method) {
+        Ok(())
+    } else {
+        Err(RequestFault::BadMethod(endpoint))
+    }
+}
+
+fn check_fits(endpoint: Endpoint, method: Method, p: Parameters) -> Result<(), RequestFault>
+    ensures { Gives fault_of (λ u. u) result (target.check (spec.fits endpoint method p) bad_parameter) }
+{
+    if fits(endpoint, method, p) {
+        Ok(())
+    } else {
+        Err(RequestFault::BadParameter)
+    }
+}
+
+/// The text of an id.
+fn id_text(bytes: &[u8]) -> Result<&str, RequestFault>
+    ensures { Gives fault_of (λ t. t.now) result (spec.id_text (pieces.text_of bytes.now)) }
+{
+    match text_of(bytes) {
+        Some(text) => Ok(text),
+        None => Err(RequestFault::BadParameter),
+    }
+}
+
+fn or_nothing(text: Option<&[u8]>) -> &[u8]
+    ensures { result.now ≡ spec.or_nothing (option_copied text.entry) }
+{
+    text.unwrap_or(b"")
+}
+
+fn has_none(p: Parameters) -> bool
+    ensures { result ≡ spec.has_none p }
+{
+    p.refresh.is_none() && p.create.is_none() && p.seq.is_none() && p.term.is_none()
+}
+
+fn has_both(p: Parameters) -> bool
+    ensures { result ≡ spec.has_both p }
+{
+    (p.seq.is_some() && p.term.is_some()) || (p.seq.is_none() && p.term.is_none())
+}
+
+fn is_true(flag: Option<bool>) -> bool
+    ensures { result ≡ spec.is_true flag }
+{
+    match flag {
+        Some(b) => b,
+        None => false,
+    }
+}
+
+/// Whether these parameters may come with a method at a path.
+fn fits(endpoint: Endpoint, method: Method, p: Parameters) -> bool
+    ensures { result ≡ spec.fits endpoint method p }
+{
+    match endpoint {
+        Endpoint::Document => fits_document(method, p),
+        Endpoint::Create | Endpoint::Bulk => p.create.is_none()
+            && p.seq.is_none()
+            && p.term.is_none(),
+        Endpoint::Search | Endpoint::Count | Endpoint::Refresh => has_none(p),
+    }
+}
+
+fn fits_document(method: Method, p: Parameters) -> bool
+    ensures { result ≡ spec.fits Endpoint.Document method p }
+{
+    match method {
+        Method::Get => has_none(p),
+        Method::Delete => p.create.is_none() && has_both(p),
+        Method::Put | Method::Post => has_both(p) && !(is_true(p.create) && p.seq.is_some()),
+        Method::Other => false,
+    }
+}
+
+fn condition_of(p: Parameters) -> Option<Condition>
+    ensures { result ≡ spec.condition_of p.seq p.term }
+{
+    match (p.seq, p.term) {
+        (Some(seq), Some(term)) => Some(Condition { seq, term }),
+        _ => None,
+    }
+}
+
+fn command_of(
+    alloc: Global,
+    mapping: &Mapping,
+    endpoint: Endpoint,
+    method: Method,
+    id: &str,
+    p: Parameters,
+    body: &[u8],
+) -> Result<Command, RequestFault>
+    ensures { Gives fault_of command_view result (spec.command_of mapping.now endpoint method id.now p body.now) }
+{
+    match endpoint {
+        Endpoint::Document => document_command(alloc, mapping, method, id, p, body),
+        Endpoint::Create => put_of(alloc, mapping, true, id, p, body),
+        Endpoint::Search => search_of(alloc, mapping, body),
+        Endpoint::Count => count_of(alloc, mapping, body),
+        Endpoint::Refresh => Ok(Command::Refresh),
+        Endpoint::Bulk => Err(RequestFault::BadBulk),
+    }
+}
+
+fn document_command(
+    alloc: Global,
+    mapping: &Mapping,
+    method: Method,
+    id: &str,
+    p: Parameters,
+    body: &[u8],
+) -> Result<Command, RequestFault>
+    ensures { Gives fault_of command_view result (spec.command_of mapping.now Endpoint.Document method id.now p body.now) }
+{
+    match method {
+        Method::Get => get_of(alloc, id),
+        Method::Delete => delete_of(alloc, id, p),
+        Method::Put | Method::Post => put_of(alloc, mapping, is_true(p.create), id, p, body),
+        Method::Other => Err(RequestFault::BadMethod(Endpoint::Document)),
+    }
+}
+
+#[tactic(auto, unfolding(crate::specs::Asking::get_of))]
+fn get_of(alloc: Global, id: &str) -> Result<Command, RequestFault>
+    ensures { Gives fault_of command_view result (spec.get_of id.now) }
+{
+    Ok(Command::Get(DocId::new(alloc, id)?))
+}
+
+#[tactic(auto, unfolding(crate::specs::Asking::delete_of))]
+fn delete_of(alloc: Global, id: &str, p: Parameters) -> Result<Command, RequestFault>
+    ensures { Gives fault_of command_view result (spec.delete_of id.now p) }
+{
+    let id = DocId::new(alloc, id)?;
+    Ok(Command::Write(Write {
+        id,
+        change: Change::Delete,
+        condition: condition_of(p),
+        refresh: is_true(p.refresh),
+    }))
+}
+
+#[tactic(auto, unfolding(crate::specs::Asking::put_of))]
+fn put_of(
+    alloc: Global,
+    mapping: &Mapping,
+    create: bool,
+    id: &str,
+    p: Parameters,
+    body: &[u8],
+) -> Result<Command, RequestFault>
+    ensures { Gives fault_of command_view result (spec.put_of mapping.now create id.now p body.now) }
+{
+    let id = DocId::new(alloc, id)?;
+    let document = Doc::read(alloc, mapping, body)?;
+    Ok(Command::Write(Write {
+        id,
+        change: stored(create, document),
+        condition: condition_of(p),
+        refresh: is_true(p.refresh),
+    }))
+}
+
+fn stored(create: bool, document: Doc) -> Change
+    ensures { result ≡ spec.stored create document }
+{
+    if create {
+        Change::Create(document)
+    } else {
+        Change::Index(document)
+    }
+}
+
+#[tactic(auto, unfolding(crate::specs::Asking::search_of))]
+fn search_of(alloc: Global, mapping: &Mapping, body: &[u8]) -> Result<Command, RequestFault>
+    ensures { Gives fault_of command_view result (spec.search_of mapping.now body.now) }
+{
+    let value = value_of(alloc, body)?;
+    let body = SearchBody::read(alloc, mapping, &value)?;
+    Ok(Command::Search(body))
+}
+
+#[tactic(auto, unfolding(crate::specs::Asking::count_of))]
+fn count_of(alloc: Global, mapping: &Mapping, body: &[u8]) -> Result<Command, RequestFault>
+    ensures { Gives fault_of command_view result (spec.count_of mapping.now body.now) }
+{
+    let value = value_of(alloc, body)?;
+    let body = CountBody::read(alloc, mapping, &value)?;
+    Ok(Command::Count(body.query))
+}
+
+fn value_of(alloc: Global, body: &[u8]) -> Result<Value, RequestFault>
+    ensures { Gives fault_of view result (spec.value_of body.now) }
+{
+    if body.is_empty() {
+        return text_value(alloc, "{}");
+    }
+    match text_of(body) {
+        Some(text) => text_value(alloc, text),
+        None => Err(RequestFault::Query(QueryFault::Parsing("not JSON"))),
+    }
+}
+
+fn text_value(alloc: Global, text: &str) -> Result<Value, RequestFault>
+    ensures { Gives fault_of view result (spec.read_or_parsing (read text.now)) }
+{
+    match Value::from_str(alloc, text) {
+        Ok(value) => Ok(value),
+        Err(e) => if e.is_memory() {
+            Err(RequestFault::NoMemory)
+        } else {
+            Err(RequestFault::Query(QueryFault::Parsing("not JSON")))
+        },
+    }
+}

@@ -1,0 +1,477 @@
+//! The pages that are written: bodies without spaces and with keys in byte order, as the Elasticsearch reference names them.
+ghost use Rattle.std.specs.Prelude.{◌≡◌, ◌++◌, codes, IfOk, IfSome, string_bytes};
+ghost use Rattle.json.specs.Print as json;
+ghost use Rattle.front.specs.CommandView.{command_view};
+ghost use Rattle.front.specs.Fault.{fault_of};
+ghost use Rattle.front.specs.Page as spec;
+ghost use Rattle.front.specs.ReplyView.{reply_view};
+ghost use Rattle.front.specs.SubjectView.{subject_view};
+
+use crate::command::Command;
+use crate::reply::{Found, Hit, Outcome, Refusal, Reply, Wrote};
+use crate::request_fault::RequestFault;
+use crate::target::Endpoint;
+use doc::DocId;
+use serde_json::Value;
+use std::alloc::{AllocError, Global};
+use wire::HeadFault;
+
+/// The status of a page (RFC 9110, section 15; 429 by RFC 6585).
+#[derive(Clone, Copy, Debug)]
+pub(crate) enum Status {
+    Good,
+    Created,
+    BadRequest,
+    NotFound,
+    BadMethod,
+    Conflict,
+    TooLarge,
+    TooMany,
+    NotImplemented,
+    Unavailable,
+}
+
+impl Status {
+    pub(crate) fn number(self) -> &'static str
+        ensures { result.now ≡ spec.number_of self }
+    {
+        match self {
+            Status::Good => "200",
+            Status::Created => "201",
+            Status::BadRequest => "400",
+            Status::NotFound => "404",
+            Status::BadMethod => "405",
+            Status::Conflict => "409",
+            Status::TooLarge => "413",
+            Status::TooMany => "429",
+            Status::NotImplemented => "501",
+            Status::Unavailable => "503",
+        }
+    }
+
+    fn reason(self) -> &'static str
+        ensures { result.now ≡ spec.reason_of self }
+    {
+        match self {
+            Status::Good => "OK",
+            Status::Created => "Created",
+            Status::BadRequest => "Bad Request",
+            Status::NotFound => "Not Found",
+            Status::BadMethod => "Method Not Allowed",
+            Status::Conflict => "Conflict",
+            Status::TooLarge => "Content Too Large",
+            Status::TooMany => "Too Many Requests",
+            Status::NotImplemented => "Not Implemented",
+            Status::Unavailable => "Service Unavailable",
+        }
+    }
+}
+
+/// What a page is about.
+#[derive(Drop)]
+pub(crate) enum Subject {
+    Written(DocId),
+    Sought(DocId),
+    Searched,
+    Counted,
+    Refreshed,
+}
+
+impl Subject {
+    /// What the page of a command's reply is about.
+    pub(crate) fn of(alloc: Global, command: &Command) -> Result<Subject, AllocError>
+        ensures { IfOk result (λ s. subject_view s ≡ spec.subject_of (command_view command.now)) }
+    {
+        Ok(match command {
+            Command::Write(write) => Subject::Written(write.id.copy(alloc)?),
+            Command::Get(id) => Subject::Sought(id.copy(alloc)?),
+            Command::Search(_) => Subject::Searched,
+            Command::Count(_) => Subject::Counted,
+            Command::Refresh => Subject::Refreshed,
+        })
+    }
+}
+
+/// A whole page: the status line, the fields, an empty line, the body (RFC 9112, section 2.1).
+#[tactic(auto, unfolding(crate::specs::Page::response))]
+pub(crate) fn response(
+    alloc: Global,
+    status: Status,
+    allow: &str,
+    body: &str,
+) -> Result<String, AllocError>
+    ensures { IfOk result (λ t. string_bytes t ≡ spec.response status allow.now body.now) }
+{
+    let number = status.number();
+    let reason = status.reason();
+    let length = body.len();
+    format!(in alloc;
+        "HTTP/1.1 {number} {reason}\r\ncontent-type: application/json\r\ncontent-length: {length}\r\n{allow}\r\n{body}"
+    )
+}
+
+/// A text as JSON spells it.
+fn quoted(alloc: Global, text: &str) -> Result<String, AllocError>
+    ensures { IfOk result (λ t. string_bytes t ≡ json.quoted text.now) }
+{
+    Value::try_from_str(alloc, text)?.to_string(alloc)
+}
+
+fn methods_of(endpoint: Endpoint) -> &'static str
+    ensures { result.now ≡ spec.methods_of endpoint }
+{
+    match endpoint {
+        Endpoint::Document => "DELETE, GET, POST, PUT",
+        Endpoint::Create | Endpoint::Bulk => "POST, PUT",
+        Endpoint::Search | Endpoint::Count | Endpoint::Refresh => "GET, POST",
+    }
+}
+
+fn allow_of(alloc: Global, fault: &RequestFault) -> Result<String, AllocError>
+    ensures { IfOk result (λ t. IfSome (fault_of fault.now) (λ f. string_bytes t ≡ spec.allow_of f)) }
+{
+    match fault {
+        RequestFault::BadMethod(endpoint) => {
+            let methods = methods_of(*endpoint);
+            format!(in alloc; "allow: {methods}\r\n")
+        }
+        _ => Ok(String::new(alloc)),
+    }
+}
+
+pub(crate) fn kind_of(fault: &RequestFault) -> (Status, &'static str)
+    ensures { IfSome (fault_of fault.now) (λ f. (result.0, result.1.now) ≡ spec.kind_of f) }
+{
+    match fault {
+        RequestFault::Document(_) => (Status::BadRequest, "mapping_fault"),
+        RequestFault::Query(_) => (Status::BadRequest, "query_fault"),
+        RequestFault::Head(HeadFault::BadHead)
+        | RequestFault::BadParameter
+        | RequestFault::BadBulk => { (Status::BadRequest, "request_fault") }
+        RequestFault::NoIndex => (Status::NotFound, "index_not_found_exception"),
+        RequestFault::NoRoute => (Status::NotFound, "no_route"),
+        RequestFault::BadMethod(_) => (Status::BadMethod, "method_fault"),
+        RequestFault::Head(HeadFault::BodyTooLarge) => (Status::TooLarge, "size_fault"),
+        RequestFault::Head(HeadFault::TransferCoding) => (
+            Status::NotImplemented,
+            "transfer_coding",
+        ),
+        RequestFault::NoMemory | RequestFault::Head(HeadFault::NoMemory) => (
+            Status::Unavailable,
+            "unavailable",
+        ),
+    }
+}
+
+pub(crate) fn name_of(fault: &RequestFault) -> &'static str
+    ensures { IfSome (fault_of fault.now) (λ f. result.now ≡ spec.name_of f) }
+{
+    match fault {
+        RequestFault::Document(fault) => fault.name(),
+        RequestFault::Query(fault) => fault.name(),
+        RequestFault::Head(HeadFault::BadHead) => "BadHead",
+        RequestFault::BadParameter => "BadParameter",
+        RequestFault::BadBulk => "BadBulk",
+        RequestFault::NoIndex => "NoIndex",
+        RequestFault::NoRoute => "NoRoute",
+        RequestFault::BadMethod(_) => "BadMethod",
+        RequestFault::Head(HeadFault::BodyTooLarge) => "BodyTooLarge",
+        RequestFault::Head(HeadFault::TransferCoding) => "TransferCoding",
+        RequestFault::NoMemory | RequestFault::Head(HeadFault::NoMemory) => "NoMemory",
+    }
+}
+
+#[tactic(auto, unfolding(crate::specs::Page::error))]
+pub(crate) fn error(alloc: Global, name: &str, kind: &str) -> Result<String, AllocError>
+    ensures { IfOk result (λ t. string_bytes t ≡ spec.error name.now kind.now) }
+{
+    format!(in alloc; "{{\"reason\":\"{name}\",\"type\":\"{kind}\"}}")
+}
+
+#[tactic(auto, unfolding(crate::specs::Page::error_body))]
+fn error_body(alloc: Global, name: &str, status: Status, kind: &str) -> Result<String, AllocError>
+    ensures { IfOk result (λ t. string_bytes t ≡ spec.error_body name.now (status, kind.now)) }
+{
+    let error = error(alloc, name, kind)?;
+    let error = error.as_str();
+    let number = status.number();
+    format!(in alloc; "{{\"error\":{error},\"status\":{number}}}")
+}
+
+/// The page of a fault.
+pub(crate) fn fault_page(alloc: Global, fault: &RequestFault) -> Result<String, AllocError>
+    ensures { IfOk result (λ page. IfSome (fault_of fault.now) (λ f. string_bytes page ≡ spec.fault_page f)) }
+{
+    let (status, kind) = kind_of(fault);
+    let allow = allow_of(alloc, fault)?;
+    let body = error_body(alloc, name_of(fault), status, kind)?;
+    response(alloc, status, allow.as_str(), body.as_str())
+}
+
+impl Refusal {
+    pub(crate) fn name(self) -> &'static str
+        ensures { result.now ≡ spec.refusal_name self }
+    {
+        match self {
+            Refusal::NotPrimary => "NotPrimary",
+            Refusal::VersionConflict => "VersionConflict",
+            Refusal::WindowFull => "WindowFull",
+            Refusal::OldTerm => "OldTerm",
+            Refusal::NotSynced => "NotSynced",
+            Refusal::BeyondWindow => "BeyondWindow",
+            Refusal::Mismatch => "Mismatch",
+            Refusal::Closed => "Closed",
+            Refusal::Log => "Log",
+            Refusal::NoMemory => "NoMemory",
+            Refusal::WrongAddress => "WrongAddress",
+            Refusal::Exhausted => "Exhausted",
+            Refusal::NoSuchCopy => "NoSuchCopy",
+            Refusal::NoSuchMessage => "NoSuchMessage",
+        }
+    }
+
+    pub(crate) fn kind(self) -> (Status, &'static str)
+        ensures { (result.0, result.1.now) ≡ spec.refusal_kind self }
+    {
+        match self {
+            Refusal::VersionConflict => (Status::Conflict, "version_conflict_engine_exception"),
+            Refusal::WindowFull => (Status::TooMany, "window_full"),
+            _ => (Status::Unavailable, "unavailable"),
+        }
+    }
+}
+
+fn refusal_page(alloc: Global, refusal: Refusal) -> Result<String, AllocError>
+    ensures { IfOk result (λ page. string_bytes page ≡ spec.refusal_page refusal) }
+{
+    let (status, kind) = refusal.kind();
+    let body = error_body(alloc, refusal.name(), status, kind)?;
+    response(alloc, status, "", body.as_str())
+}
+
+#[tactic(auto, unfolding(crate::specs::Page::shards))]
+fn shards(alloc: Global, count: u64) -> Result<String, AllocError>
+    ensures { IfOk result (λ t. string_bytes t ≡ spec.shards count) }
+{
+    format!(in alloc; "{{\"failed\":0,\"successful\":{count},\"total\":{count}}}")
+}
+
+fn outcome_name(outcome: Outcome) -> &'static str
+    ensures { result.now ≡ spec.outcome_name outcome }
+{
+    match outcome {
+        Outcome::Created => "created",
+        Outcome::Updated => "updated",
+        Outcome::Deleted => "deleted",
+        Outcome::NotFound => "not_found",
+    }
+}
+
+pub(crate) fn outcome_status(outcome: Outcome) -> Status
+    ensures { result ≡ spec.outcome_status outcome }
+{
+    match outcome {
+        Outcome::Created => Status::Created,
+        Outcome::Updated | Outcome::Deleted => Status::Good,
+        Outcome::NotFound => Status::NotFound,
+    }
+}
+
+/// What stands first in the object of a document.
+#[tactic(auto, unfolding(crate::specs::Page::place))]
+pub(crate) fn place(alloc: Global, id: &str, index: &str) -> Result<String, AllocError>
+    ensures { IfOk result (λ t. string_bytes t ≡ spec.place id.now index.now) }
+{
+    let id = quoted(alloc, id)?;
+    let id = id.as_str();
+    let index = quoted(alloc, index)?;
+    let index = index.as_str();
+    format!(in alloc; "\"_id\":{id},\"_index\":{index}")
+}
+
+#[tactic(auto, unfolding(crate::specs::Page::wrote_front))]
+fn wrote_front(alloc: Global, id: &str, index: &str, wrote: Wrote) -> Result<String, AllocError>
+    ensures { IfOk result (λ t. string_bytes t ≡ spec.wrote_front id.now index.now wrote) }
+{
+    let place = place(alloc, id, index)?;
+    let place = place.as_str();
+    let term = wrote.term;
+    let seq = wrote.seq;
+    format!(in alloc; "{place},\"_primary_term\":{term},\"_seq_no\":{seq}")
+}
+
+#[tactic(auto, unfolding(crate::specs::Page::wrote_fields))]
+pub(crate) fn wrote_fields(
+    alloc: Global,
+    id: &str,
+    index: &str,
+    wrote: Wrote,
+) -> Result<String, AllocError>
+    ensures { IfOk result (λ t. string_bytes t ≡ spec.wrote_fields id.now index.now wrote) }
+{
+    let middle = wrote_middle(alloc, id, index, wrote)?;
+    let middle = middle.as_str();
+    let end = wrote_end(alloc, wrote)?;
+    let end = end.as_str();
+    format!(in alloc; "{middle},{end}")
+}
+
+#[tactic(auto, unfolding(crate::specs::Page::wrote_middle))]
+fn wrote_middle(alloc: Global, id: &str, index: &str, wrote: Wrote) -> Result<String, AllocError>
+    ensures { IfOk result (λ t. string_bytes t ≡ spec.wrote_middle id.now index.now wrote) }
+{
+    let front = wrote_front(alloc, id, index, wrote)?;
+    let front = front.as_str();
+    let shards = shards(alloc, wrote.copies)?;
+    let shards = shards.as_str();
+    format!(in alloc; "{front},\"_shards\":{shards}")
+}
+
+#[tactic(auto, unfolding(crate::specs::Page::wrote_end))]
+fn wrote_end(alloc: Global, wrote: Wrote) -> Result<String, AllocError>
+    ensures { IfOk result (λ t. string_bytes t ≡ spec.wrote_end wrote) }
+{
+    let version = wrote.version;
+    let outcome = outcome_name(wrote.outcome);
+    format!(in alloc; "\"_version\":{version},\"result\":\"{outcome}\"")
+}
+
+fn wrote_page(alloc: Global, index: &str, id: &DocId, wrote: Wrote) -> Result<String, AllocError>
+    ensures { IfOk result (λ page. string_bytes page ≡ spec.wrote_page index.now id.now wrote) }
+{
+    let fields = wrote_fields(alloc, id.as_str(), index, wrote)?;
+    let fields = fields.as_str();
+    let body = format!(in alloc; "{{{fields}}}")?;
+    response(alloc, outcome_status(wrote.outcome), "", body.as_str())
+}
+
+#[tactic(auto, unfolding(crate::specs::Page::found_body))]
+fn found_body(alloc: Global, id: &str, index: &str, found: &Found) -> Result<String, AllocError>
+    ensures { IfOk result (λ t. string_bytes t ≡ spec.found_body id.now index.now found.now) }
+{
+    let place = place(alloc, id, index)?;
+    let place = place.as_str();
+    let term = found.term;
+    let seq = found.seq;
+    let version = found.version;
+    let source = found.source.as_str();
+    format!(in alloc;
+        "{{{place},\"_primary_term\":{term},\"_seq_no\":{seq},\"_source\":{source},\"_version\":{version},\"found\":true}}"
+    )
+}
+
+fn got_page(
+    alloc: Global,
+    index: &str,
+    id: &DocId,
+    found: &Option<Found>,
+) -> Result<String, AllocError>
+    ensures { IfOk result (λ page. string_bytes page ≡ spec.got_page index.now id.now found.now) }
+{
+    match found {
+        Some(found) => {
+            let body = found_body(alloc, id.as_str(), index, found)?;
+            response(alloc, Status::Good, "", body.as_str())
+        }
+        None => {
+            let place = place(alloc, id.as_str(), index)?;
+            let place = place.as_str();
+            let body = format!(in alloc; "{{{place},\"found\":false}}")?;
+            response(alloc, Status::NotFound, "", body.as_str())
+        }
+    }
+}
+
+#[tactic(auto, unfolding(crate::specs::Page::hit_text))]
+fn hit_text(alloc: Global, index: &str, hit: &Hit) -> Result<String, AllocError>
+    ensures { IfOk result (λ t. string_bytes t ≡ spec.hit_text index.now hit.now) }
+{
+    let place = place(alloc, hit.id.as_str(), index)?;
+    let place = place.as_str();
+    let source = hit.source.as_str();
+    format!(in alloc; "{{{place},\"_score\":null,\"_source\":{source}}}")
+}
+
+fn more_hits(alloc: Global, index: &str, hits: &[Hit]) -> Result<String, AllocError>
+    ensures { IfOk result (λ t. string_bytes t ≡ spec.more_hits index.now hits.now) }
+{
+    let mut text = String::new(alloc);
+    for hit in hits {
+        let one = hit_text(alloc, index, hit)?;
+        text.push_str(",")?;
+        text.push_str(one.as_str())?;
+    }
+    Ok(text)
+}
+
+fn hits_text(alloc: Global, index: &str, hits: &[Hit]) -> Result<String, AllocError>
+    ensures { IfOk result (λ t. string_bytes t ≡ spec.hits_text index.now hits.now) }
+{
+    match hits {
+        [] => Ok(String::new(alloc)),
+        [hit, others @ ..] => {
+            let mut text = hit_text(alloc, index, hit)?;
+            let others = more_hits(alloc, index, others)?;
+            text.push_str(others.as_str())?;
+            Ok(text)
+        }
+    }
+}
+
+#[tactic(auto, unfolding(crate::specs::Page::hits_body))]
+fn hits_body(alloc: Global, index: &str, total: u64, hits: &[Hit]) -> Result<String, AllocError>
+    ensures { IfOk result (λ t. string_bytes t ≡ spec.hits_body index.now total hits.now) }
+{
+    let hits = hits_text(alloc, index, hits)?;
+    let hits = hits.as_str();
+    format!(in alloc;
+        "{{\"_shards\":{{\"failed\":0,\"skipped\":0,\"successful\":1,\"total\":1}},\"hits\":{{\"hits\":[{hits}],\"max_score\":null,\"total\":{{\"relation\":\"eq\",\"value\":{total}}}}},\"timed_out\":false,\"took\":0}}"
+    )
+}
+
+#[tactic(auto, unfolding(crate::specs::Page::counted_body))]
+fn counted_body(alloc: Global, count: u64) -> Result<String, AllocError>
+    ensures { IfOk result (λ t. string_bytes t ≡ spec.counted_body count) }
+{
+    format!(in alloc;
+        "{{\"_shards\":{{\"failed\":0,\"skipped\":0,\"successful\":1,\"total\":1}},\"count\":{count}}}"
+    )
+}
+
+#[tactic(auto, unfolding(crate::specs::Page::refreshed_body))]
+fn refreshed_body(alloc: Global, count: u64) -> Result<String, AllocError>
+    ensures { IfOk result (λ t. string_bytes t ≡ spec.refreshed_body count) }
+{
+    let shards = shards(alloc, count)?;
+    let shards = shards.as_str();
+    format!(in alloc; "{{\"_shards\":{shards}}}")
+}
+
+/// The page of a reply.
+pub(crate) fn reply_page(
+    alloc: Global,
+    index: &str,
+    subject: &Subject,
+    reply: &Reply,
+) -> Result<String, AllocError>
+    ensures { IfOk result (λ page. string_bytes page ≡ spec.reply_page index.now (subject_view subject.now) (reply_view reply.now)) }
+{
+    match (subject, reply) {
+        (_, Reply::Refused(refusal)) => refusal_page(alloc, *refusal),
+        (Subject::Written(id), Reply::Wrote(wrote)) => wrote_page(alloc, index, id, *wrote),
+        (Subject::Sought(id), Reply::Got(found)) => got_page(alloc, index, id, found),
+        (Subject::Searched, Reply::Hits(total, hits)) => {
+            let body = hits_body(alloc, index, *total, hits)?;
+            response(alloc, Status::Good, "", body.as_str())
+        }
+        (Subject::Counted, Reply::Counted(count)) => {
+            let body = counted_body(alloc, *count)?;
+            response(alloc, Status::Good, "", body.as_str())
+        }
+        (Subject::Refreshed, Reply::Refreshed(count)) => {
+            let body = refreshed_body(alloc, *count)?;
+            response(alloc, Status::Good, "", body.as_str())
+        }
+        _ => refusal_page(alloc, Refusal::Mismatch),
+    }
+}

@@ -1,0 +1,94 @@
+//! The parameters of a request, as a query string has them.
+ghost use Rattle.std.specs.Prelude.{◌≡◌};
+ghost use Rattle.doc.specs.Outcome.{Gives};
+ghost use Rattle.front.specs.Fault.{fault_of};
+ghost use Rattle.front.specs.Target as spec;
+
+use crate::request_fault::RequestFault;
+use crate::target::Parameters;
+use form_urlencoded::parse;
+use std::alloc::Global;
+use wire::number_of;
+
+fn refresh_of(value: &str) -> Option<bool>
+    ensures { result ≡ spec.refresh_of value.now }
+{
+    if value.is_empty() || value == "true" {
+        Some(true)
+    } else if value == "false" {
+        Some(false)
+    } else {
+        None
+    }
+}
+
+fn create_of(value: &str) -> Option<bool>
+    ensures { result ≡ spec.create_of value.now }
+{
+    if value == "create" {
+        Some(true)
+    } else if value == "index" {
+        Some(false)
+    } else {
+        None
+    }
+}
+
+fn once_flag(old: Option<bool>, new: Option<bool>) -> Result<Option<bool>, RequestFault>
+    ensures { Gives fault_of (λ x. x) result (spec.once old new) }
+{
+    if old.is_some() || new.is_none() {
+        return Err(RequestFault::BadParameter);
+    }
+    Ok(new)
+}
+
+fn once_number(old: Option<u64>, new: Option<u64>) -> Result<Option<u64>, RequestFault>
+    ensures { Gives fault_of (λ x. x) result (spec.once old new) }
+{
+    if old.is_some() || new.is_none() {
+        return Err(RequestFault::BadParameter);
+    }
+    Ok(new)
+}
+
+fn with_parameter(p: Parameters, name: &str, value: &str) -> Result<Parameters, RequestFault>
+    ensures { Gives fault_of (λ q. q) result (spec.with_parameter p name.now value.now) }
+{
+    if name == "pretty" {
+        let pretty = once_flag(p.pretty, Some(true))?;
+        Ok(Parameters { pretty, ..p })
+    } else if name == "refresh" {
+        let refresh = once_flag(p.refresh, refresh_of(value))?;
+        Ok(Parameters { refresh, ..p })
+    } else if name == "op_type" {
+        let create = once_flag(p.create, create_of(value))?;
+        Ok(Parameters { create, ..p })
+    } else if name == "if_seq_no" {
+        let seq = once_number(p.seq, number_of(value))?;
+        Ok(Parameters { seq, ..p })
+    } else if name == "if_primary_term" {
+        let term = once_number(p.term, number_of(value))?;
+        Ok(Parameters { term, ..p })
+    } else {
+        Err(RequestFault::BadParameter)
+    }
+}
+
+/// The parameters of a query string. An unknown one, a doubled one and a bad value are `BadParameter`.
+pub(crate) fn parameters_of(alloc: Global, text: &[u8]) -> Result<Parameters, RequestFault>
+    ensures { Gives fault_of (λ p. p) result (spec.parameters_of text.now) }
+{
+    let mut found = Parameters {
+        pretty: None,
+        refresh: None,
+        create: None,
+        seq: None,
+        term: None,
+    };
+    for pair in parse(alloc, text) {
+        let (name, value) = pair?;
+        found = with_parameter(found, &name, &value)?;
+    }
+    Ok(found)
+}

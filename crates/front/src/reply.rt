@@ -1,0 +1,71 @@
+//! What a service answers.
+
+use doc::{DocId, Source};
+
+/// What a write did.
+#[derive(Clone, Copy, Debug, PartialEq, Eq)]
+pub enum Outcome {
+    Created,
+    Updated,
+    Deleted,
+    NotFound,
+}
+
+/// A write that is kept: its number, the term, the version that it gives, what it made of the document, and how many copies have it.
+#[derive(Clone, Copy, Debug, PartialEq, Eq)]
+pub struct Wrote {
+    pub seq: u64,
+    pub term: u64,
+    pub version: u64,
+    pub outcome: Outcome,
+    pub copies: u64,
+}
+
+/// A document, with the numbers of the operation that wrote it.
+#[derive(Drop)]
+pub struct Found {
+    pub seq: u64,
+    pub term: u64,
+    pub version: u64,
+    pub source: Source,
+}
+
+/// A document that a search found; its source is the text that was handed in.
+#[derive(Drop)]
+pub struct Hit {
+    pub id: DocId,
+    pub source: Source,
+}
+
+/// Why a service refuses a command, by the names of a copy's refusals and of an index's. `WindowFull` is told as 429, `VersionConflict` as 409, and each
+/// other as 503, for a client that may try again.
+#[derive(Clone, Copy, Debug, PartialEq, Eq)]
+pub enum Refusal {
+    NotPrimary,
+    VersionConflict,
+    WindowFull,
+    OldTerm,
+    NotSynced,
+    BeyondWindow,
+    Mismatch,
+    Closed,
+    Log,
+    NoMemory,
+    WrongAddress,
+    Exhausted,
+    NoSuchCopy,
+    NoSuchMessage,
+}
+
+/// What a service answers.
+#[derive(Drop)]
+pub enum Reply {
+    Wrote(Wrote),
+    Got(Option<Found>),
+    /// The exact total, and the hits of the page.
+    Hits(u64, Vec<Hit>),
+    Counted(u64),
+    /// How many copies were refreshed.
+    Refreshed(u64),
+    Refused(Refusal),
+}

@@ -1,0 +1,37 @@
+//! What stands behind the requests of one index.
+ghost use Rattle.std.specs.Prelude.{◌≡◌, List, ℕ};
+ghost use Rattle.doc.specs.Mapping.{MappingData};
+ghost use Rattle.front.specs.Command as asked;
+ghost use Rattle.front.specs.Reply as given;
+ghost use Rattle.front.specs.CommandView.{command_view};
+ghost use Rattle.front.specs.ReplyView.{reply_view};
+
+use crate::command::Command;
+use crate::reply::Reply;
+use doc::Mapping;
+
+/// A service of one index. It says by its relation `answers` which replies a command may have; the pages are proved of any such service.
+pub trait Service {
+    /// The name of the index.
+    ghost name: { Self → List ℕ };
+
+    /// Its mapping.
+    ghost fields: { Self → MappingData };
+
+    /// Which replies a command may have, and what the service is after each.
+    ghost answers: { Self → asked.Command → given.Reply → Self → Type 0 };
+
+    /// The name of the index.
+    fn index(&self) -> &str
+        ensures { result.now ≡ name self.now };
+
+    /// The mapping of the index.
+    fn mapping(&self) -> &Mapping
+        ensures { result.now ≡ fields self.now };
+
+    /// Does what is asked. A reply of another kind than its command is told as the refusal `Mismatch`.
+    fn call(&mut self, command: Command) -> Reply
+        ensures answers { answers self.old (command_view command) (reply_view result) self.new }
+        ensures name { name self.new ≡ name self.old }
+        ensures fields { fields self.new ≡ fields self.old };
+}

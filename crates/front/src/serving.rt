@@ -1,0 +1,118 @@
+//! Serving requests, one after another.
+ghost use Rattle.std.specs.Prelude.{◌≡◌, IfOk, IfSome, OnErr, string_bytes, map};
+ghost use Rattle.wire.specs.Reading as read;
+ghost use Rattle.wire.specs.Requests.{Standing};
+ghost use Rattle.front.specs.Serving as spec;
+ghost use Rattle.front.specs.Asking.{ask};
+ghost use Rattle.front.specs.Work.{work_of, worked, single, bulk};
+ghost use Rattle.front.specs.BulkView.{item_view};
+ghost use Rattle.front.specs.CommandView.{command_view};
+
+use crate::asking::{Asked, ask};
+use crate::bulk::{Item, bulk_page, do_items};
+use crate::command::Command;
+use crate::page::{Subject, fault_page, reply_page};
+use crate::request_fault::RequestFault;
+use crate::service::Service;
+use std::alloc::Global;
+use std::io::{Read, Write};
+use wire::{Request, StreamFault, Whole, read_request, write_flushed};
+
+/// Answers the requests that stand whole, in order, up to the first after which the stream ends, and tells how many they were. Each page is
+/// written whole and flushed before the next request is read. The reader is asked for single bytes, so it wants a buffer.
+pub fn serve_stream<R: Read, W: Write, S: Service>(
+    alloc: Global,
+    reader: &mut R,
+    writer: &mut W,
+    service: &mut S,
+) -> Result<u64, StreamFault>
+    // The service was called with just the commands of the requests, in order, and the pages of its replies were written.
+    ensures ok { IfOk result (λ n. IfSome (R.remaining reader.old) (spec.Served S.answers (S.name service.old) (S.fields service.old)
+        service.old service.new (W.contents writer.old) (W.contents writer.new) n)) }
+    // A beginning of those calls was made, at most those of one request more than the pages that are whole, and a beginning of the pages was written.
+    ensures err { OnErr result (IfSome (R.remaining reader.old) (spec.Stopped S.answers (S.name service.old) (S.fields service.old)
+        service.old service.new (W.contents writer.old) (W.contents writer.new))) }
+{
+    for count in 0..u64::MAX {
+        let Some(whole) = read_request(alloc, reader)? else {
+            return Ok(count);
+        };
+        let page = answer(alloc, service, &whole)?;
+        write_flushed(writer, page.as_bytes())?;
+        if whole.ends() {
+            return Ok(count + 1);
+        }
+    }
+    Err(StreamFault::Read)
+}
+
+/// Does what a request asks, and spells the page of the replies.
+fn answer<S: Service>(alloc: Global, service: &mut S, whole: &Whole) -> Result<String, StreamFault>
+    ensures ok { IfOk result (λ page. (q : Standing) → read.IsStanding whole.now q → spec.Answered S.answers (S.name service.old)
+        (work_of (S.name service.old) (S.fields service.old) q) service.old (string_bytes page) service.new) }
+    ensures err { OnErr result ((q : Standing) → read.IsStanding whole.now q → spec.Begun S.answers
+        (work_of (S.name service.old) (S.fields service.old) q) service.old service.new) }
+    ensures name { S.name service.new ≡ S.name service.old }
+    ensures fields { S.fields service.new ≡ S.fields service.old }
+{
+    match whole {
+        Whole::Broken(fault) => Ok(fault_page(alloc, &RequestFault::Head(*fault))?),
+        Whole::Asked(request) => answer_request(alloc, service, request),
+    }
+}
+
+fn answer_request<S: Service>(
+    alloc: Global,
+    service: &mut S,
+    request: &Request,
+) -> Result<String, StreamFault>
+    ensures ok { IfOk result (λ page. spec.Answered S.answers (S.name service.old)
+        (worked (S.name service.old) (S.fields service.old) (ask (S.name service.old) (S.fields service.old) (read.request_view request.now))) service.old (string_bytes page) service.new) }
+    ensures err { OnErr result (spec.Begun S.answers
+        (worked (S.name service.old) (S.fields service.old) (ask (S.name service.old) (S.fields service.old) (read.request_view request.now))) service.old service.new) }
+    ensures name { S.name service.new ≡ S.name service.old }
+    ensures fields { S.fields service.new ≡ S.fields service.old }
+{
+    match ask(alloc, service.index(), service.mapping(), request) {
+        Ok(Asked::One(command)) => do_command(alloc, service, command),
+        Ok(Asked::Many(refresh, items)) => do_bulk(alloc, service, refresh, &items),
+        Err(fault) => if fault.is_memory() {
+            Err(StreamFault::NoMemory)
+        } else {
+            Ok(fault_page(alloc, &fault)?)
+        },
+    }
+}
+
+/// Calls the service once, and spells the page of its reply.
+fn do_command<S: Service>(
+    alloc: Global,
+    service: &mut S,
+    command: Command,
+) -> Result<String, StreamFault>
+    ensures ok { IfOk result (λ page. spec.Answered S.answers (S.name service.old) (single (command_view command)) service.old (string_bytes page) service.new) }
+    ensures err { OnErr result (spec.Begun S.answers (single (command_view command)) service.old service.new) }
+    ensures name { S.name service.new ≡ S.name service.old }
+    ensures fields { S.fields service.new ≡ S.fields service.old }
+{
+    let subject = Subject::of(alloc, &command)?;
+    let reply = service.call(command);
+    Ok(reply_page(alloc, service.index(), &subject, &reply)?)
+}
+
+/// Does the items of a bulk, and spells their page.
+fn do_bulk<'b, S: Service>(
+    alloc: Global,
+    service: &mut S,
+    refresh: bool,
+    items: &[Item<'b>],
+) -> Result<String, StreamFault>
+    ensures ok { IfOk result (λ page. spec.Answered S.answers (S.name service.old) (bulk (S.name service.old) (S.fields service.old) refresh (map item_view items.now))
+        service.old (string_bytes page) service.new) }
+    ensures err { OnErr result (spec.Begun S.answers (bulk (S.name service.old) (S.fields service.old) refresh (map item_view items.now)) service.old service.new) }
+    ensures name { S.name service.new ≡ S.name service.old }
+    ensures fields { S.fields service.new ≡ S.fields service.old }
+{
+    let texts = do_items(alloc, service, refresh, items)?;
+    Ok(bulk_page(alloc, &texts)?)
+}

@@ -1,9 +1,0 @@
-use Rattle.std.proofs.Common.{length}
-use Rattle.indexd.proofs.Bytes.{Written}
-use Rattle.indexd.proofs.writing.write_whole.Given as goal
-
-abbrev pub invariant-loop-rest : goal.invariant-loop-rest
-invariant-loop-rest g l = Written (g.W.Write.contents l.fn.writer) (g.W.Write.contents l.writer) l.bytes l.rest
-
-abbrev pub decreases-loop-rest : goal.decreases-loop-rest
-decreases-loop-rest g l = length l.rest

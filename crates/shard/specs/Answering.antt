@@ -1,0 +1,145 @@
+-- What an index of one copy answers a command, and what its copy is after it.
+use Rattle.std.specs.Prelude.{◌≡◌, ◌≢◌, ◌⊎◌, ℕ, Bool, true, false, List, map, length, Option, Some, None, option_map, Result, Ok, Err}
+use Rattle.serde_json.specs.Data.{Data}
+use Rattle.doc.specs.Fault as doc
+use Rattle.doc.specs.Id.{Id}
+use Rattle.doc.specs.Mapping.{MappingData, mapping_of}
+use Rattle.doc.specs.Outcome.{◌>>=◌}
+use Rattle.op.specs.Documents.{documents}
+use Rattle.op.specs.Records.{shown}
+use Rattle.engine.specs.Answer as engine
+use Rattle.engine.specs.Answer.{answer, found}
+use Rattle.replica.specs.declared.fault.CopyFault.{CopyFault}
+use Rattle.replica.specs.declared.fault.CopyFault.TheVariants as fault
+use Rattle.replica.specs.declared.input.Condition as kept
+use Rattle.replica.specs.declared.input.Input.{Input}
+use Rattle.replica.specs.declared.input.Input.TheVariants as input
+use Rattle.replica.specs.declared.input.OpType.{OpType}
+use Rattle.replica.specs.declared.input.OpType.TheVariants as kind
+use Rattle.replica.specs.declared.output.Answer.{Answer}
+use Rattle.replica.specs.declared.output.Answer.TheVariants.{Wrote, Taken, Stale, Repeated, Reported, Found, Missing, Point}
+use Rattle.replica.specs.declared.output.Outcome as kept_outcome
+use Rattle.replica.specs.declared.output.Outcome.TheVariants as outcome
+use Rattle.replica.specs.Copy.{Copy, begun}
+use Rattle.replica.specs.Logged.{Logged}
+use Rattle.replica.specs.Step.{Step, copy_step, members_of}
+use Rattle.front.specs.declared.command.Change.{Change}
+use Rattle.front.specs.declared.command.Change.TheVariants as change
+use Rattle.front.specs.declared.command.Condition.{Condition}
+use Rattle.front.specs.declared.command.Write.{Write}
+use Rattle.front.specs.declared.reply.Hit.{Hit}
+use Rattle.front.specs.declared.reply.Outcome.{Outcome}
+use Rattle.front.specs.declared.reply.Outcome.TheVariants.{Created, Updated, Deleted, NotFound}
+use Rattle.front.specs.declared.reply.Refusal.{Refusal}
+use Rattle.front.specs.declared.reply.Refusal.TheVariants.{NotPrimary, VersionConflict, WindowFull, OldTerm, NotSynced, BeyondWindow, Mismatch, Closed, Log, NoMemory, WrongAddress, Exhausted}
+use Rattle.front.specs.Command.{Command, write, get, search, count, refresh}
+use Rattle.front.specs.Reply.{Reply, wrote, got, hits, counted, refreshed, refused}
+
+-- the mapping that a JSON value is, and the copy of a new index under it
+abbrev pub begun_under : Data → Result (MappingData × Copy) doc.Fault
+begun_under d = mapping_of d >>= λ m. Ok (m, begun 1 1 m)
+
+abbrev pub condition_of : Condition → kept.Condition
+condition_of c = record { seq = c.seq; term = c.term }
+
+-- what a write does; a document that is to be created has no condition
+abbrev pub kind_of : Change → Option Condition → OpType
+kind_of (change.Index d) condition = kind.Index d.source (option_map condition_of condition)
+kind_of (change.Create d) condition = kind.Create d.source
+kind_of change.Delete condition = kind.Delete (option_map condition_of condition)
+
+abbrev pub input_of : Write → Input
+input_of w = input.Write (record { id = w.id; kind = kind_of w.change w.condition })
+
+abbrev pub outcome_of : kept_outcome.Outcome → Outcome
+outcome_of outcome.Created = Created
+outcome_of outcome.Updated = Updated
+outcome_of outcome.Deleted = Deleted
+outcome_of outcome.NotFound = NotFound
+
+-- the reply that tells a copy's answer; so many copies have to acknowledge a write, and one copy is refreshed
+abbrev pub reply_of : ℕ → Answer → Reply
+reply_of members (Wrote w) = wrote (record { seq = w.seq; term = w.term; version = w.version; outcome = outcome_of w.outcome; copies = members })
+reply_of members (Found d) = got (Some (record { seq = d.seq; term = d.term; version = d.version; source = d.source }))
+reply_of members Missing = got None
+reply_of members (Point n) = refreshed 1
+reply_of members Taken = refused Mismatch
+reply_of members Stale = refused Mismatch
+reply_of members Repeated = refused Mismatch
+reply_of members Reported = refused Mismatch
+
+abbrev pub refusal_of : CopyFault → Refusal
+refusal_of fault.NotPrimary = NotPrimary
+refusal_of fault.VersionConflict = VersionConflict
+refusal_of fault.WindowFull = WindowFull
+refusal_of fault.OldTerm = OldTerm
+refusal_of fault.NotSynced = NotSynced
+refusal_of fault.BeyondWindow = BeyondWindow
+refusal_of fault.Mismatch = Mismatch
+refusal_of fault.Closed = Closed
+refusal_of (fault.Log f) = Log
+refusal_of fault.NoMemory = NoMemory
+refusal_of fault.WrongAddress = WrongAddress
+refusal_of fault.Exhausted = Exhausted
+
+abbrev pub hit_of : Id × List ℕ → Hit
+hit_of h = record { id = h.0; source = h.1 }
+
+abbrev pub hits_of : engine.Answer → Reply
+hits_of a = hits a.total (map hit_of a.hits)
+
+-- a copy after a command, with the reply, or why the copy refuses it
+abbrev pub Asked : Type 0
+Asked = Result (Copy × Reply) CopyFault
+
+-- one step of the copy
+abbrev pub taken : Copy → Input → Asked
+taken c i = copy_step c i >>= λ s. Ok (s.copy, reply_of (members_of s.copy.role) s.answer)
+
+-- the refresh that is wanted after a write
+abbrev pub refreshed_after : Bool → Copy → Result Copy CopyFault
+refreshed_after false c = Ok c
+refreshed_after true c = copy_step c input.Refresh >>= λ s. Ok s.copy
+
+-- a write, and the refresh after it
+abbrev pub written : Copy → Write → Asked
+written c w = copy_step c (input_of w) >>= λ s. refreshed_after w.refresh s.copy >>= λ d. Ok (d, reply_of (members_of s.copy.role) s.answer)
+
+-- a search and a count see the copy's records up to its refresh point
+abbrev pub asked : Copy → Command → Asked
+asked c (write w) = written c w
+asked c (get id) = taken c (input.Get id)
+asked c (search q page) = Ok (c, hits_of (answer c.mapping (shown c.records c.point) q page))
+asked c (count q) = Ok (c, counted (length (found (record { mapping = c.mapping; documents = documents (shown c.records c.point) }) q)))
+asked c refresh = taken c input.Refresh
+
+-- a refusal leaves the copy as it was
+abbrev pub told : Copy → Asked → Copy × Reply
+told c (Ok x) = x
+told c (Err f) = (c, refused (refusal_of f))
+
+-- the copy after a step, or as it was
+abbrev pub left_by : Copy → Step → Copy
+left_by c (Ok s) = s.copy
+left_by c (Err f) = c
+
+-- nothing has changed, or the write stands alone, without the refresh after it
+abbrev pub IsPartOf : Command → Copy → Copy → Type 0
+IsPartOf (write w) c d = (d ≡ c) ⊎ (d ≡ left_by c (copy_step c (input_of w)))
+IsPartOf (get id) c d = d ≡ c
+IsPartOf (search q page) c d = d ≡ c
+IsPartOf (count q) c d = d ≡ c
+IsPartOf refresh c d = d ≡ c
+
+-- whether memory is wanting, or the copy's log has failed
+abbrev pub is_failure : Reply → Bool
+is_failure (refused NoMemory) = true
+is_failure (refused Log) = true
+is_failure r = false
+
+-- the reply to a command, and the copy after it
+pub record IsAnswered (s : Logged) (c : Command) (r : Reply) (t : Logged) : Type 0 where
+  pub closed : s.closed ≡ true → r ≡ refused Closed
+  pub exact : s.closed ≡ false → is_failure r ≡ false → (t.copy, r) ≡ told s.copy (asked s.copy c)
+  pub memory : s.closed ≡ false → r ≡ refused NoMemory → IsPartOf c s.copy t.copy
+  pub stays : s.closed ≡ false → r ≢ refused Log → t.closed ≡ false

@@ -1,0 +1,211 @@
+//! What a copy answers the commands of requests.
+ghost use Rattle.std.specs.Prelude.{◌≡◌, false, map, IfOk, IfErr, OnOk, option_map};
+ghost use Rattle.doc.specs.Outcome.{Gives};
+ghost use Rattle.engine.specs.Shown.{hit_view};
+ghost use Rattle.front.specs.CommandView.{command_view};
+ghost use Rattle.front.specs.ReplyView.{reply_view};
+ghost use Rattle.query.specs.View.{query_view};
+ghost use Rattle.replica.specs.Fault.{fault_of, is_log};
+ghost use Rattle.shard.specs.Answering as spec;
+
+use engine::Hit as Found;
+use front::command::{Change, Command, Condition, Write};
+use front::reply::{Found as Document, Hit, Outcome, Refusal, Reply, Wrote};
+use query::{Page, Query, SearchBody};
+use replica::{Answer, Copy, CopyFault, Input, OpType, Output};
+use std::alloc::{AllocError, Global};
+use translog::MemDevice;
+
+/// The one copy of an index; its log is in memory.
+type OneCopy = Copy<MemDevice>;
+
+/// Does a command. After want of memory nothing has changed, or the write stands whose refresh was refused.
+pub(crate) fn answer(
+    alloc: Global,
+    copy: &mut OneCopy,
+    command: Command,
+) -> Result<Reply, CopyFault>
+    requires { copy.old.closed ≡ false }
+    ensures gives { Gives fault_of (λ r. (copy.new.copy, reply_view r)) result (spec.asked copy.old.copy (command_view command)) }
+    ensures open { OnOk result (copy.new.closed ≡ false) }
+    ensures part { IfErr result (λ e. is_log e ≡ false → (copy.new.closed ≡ false) × spec.IsPartOf (command_view command) copy.old.copy copy.new.copy) }
+{
+    match command {
+        Command::Write(write) => do_write(alloc, copy, write),
+        Command::Get(id) => take(alloc, copy, Input::Get(id)),
+        Command::Search(body) => search(alloc, copy, &body),
+        Command::Count(query) => count(alloc, copy, &query),
+        Command::Refresh => take(alloc, copy, Input::Refresh),
+    }
+}
+
+/// Does a step of the copy.
+fn take(alloc: Global, copy: &mut OneCopy, input: Input) -> Result<Reply, CopyFault>
+    requires { copy.old.closed ≡ false }
+    ensures gives { Gives fault_of (λ r. (copy.new.copy, reply_view r)) result (spec.taken copy.old.copy input) }
+    ensures open { OnOk result (copy.new.closed ≡ false) }
+    ensures part { IfErr result (λ e. is_log e ≡ false → (copy.new.closed ≡ false) × (copy.new.copy ≡ copy.old.copy)) }
+{
+    let output = copy.step(alloc, input)?;
+    Ok(reply_of(output))
+}
+
+/// Does a write, and then the refresh that is wanted.
+fn do_write(alloc: Global, copy: &mut OneCopy, write: Write) -> Result<Reply, CopyFault>
+    requires { copy.old.closed ≡ false }
+    ensures gives { Gives fault_of (λ r. (copy.new.copy, reply_view r)) result (spec.written copy.old.copy write) }
+    ensures open { OnOk result (copy.new.closed ≡ false) }
+    ensures part { IfErr result (λ e. is_log e ≡ false → (copy.new.closed ≡ false) × spec.IsPartOf (command_view (Command.Write write)) copy.old.copy copy.new.copy) }
+{
+    let refresh = write.refresh;
+    let output = copy.step(alloc, input_of(write))?;
+    if refresh {
+        copy.step(alloc, Input::Refresh)?;
+    }
+    Ok(reply_of(output))
+}
+
+/// The input that a write is to its copy.
+fn input_of(write: Write) -> Input
+    ensures { result ≡ spec.input_of write }
+{
+    let Write {
+        id,
+        change,
+        condition,
+        refresh: _,
+    } = write;
+    let kind = kind_of(change, condition);
+    Input::Write(replica::Write { id, kind })
+}
+
+fn kind_of(change: Change, condition: Option<Condition>) -> OpType
+    ensures { result ≡ spec.kind_of change condition }
+{
+    match change {
+        Change::Index(doc) => OpType::Index(doc.into_source(), condition_of(condition)),
+        Change::Create(doc) => OpType::Create(doc.into_source()),
+        Change::Delete => OpType::Delete(condition_of(condition)),
+    }
+}
+
+fn condition_of(condition: Option<Condition>) -> Option<replica::Condition>
+    ensures { result ≡ option_map spec.condition_of condition }
+{
+    match condition {
+        Some(Condition { seq, term }) => Some(replica::Condition { seq, term }),
+        None => None,
+    }
+}
+
+/// The reply that tells what a step answers.
+fn reply_of(output: Output) -> Reply
+    ensures { reply_view result ≡ spec.reply_of output.members output.answer }
+{
+    let Output {
+        answer,
+        sent: _,
+        acknowledged: _,
+        members,
+    } = output;
+    let copies = members as u64;
+    match answer {
+        Answer::Wrote(written) => Reply::Wrote(Wrote {
+            seq: written.seq,
+            term: written.term,
+            version: written.version,
+            outcome: outcome_of(written.outcome),
+            copies,
+        }),
+        Answer::Found(document) => Reply::Got(Some(Document {
+            seq: document.seq,
+            term: document.term,
+            version: document.version,
+            source: document.source,
+        })),
+        Answer::Missing => Reply::Got(None),
+        Answer::Point(_) => Reply::Refreshed(1),
+        Answer::Taken | Answer::Stale | Answer::Repeated | Answer::Reported => {
+            Reply::Refused(Refusal::Mismatch)
+        }
+    }
+}
+
+fn outcome_of(outcome: replica::Outcome) -> Outcome
+    ensures { result ≡ spec.outcome_of outcome }
+{
+    match outcome {
+        replica::Outcome::Created => Outcome::Created,
+        replica::Outcome::Updated => Outcome::Updated,
+        replica::Outcome::Deleted => Outcome::Deleted,
+        replica::Outcome::NotFound => Outcome::NotFound,
+    }
+}
+
+/// The refusal that tells why a copy refuses a step.
+pub(crate) fn refusal_of(fault: &CopyFault) -> Refusal
+    ensures { result ≡ spec.refusal_of fault.now }
+{
+    match fault {
+        CopyFault::NotPrimary => Refusal::NotPrimary,
+        CopyFault::VersionConflict => Refusal::VersionConflict,
+        CopyFault::WindowFull => Refusal::WindowFull,
+        CopyFault::OldTerm => Refusal::OldTerm,
+        CopyFault::NotSynced => Refusal::NotSynced,
+        CopyFault::BeyondWindow => Refusal::BeyondWindow,
+        CopyFault::Mismatch => Refusal::Mismatch,
+        CopyFault::Closed => Refusal::Closed,
+        CopyFault::Log(_) => Refusal::Log,
+        CopyFault::NoMemory => Refusal::NoMemory,
+        CopyFault::WrongAddress => Refusal::WrongAddress,
+        CopyFault::Exhausted => Refusal::Exhausted,
+    }
+}
+
+#[tactic(auto, using(crate::proofs::Found::each_in_turn))]
+fn search(alloc: Global, copy: &OneCopy, body: &SearchBody) -> Result<Reply, CopyFault>
+    requires { copy.now.closed ≡ false }
+    ensures gives { Gives fault_of (λ r. (copy.now.copy, reply_view r)) result
+        (spec.asked copy.now.copy (command_view (Command.Search body.now))) }
+{
+    let Some(snapshot) = copy.snapshot() else {
+        return Err(CopyFault::Closed);
+    };
+    let found = snapshot.search(alloc, &body.query, body.page)?;
+    let hits = hits_of(alloc, &found.hits)?;
+    Ok(Reply::Hits(found.total, hits))
+}
+
+fn hits_of(alloc: Global, found: &[Found]) -> Result<Vec<Hit>, AllocError>
+    ensures { IfOk result (λ hits. hits.items ≡ map (λ h. spec.hit_of (hit_view h)) found.now) }
+{
+    let mut hits = Vec::new(alloc);
+    for hit in found {
+        hits.push(hit_of(alloc, hit)?)?;
+    }
+    Ok(hits)
+}
+
+fn hit_of(alloc: Global, found: &Found) -> Result<Hit, AllocError>
+    ensures { IfOk result (λ hit. hit ≡ spec.hit_of (hit_view found.now)) }
+{
+    Ok(Hit {
+        id: found.id.copy(alloc)?,
+        source: found.source.copy(alloc)?,
+    })
+}
+
+fn count(alloc: Global, copy: &OneCopy, query: &Query) -> Result<Reply, CopyFault>
+    requires { copy.now.closed ≡ false }
+    ensures gives { Gives fault_of (λ r. (copy.now.copy, reply_view r)) result
+        (spec.asked copy.now.copy (command_view (Command.Count query.now))) }
+{
+    let Some(snapshot) = copy.snapshot() else {
+        return Err(CopyFault::Closed);
+    };
+    let Ok(page) = Page::new(0, 0) else {
+        return Err(CopyFault::NoMemory);
+    };
+    let found = snapshot.search(alloc, query, page)?;
+    Ok(Reply::Counted(found.total))
+}

@@ -1,0 +1,7 @@
+//! An index of one copy, as a service that answers the requests of HTTP.
+#![tactic(auto)]
+
+mod answering;
+pub mod shard;
+
+pub use shard::Shard;

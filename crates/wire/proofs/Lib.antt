@@ -1,0 +1,11 @@
+pub mod Bytes
+pub mod Cuts
+pub mod HeadLaws
+pub mod Heads
+pub mod Numbers
+pub mod Numerals
+pub mod Readers
+pub mod RequestRows
+pub mod Requests
+pub mod Standings
+pub mod Texts

@@ -1,0 +1,39 @@
+-- The worked rows compute.
+use Rattle.std.proofs.Common.{◌≡◌, [], ◌∷◌, ◌++◌, codes, take, refl}
+use Rattle.std.specs.Char.{encode_utf8}
+use Rattle.std.specs.Str.{chars, is_utf8}
+use Rattle.httparse.specs.Grammar.{is_token_byte, trim_ows}
+use Rattle.wire.specs.Cut.{cut}
+use Rattle.wire.specs.Fault.{bad_head, transfer_coding, body_too_large}
+use Rattle.wire.specs.Framing.{framing, framed, first}
+use Rattle.wire.specs.HeadReading.{head_of}
+use Rattle.wire.specs.Requests.{bad, good, requests}
+use Rattle.wire.specs.Rows.{put_text, put_request}
+
+pub put : requests put_text ≡ good put_request ∷ []
+unfolding requests first cut framed framing head_of is_token_byte trim_ows is_utf8 chars encode_utf8
+put = refl
+
+pub cut_short : requests (take 64 put_text) ≡ []
+unfolding requests first cut framed framing head_of is_token_byte trim_ows is_utf8 chars encode_utf8
+cut_short = refl
+
+pub twice : requests (put_text ++ put_text) ≡ good put_request ∷ good put_request ∷ []
+unfolding requests first cut framed framing head_of is_token_byte trim_ows is_utf8 chars encode_utf8
+twice = refl
+
+pub version : requests (codes "GET / HTTP/9.9\r\n\r\n") ≡ bad bad_head ∷ []
+unfolding requests first cut framed framing head_of is_token_byte trim_ows is_utf8 chars encode_utf8
+version = refl
+
+pub chunked : requests (codes "GET / HTTP/1.1\ntransfer-encoding: chunked\n\nGET") ≡ bad transfer_coding ∷ []
+unfolding requests first cut framed framing head_of is_token_byte trim_ows is_utf8 chars encode_utf8
+chunked = refl
+
+pub large : requests (codes "GET / HTTP/1.1\ncontent-length: 1048577\n\n") ≡ bad body_too_large ∷ []
+unfolding requests first cut framed framing head_of is_token_byte trim_ows is_utf8 chars encode_utf8
+large = refl
+
+pub plus : requests (codes "GET / HTTP/1.1\ncontent-length: +7\n\n") ≡ bad bad_head ∷ []
+unfolding requests first cut framed framing head_of is_token_byte trim_ows is_utf8 chars encode_utf8
+plus = refl

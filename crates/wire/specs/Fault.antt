@@ -1,0 +1,16 @@
+-- The faults of a head, apart from want of memory.
+use Rattle.std.specs.Prelude.{Option, Some, None}
+use Rattle.wire.specs.declared.head_fault.HeadFault.{HeadFault}
+use Rattle.wire.specs.declared.head_fault.HeadFault.TheVariants.{BadHead, TransferCoding, BodyTooLarge, NoMemory}
+
+pub data Fault : Type 0 where
+  bad_head : Fault
+  transfer_coding : Fault
+  body_too_large : Fault
+
+-- nothing for want of memory
+abbrev pub fault_of : HeadFault → Option Fault
+fault_of BadHead = Some bad_head
+fault_of TransferCoding = Some transfer_coding
+fault_of BodyTooLarge = Some body_too_large
+fault_of NoMemory = None

@@ -1,0 +1,14 @@
+pub mod Bytes
+pub mod Fault
+pub mod Pieces
+pub mod Number
+pub mod Cut
+pub mod Head
+pub mod HeadReading
+pub mod HeadView
+pub mod Framing
+pub mod FrameView
+pub mod Requests
+pub mod Reading
+pub mod Scanning
+pub mod Rows

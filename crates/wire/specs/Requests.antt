@@ -1,0 +1,24 @@
+-- The requests that stand whole in some bytes.
+use Rattle.std.specs.Prelude.{ℕ, zero, suc, List, [], ◌∷◌, length, if◌then◌else◌}
+use Rattle.wire.specs.Fault.{Fault}
+use Rattle.wire.specs.Framing.{Request, First, none, broken, asked, first}
+
+-- a request that stands whole: a fault, after which the stream ends, or what says what it asks
+pub data Standing : Type 0 where
+  bad : Fault → Standing
+  good : Request → Standing
+
+-- the first request, and where the stream doesn't end after it, those of the bytes behind it
+abbrev pub requests_after : First → (List ℕ → List Standing) → List Standing
+requests_after none more = []
+requests_after (broken f) more = bad f ∷ []
+requests_after (asked r closes rest) more = good r ∷ (if closes then [] else more rest)
+
+-- the first requests, so many at most
+abbrev pub requests_in : ℕ → List ℕ → List Standing
+requests_in zero bytes = []
+requests_in (suc n) bytes = requests_after (first bytes) (requests_in n)
+
+-- the requests that stand whole, in order, up to the first after which the stream ends; each takes a byte at least
+unfoldable pub requests : List ℕ → List Standing
+requests bytes = requests_in (suc (length bytes)) bytes
