@@ -31,12 +31,12 @@ abbrev pub hit : Id × Document → Id × List ℕ
 hit d = (d.0, d.1.source)
 
 -- the part of the hits that the page asks for
-abbrev pub page_of : PageData → Documents → Documents
-page_of page ds = take page.size (drop page.from ds)
+abbrev pub on_page : PageData → Documents → Documents
+on_page page ds = take page.size (drop page.from ds)
 
 -- what a search among these documents answers
 abbrev pub answer_of : SnapshotData → Query → PageData → Answer
-answer_of s q page = record { total = length (found s q); hits = map hit (page_of page (found s q)) }
+answer_of s q page = record { total = length (found s q); hits = map hit (on_page page (found s q)) }
 
 -- what a search of operations answers
 abbrev pub answer : MappingData → List Op → Query → PageData → Answer

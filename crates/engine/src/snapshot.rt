@@ -84,7 +84,7 @@ impl Snapshot {
         ensures { IfOk result (λ h. hits_view h ≡ answer_of self.now (query_view query.now) page) }
     {
         let found = self.matching(alloc, query)?;
-        let hits = hits_of(alloc, page_of(&found, page))?;
+        let hits = hits_of(alloc, on_page(&found, page))?;
         let total = found.len() as u64;
         Ok(Hits { total, hits })
     }
@@ -104,7 +104,7 @@ impl Snapshot {
 }
 
 /// The part of what was found that the page asks for.
-fn page_of<'a>(found: &'a [&'a Shown], page: Page) -> &'a [&'a Shown]
+fn on_page<'a>(found: &'a [&'a Shown], page: Page) -> &'a [&'a Shown]
     ensures { result.now ≡ take page.size (drop page.from found.entry.now) }
 {
     let from = found.len().min(page.from() as usize);

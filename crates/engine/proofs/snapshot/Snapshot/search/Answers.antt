@@ -9,6 +9,6 @@ pub returns : goal.returns
 returns c =
     let items = c.in_ok-found.found.items in
     let counted : c.len-total.result ≡ length items = c.len-total.ensures ∙ sym c.deref.ensures.len ∙ ap length c.deref.ensures.value in
-    let hits = rw (c.page_of.ensures, c.deref.ensures.value) at c.in_ok-hits.ensures in
+    let hits = rw (c.on_page.ensures, c.deref.ensures.value) at c.in_ok-hits.ensures in
     let both = answered (λ s. shown_view s.now) items c.args.page (found c.args.self.now (query_view c.args.query.now)) c.len-total.result _ c.in_ok-found.ensures counted hits in
     rw (both.0, both.1) refl
