@@ -1,0 +1,29 @@
+use Rattle.std.proofs.Common.{◌≡◌, ◌+◌, ◌≤◌, ◌&&◌, map, drop, length, All}
+use Rattle.doc.specs.Document.{all_values}
+use Rattle.query.specs.Query.{queries_of}
+use Rattle.query.specs.Meaning as spec
+use Rattle.query.specs.View.{query_view}
+use Rattle.marks.specs.Lists.{zip_with}
+use Rattle.search.proofs.selecting.+select.Given as goal
+
+-- the queries that are left decide
+abbrev pub invariant-keep_all-loop-query : goal.invariant-keep_all-loop-query
+invariant-keep_all-loop-query l = record {
+  whole : length l.marks ≡ length l.segment.sources;
+  left : zip_with (λ b s. b && spec.all_match l.segment.mapping.fields (all_values l.segment.mapping s) (queries_of (map query_view (drop l.query-index l.queries)))) l.marks l.segment.sources ≡ zip_with (λ b s. b && spec.all_match l.segment.mapping.fields (all_values l.segment.mapping s) (queries_of (map query_view l.queries))) l.initial.marks l.segment.sources;
+}
+
+-- the queries that are left decide
+abbrev pub invariant-drop_any-loop-query : goal.invariant-drop_any-loop-query
+invariant-drop_any-loop-query l = record {
+  whole : length l.marks ≡ length l.segment.sources;
+  left : zip_with (λ b s. b && spec.none_matches l.segment.mapping.fields (all_values l.segment.mapping s) (queries_of (map query_view (drop l.query-index l.queries)))) l.marks l.segment.sources ≡ zip_with (λ b s. b && spec.none_matches l.segment.mapping.fields (all_values l.segment.mapping s) (queries_of (map query_view l.queries))) l.initial.marks l.segment.sources;
+}
+
+-- those found, and those among the queries that are left
+abbrev pub invariant-keep_enough-loop-query : goal.invariant-keep_enough-loop-query
+invariant-keep_enough-loop-query l = record {
+  whole : length l.counts.items ≡ length l.segment.sources;
+  few : All (λ n. n ≤ l.query-index) l.counts.items;
+  left : zip_with (λ n s. n + spec.matching l.segment.mapping.fields (all_values l.segment.mapping s) (queries_of (map query_view (drop l.query-index l.queries)))) l.counts.items l.segment.sources ≡ map (λ s. spec.matching l.segment.mapping.fields (all_values l.segment.mapping s) (queries_of (map query_view l.queries))) l.segment.sources;
+}

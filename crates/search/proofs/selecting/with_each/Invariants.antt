@@ -1,0 +1,13 @@
+use Rattle.std.proofs.Common.{◌≡◌, ◌&&◌, drop, length, map}
+use Rattle.std.specs.List.{list_all}
+use Rattle.doc.specs.ScalarView.{scalars_view}
+use Rattle.query.specs.Meaning.{has, terms}
+use Rattle.marks.specs.Lists.{zip_with}
+use Rattle.search.proofs.selecting.with_each.Given as goal
+
+-- the values that are left decide
+abbrev pub invariant-loop-value : goal.invariant-loop-value
+invariant-loop-value l = record {
+  whole : length l.marks ≡ length l.segment.sources;
+  left : zip_with (λ b s. b && list_all (has (terms l.segment.mapping s l.name)) (scalars_view (drop l.value-index l.values))) l.marks l.segment.sources ≡ map (λ s. list_all (has (terms l.segment.mapping s l.name)) (scalars_view l.values)) l.segment.sources;
+}

@@ -1,0 +1,249 @@
+//! The documents of a segment that a query means.
+ghost use Rattle.std.specs.Prelude.{◌≡◌, ◌<◌, ◌≤◌, ◌&&◌, ◌||◌, ◌^◌, ℕ, Bool, true, false, map, length, nat_le, nat_lt, replicate, IfOk, OnOk};
+ghost use Rattle.std.specs.List.{list_any, list_all};
+ghost use Rattle.doc.specs.Document.{all_values};
+ghost use Rattle.doc.specs.ScalarView.{scalar_view, scalars_view};
+ghost use Rattle.query.specs.Meaning as spec;
+ghost use Rattle.query.specs.Query.{queries_of, count_of};
+ghost use Rattle.query.specs.View.{query_view, bounds_view};
+ghost use Rattle.marks.specs.Lists.{zip_with};
+ghost use Rattle.segment.specs.Indexed.{has_term, has_value};
+
+use crate::counts;
+use doc::Scalar;
+use marks::Marks;
+use query::{Bounds, Operator, Query};
+use segment::Segment;
+use std::alloc::{AllocError, Global};
+
+/// The documents of the segment that the query means.
+#[cycle(select)]
+pub fn select(alloc: Global, segment: &Segment, query: &Query) -> Result<Marks, AllocError>
+    ensures { IfOk result (λ m. m ≡ map (λ s. spec.means segment.now.mapping s (query_view query.now)) segment.now.sources) }
+{
+    match query {
+        Query::MatchAll => all(alloc, segment),
+        Query::Nothing => none(alloc, segment),
+        Query::Term(field, value) => with_term(alloc, segment, field, value),
+        Query::Terms(field, values) => with_any(alloc, segment, field, values),
+        Query::Match(field, operator, tokens) => {
+            with_tokens(alloc, segment, field, *operator, tokens)
+        }
+        Query::Prefix(field, text) => with_prefix(alloc, segment, field, text),
+        Query::Range(field, bounds) => within(alloc, segment, field, bounds),
+        Query::Exists(field) => with_value(alloc, segment, field),
+        Query::Bool {
+            filter,
+            must,
+            must_not,
+            should,
+            minimum_should_match,
+        } => {
+            let mut marks = all(alloc, segment)?;
+            keep_all(alloc, segment, filter, &mut marks)?;
+            keep_all(alloc, segment, must, &mut marks)?;
+            drop_any(alloc, segment, must_not, &mut marks)?;
+            let wanted = wanted(
+                count(filter),
+                count(must),
+                count(should),
+                *minimum_should_match,
+            );
+            keep_enough(alloc, segment, should, wanted, &mut marks)?;
+            Ok(marks)
+        }
+    }
+}
+
+/// Keeps the marks of the documents that all queries mean.
+#[cycle(select)]
+fn keep_all(
+    alloc: Global,
+    segment: &Segment,
+    queries: &[Query],
+    marks: &mut Marks,
+) -> Result<(), AllocError>
+    requires { length marks.old ≡ length segment.now.sources }
+    ensures whole { OnOk result (length marks.new ≡ length segment.now.sources) }
+    ensures is { OnOk result (marks.new ≡ zip_with (λ b s. b && spec.all_match segment.now.mapping.fields (all_values segment.now.mapping s) (queries_of (map query_view queries.now))) marks.old segment.now.sources) }
+{
+    for query in queries {
+        marks.intersect(&select(alloc, segment, query)?);
+    }
+    Ok(())
+}
+
+/// Drops the marks of the documents that one of the queries means.
+#[cycle(select)]
+fn drop_any(
+    alloc: Global,
+    segment: &Segment,
+    queries: &[Query],
+    marks: &mut Marks,
+) -> Result<(), AllocError>
+    requires { length marks.old ≡ length segment.now.sources }
+    ensures whole { OnOk result (length marks.new ≡ length segment.now.sources) }
+    ensures is { OnOk result (marks.new ≡ zip_with (λ b s. b && spec.none_matches segment.now.mapping.fields (all_values segment.now.mapping s) (queries_of (map query_view queries.now))) marks.old segment.now.sources) }
+{
+    for query in queries {
+        marks.subtract(&select(alloc, segment, query)?);
+    }
+    Ok(())
+}
+
+/// Keeps the marks of the documents that enough queries mean.
+#[cycle(select)]
+fn keep_enough(
+    alloc: Global,
+    segment: &Segment,
+    queries: &[Query],
+    wanted: u64,
+    marks: &mut Marks,
+) -> Result<(), AllocError>
+    requires { length marks.old ≡ length segment.now.sources }
+    ensures whole { OnOk result (length marks.new ≡ length segment.now.sources) }
+    ensures is { OnOk result (marks.new ≡ zip_with (λ b s. b && nat_le wanted (spec.matching segment.now.mapping.fields (all_values segment.now.mapping s) (queries_of (map query_view queries.now)))) marks.old segment.now.sources) }
+{
+    if wanted == 0 {
+        return Ok(());
+    }
+    let mut counts = counts::zeros(alloc, segment.len())?;
+    for query in queries {
+        counts::add(&mut counts, &select(alloc, segment, query)?);
+    }
+    marks.intersect(&counts::at_least(alloc, &counts, wanted)?);
+    Ok(())
+}
+
+/// How many queries of `should` are wanted.
+fn wanted(filter: usize, must: usize, should: usize, minimum: u64) -> u64
+    ensures { result ≡ spec.wanted filter must should minimum }
+{
+    if minimum == 0 && filter == 0 && must == 0 && should > 0 {
+        1
+    } else {
+        minimum
+    }
+}
+
+fn count(queries: &[Query]) -> usize
+    ensures { result ≡ count_of (queries_of (map query_view queries.now)) }
+{
+    queries.len()
+}
+
+fn none(alloc: Global, segment: &Segment) -> Result<Marks, AllocError>
+    ensures { IfOk result (λ m. m ≡ map (λ s. false) segment.now.sources) }
+{
+    Marks::none(alloc, segment.len())
+}
+
+fn all(alloc: Global, segment: &Segment) -> Result<Marks, AllocError>
+    ensures { IfOk result (λ m. m ≡ map (λ s. true) segment.now.sources) }
+{
+    Marks::all(alloc, segment.len())
+}
+
+/// The documents in which a term of the field is the value.
+fn with_term(
+    alloc: Global,
+    segment: &Segment,
+    name: &str,
+    value: &Scalar,
+) -> Result<Marks, AllocError>
+    ensures { IfOk result (λ m. m ≡ map (λ s. spec.has (spec.terms segment.now.mapping s name.now) (scalar_view value.now)) segment.now.sources) }
+{
+    let mut marks = none(alloc, segment)?;
+    segment.mark_term(name, value, &mut marks);
+    Ok(marks)
+}
+
+/// Those in which a term of the field is one of the values.
+fn with_any(
+    alloc: Global,
+    segment: &Segment,
+    name: &str,
+    values: &[Scalar],
+) -> Result<Marks, AllocError>
+    ensures { IfOk result (λ m. m ≡ map (λ s. list_any (spec.is_one_of (scalars_view values.now)) (spec.terms segment.now.mapping s name.now)) segment.now.sources) }
+{
+    let mut marks = none(alloc, segment)?;
+    for value in values {
+        segment.mark_term(name, value, &mut marks);
+    }
+    Ok(marks)
+}
+
+/// Those in which each of the values is a term of the field.
+fn with_each(
+    alloc: Global,
+    segment: &Segment,
+    name: &str,
+    values: &[Scalar],
+) -> Result<Marks, AllocError>
+    ensures { IfOk result (λ m. m ≡ map (λ s. list_all (spec.has (spec.terms segment.now.mapping s name.now)) (scalars_view values.now)) segment.now.sources) }
+{
+    let mut marks = all(alloc, segment)?;
+    for value in values {
+        marks.intersect(&with_term(alloc, segment, name, value)?);
+    }
+    Ok(marks)
+}
+
+/// Those in which one of the tokens is a term of the field, or there is one and all are.
+fn with_tokens(
+    alloc: Global,
+    segment: &Segment,
+    name: &str,
+    operator: Operator,
+    tokens: &[Scalar],
+) -> Result<Marks, AllocError>
+    ensures { IfOk result (λ m. m ≡ map (λ s. spec.has_tokens operator (spec.terms segment.now.mapping s name.now) (scalars_view tokens.now)) segment.now.sources) }
+{
+    match operator {
+        Operator::Or => with_any(alloc, segment, name, tokens),
+        Operator::And => {
+            if tokens.is_empty() {
+                return none(alloc, segment);
+            }
+            with_each(alloc, segment, name, tokens)
+        }
+    }
+}
+
+/// Those in which a term of the field begins with the text.
+fn with_prefix(
+    alloc: Global,
+    segment: &Segment,
+    name: &str,
+    text: &str,
+) -> Result<Marks, AllocError>
+    ensures { IfOk result (λ m. m ≡ map (λ s. list_any (spec.begins_with text.now) (spec.terms segment.now.mapping s name.now)) segment.now.sources) }
+{
+    let mut marks = none(alloc, segment)?;
+    segment.mark_prefix(alloc, name, text, &mut marks)?;
+    Ok(marks)
+}
+
+/// Those in which a term of the field lies within the bounds.
+fn within(
+    alloc: Global,
+    segment: &Segment,
+    name: &str,
+    bounds: &Bounds,
+) -> Result<Marks, AllocError>
+    ensures { IfOk result (λ m. m ≡ map (λ s. list_any (spec.is_within (bounds_view bounds.now)) (spec.terms segment.now.mapping s name.now)) segment.now.sources) }
+{
+    let mut marks = none(alloc, segment)?;
+    segment.mark_within(name, bounds, &mut marks);
+    Ok(marks)
+}
+
+/// Those in which the field has a value.
+fn with_value(alloc: Global, segment: &Segment, name: &str) -> Result<Marks, AllocError>
+    ensures { IfOk result (λ m. m ≡ map (λ s. has_value name.now (all_values segment.now.mapping s)) segment.now.sources) }
+{
+    let mut marks = none(alloc, segment)?;
+    segment.mark_exists(name, &mut marks);
+    Ok(marks)
+}

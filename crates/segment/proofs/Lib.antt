@@ -1,0 +1,14 @@
+pub mod Marking
+pub mod Zips
+pub mod Ends
+pub mod Steps
+pub mod Columns
+pub mod Joins
+pub mod Ahead
+pub mod Prefixes
+pub mod Listed
+pub mod Runs
+pub mod TermKinds
+pub mod Withins
+pub mod PostedLaws
+pub mod BuiltLaws

@@ -1,0 +1,4 @@
+pub mod Places
+pub mod Indexed
+pub mod Term
+pub mod Posted

@@ -1,0 +1,11 @@
+//! Segments: documents by the terms of their fields.
+#![tactic(auto)]
+
+mod building;
+pub mod column;
+mod posting;
+pub mod segment;
+mod term;
+
+pub use column::Column;
+pub use segment::Segment;

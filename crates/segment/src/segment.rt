@@ -1,0 +1,251 @@
+//! Segments.
+ghost use Rattle.std.specs.Prelude.{◌≡◌, ◌<◌, ◌^◌, ◌||◌, ◌&&◌, ℕ, All, [], if◌then◌else◌, length, map, option_map, IfOk, OnOk, nat_eq, string_bytes};
+ghost use Rattle.std.specs.Arc.{arc_value};
+ghost use Rattle.doc.specs.Document.{all_values};
+ghost use Rattle.doc.specs.Scalar as scalar;
+ghost use Rattle.doc.specs.ScalarView.{scalar_view};
+ghost use Rattle.std.specs.List.{list_any, starts_with};
+ghost use Rattle.query.specs.Meaning.{terms_at, begins_with, is_within};
+ghost use Rattle.query.specs.View.{bounds_view};
+ghost use Rattle.marks.specs.Lists.{zip_with, marked};
+ghost use Rattle.segment.specs.Term.{is_text, is_long, is_truth};
+ghost use Rattle.segment.specs.Indexed.{has_term, has_value, IsColumn, IsColumnOr};
+
+use crate::column::Column;
+use crate::term::Term;
+use crate::{building, term};
+use doc::{Doc, Mapping, Scalar, Source};
+use marks::Marks;
+use query::Bounds;
+use std::alloc::{AllocError, Global};
+use std::collections::BTreeMap;
+use std::marker::Model;
+use std::sync::Arc;
+
+/// Documents by the terms of their fields. It never changes.
+#[derive(Drop)]
+pub struct Segment {
+    mapping: Arc<Mapping, Global>,
+    sources: Vec<Source>,
+    columns: BTreeMap<String, Column>,
+}
+
+impl Model for Segment {
+    ghost use Rattle.std.specs.Arc.{arc_value};
+    ghost use Rattle.segment.specs.Indexed.{SegmentData, IsIndexed};
+
+    ghost Value = { SegmentData };
+
+    ghost view = { λ s. record { mapping = arc_value s.mapping; sources = s.sources.items } };
+
+    ghost invariant = { λ s. IsIndexed (arc_value s.mapping) s.sources.items s.columns };
+}
+
+impl Segment {
+    /// The segment of documents that were read under the mapping, fewer than 2^32.
+    pub fn build(
+        alloc: Global,
+        mapping: &Arc<Mapping, Global>,
+        docs: &[Doc],
+    ) -> Result<Segment, AllocError>
+        requires few { length docs.now < 2 ^ 32 }
+        requires read { map (λ d. d.values) docs.now ≡ map (λ d. all_values (arc_value mapping.now) d.source) docs.now }
+        ensures { IfOk result (λ s. s ≡ record { mapping = arc_value mapping.now; sources = map (λ d. d.source) docs.now }) }
+    {
+        let columns = building::columns_of(alloc, mapping, docs)?;
+        let sources = building::sources_of(alloc, docs)?;
+        let mapping = Arc::try_clone(mapping)?;
+        Ok(Segment {
+            mapping,
+            sources,
+            columns,
+        })
+    }
+
+    /// How many documents there are.
+    pub fn len(&self) -> usize
+        ensures is { result ≡ length self.now.sources }
+        ensures few { result < 2 ^ 32 }
+    {
+        self.sources.len()
+    }
+
+    /// The column of a field.
+    fn column(&self, name: &str) -> Option<&Column>
+        ensures { IsColumnOr self.now.mapping.fields (map (all_values self.now.mapping) self.now.sources) name.now (option_map (λ c. c.now) result) }
+    {
+        self.columns.get(name)
+    }
+
+    /// Marks the documents that have the text as a term.
+    fn mark_text(&self, name: &str, text: &str, marks: &mut Marks)
+        requires { length marks.old ≡ length self.now.sources }
+        ensures { marks.new ≡ zip_with (λ b s. b || has_term self.now.mapping.fields name.now (scalar.text text.now) (all_values self.now.mapping s)) marks.old self.now.sources }
+    {
+        if let Some(column) = self.column(name) {
+            marks.mark(column.places_of(text));
+        }
+    }
+
+    /// Marks the documents that have the truth value as a term.
+    fn mark_flag(&self, name: &str, flag: bool, marks: &mut Marks)
+        requires { length marks.old ≡ length self.now.sources }
+        ensures { marks.new ≡ zip_with (λ b s. b || has_term self.now.mapping.fields name.now (scalar.flag flag) (all_values self.now.mapping s)) marks.old self.now.sources }
+    {
+        if let Some(column) = self.column(name) {
+            if flag {
+                marks.unite(&column.yes);
+            } else {
+                marks.unite(&column.no);
+            }
+        }
+    }
+
+    /// Marks the documents in which the field has a value.
+    pub fn mark_exists(&self, name: &str, marks: &mut Marks)
+        requires { length marks.old ≡ length self.now.sources }
+        ensures { marks.new ≡ zip_with (λ b s. b || has_value name.now (all_values self.now.mapping s)) marks.old self.now.sources }
+    {
+        if let Some(column) = self.column(name) {
+            marks.unite(&column.has);
+        }
+    }
+
+    /// Marks the documents in which a term of the field is the value.
+    pub fn mark_term(&self, name: &str, value: &Scalar, marks: &mut Marks)
+        requires { length marks.old ≡ length self.now.sources }
+        ensures { marks.new ≡ zip_with (λ b s. b || has_term self.now.mapping.fields name.now (scalar_view value.now) (all_values self.now.mapping s)) marks.old self.now.sources }
+    {
+        match value {
+            Scalar::Text(text) => self.mark_text(name, text, marks),
+            Scalar::Long(number) => self.mark_long(name, *number, marks),
+            Scalar::Flag(flag) => self.mark_flag(name, *flag, marks),
+        }
+    }
+
+    /// Marks the documents that have the number as a term.
+    fn mark_long(&self, name: &str, number: i64, marks: &mut Marks)
+        requires { length marks.old ≡ length self.now.sources }
+        ensures { marks.new ≡ zip_with (λ b s. b || has_term self.now.mapping.fields name.now (scalar.long number) (all_values self.now.mapping s)) marks.old self.now.sources }
+    {
+        if let Some(column) = self.column(name) {
+            marks.mark(column.places_of_long(number));
+        }
+    }
+
+    /// Marks the documents in which a term of the field begins with the text.
+    pub fn mark_prefix(
+        &self,
+        alloc: Global,
+        name: &str,
+        text: &str,
+        marks: &mut Marks,
+    ) -> Result<(), AllocError>
+        requires { length marks.old ≡ length self.now.sources }
+        ensures { OnOk result (marks.new ≡ zip_with (λ b s. b || list_any (begins_with text.now) (terms_at self.now.mapping.fields (all_values self.now.mapping s) name.now)) marks.old self.now.sources) }
+    {
+        match self.column(name) {
+            Some(column) => self.mark_begun(alloc, column, name, text, marks),
+            None => Ok(()),
+        }
+    }
+
+    /// The same where the field has this column: the words with the prefix stand side by side.
+    fn mark_begun(
+        &self,
+        alloc: Global,
+        column: &Column,
+        _name: &str,
+        text: &str,
+        marks: &mut Marks,
+    ) -> Result<(), AllocError>
+        requires whole { length marks.old ≡ length self.now.sources }
+        requires is { IsColumn self.now.mapping.fields (map (all_values self.now.mapping) self.now.sources) _name.now column.now }
+        ensures { OnOk result (marks.new ≡ zip_with (λ b s. b || list_any (begins_with text.now) (terms_at self.now.mapping.fields (all_values self.now.mapping s) _name.now)) marks.old self.now.sources) }
+    {
+        let from = String::from_str(alloc, text)?;
+        for (word, places) in column.texts.range(from..) {
+            if !begins_with(word, text) {
+                return Ok(());
+            }
+            marks.mark(places);
+        }
+        Ok(())
+    }
+
+    /// Marks the documents in which a term of the field lies within the bounds.
+    pub fn mark_within(&self, name: &str, bounds: &Bounds, marks: &mut Marks)
+        requires { length marks.old ≡ length self.now.sources }
+        ensures { marks.new ≡ zip_with (λ b s. b || list_any (is_within (bounds_view bounds.now)) (terms_at self.now.mapping.fields (all_values self.now.mapping s) name.now)) marks.old self.now.sources }
+    {
+        if let Some(column) = self.column(name) {
+            self.mark_texts(column, name, bounds, marks);
+            self.mark_longs(column, name, bounds, marks);
+            self.mark_truths(column, name, bounds, marks);
+        }
+    }
+
+    /// Marks those that have a text within the bounds as a term.
+    fn mark_texts(&self, column: &Column, _name: &str, bounds: &Bounds, marks: &mut Marks)
+        requires whole { length marks.old ≡ length self.now.sources }
+        requires is { IsColumn self.now.mapping.fields (map (all_values self.now.mapping) self.now.sources) _name.now column.now }
+        ensures whole { length marks.new ≡ length self.now.sources }
+        ensures is { marks.new ≡ zip_with (λ b s. b || list_any (λ t. is_text t && is_within (bounds_view bounds.now) t) (terms_at self.now.mapping.fields (all_values self.now.mapping s) _name.now)) marks.old self.now.sources }
+    {
+        for (word, places) in column.texts.range(..) {
+            let passes = term::is_within(bounds, Term::Text(word.as_str()));
+            mark_if(marks, places, passes);
+        }
+    }
+
+    /// Marks those that have a number within the bounds as a term.
+    fn mark_longs(&self, column: &Column, _name: &str, bounds: &Bounds, marks: &mut Marks)
+        requires whole { length marks.old ≡ length self.now.sources }
+        requires is { IsColumn self.now.mapping.fields (map (all_values self.now.mapping) self.now.sources) _name.now column.now }
+        ensures whole { length marks.new ≡ length self.now.sources }
+        ensures is { marks.new ≡ zip_with (λ b s. b || list_any (λ t. is_long t && is_within (bounds_view bounds.now) t) (terms_at self.now.mapping.fields (all_values self.now.mapping s) _name.now)) marks.old self.now.sources }
+    {
+        for (number, places) in column.longs.range(..) {
+            let passes = term::is_within(bounds, Term::Long(*number));
+            mark_if(marks, places, passes);
+        }
+    }
+
+    /// Marks those that have a truth value within the bounds as a term.
+    fn mark_truths(&self, column: &Column, _name: &str, bounds: &Bounds, marks: &mut Marks)
+        requires whole { length marks.old ≡ length self.now.sources }
+        requires is { IsColumn self.now.mapping.fields (map (all_values self.now.mapping) self.now.sources) _name.now column.now }
+        ensures { marks.new ≡ zip_with (λ b s. b || list_any (λ t. is_truth t && is_within (bounds_view bounds.now) t) (terms_at self.now.mapping.fields (all_values self.now.mapping s) _name.now)) marks.old self.now.sources }
+    {
+        let yes = term::is_within(bounds, Term::Flag(true));
+        unite_if(marks, &column.yes, yes);
+        let no = term::is_within(bounds, Term::Flag(false));
+        unite_if(marks, &column.no, no);
+    }
+}
+
+/// Marks the places of a key that passes.
+fn mark_if(marks: &mut Marks, places: &[u32], passes: bool)
+    requires { All (λ p. p < length marks.old) places.now }
+    ensures { marks.new ≡ marked marks.old (if passes then places.now else []) }
+{
+    if passes {
+        marks.mark(places);
+    }
+}
+
+/// Adds the marks of a truth value that passes.
+fn unite_if(marks: &mut Marks, others: &Marks, passes: bool)
+    requires { length others.now ≡ length marks.old }
+    ensures { marks.new ≡ zip_with (λ a b. a || (passes && b)) marks.old others.now }
+{
+    if passes {
+        marks.unite(others);
+    }
+}
+
+fn begins_with(word: &String, prefix: &str) -> bool
+    ensures { result ≡ starts_with nat_eq (string_bytes word.now) prefix.now }
+{
+    word.as_str().as_bytes().starts_with(prefix.as_bytes())
+}
