@@ -29,7 +29,7 @@ enum ProgramFault {
 
 /// What the command line asks for.
 #[derive(Clone, Copy)]
-enum Asked<'a> {
+enum Task<'a> {
     /// To play the script of a file.
     Replay(&'a str),
     /// To serve an index.
@@ -49,9 +49,9 @@ where
     R: Files + AllocGlobal + Net<Listener = TcpListener, Stream = TcpStream>,
     ensures { result < 3 }
 {
-    match asked_of(rt.alloc(), words) {
-        Ok(Asked::Replay(file)) => run(rt, file, input, output, errors),
-        Ok(Asked::Serve(settings)) => run_server(rt, settings, output, errors),
+    match task_of(rt.alloc(), words) {
+        Ok(Task::Replay(file)) => run(rt, file, input, output, errors),
+        Ok(Task::Serve(settings)) => run_server(rt, settings, output, errors),
         Err(error) => explain(&error, output, errors),
     }
 }
@@ -106,12 +106,12 @@ fn report<E: Write>(errors: &mut E, file: &str, fault: &ProgramFault) {
 }
 
 /// What the command line asks for.
-fn asked_of<'a>(alloc: Global, words: &'a [String]) -> Result<Asked<'a>, clap::Error> {
+fn task_of<'a>(alloc: Global, words: &'a [String]) -> Result<Task<'a>, clap::Error> {
     let matches = command(alloc)?.try_get_matches_from(words)?;
     match matches.subcommand() {
-        Some(("serve", options)) => Ok(Asked::Serve(settings_of(options))),
-        Some((_, replay)) => Ok(Asked::Replay(replay.get_str("FILE").unwrap_or("-"))),
-        None => Ok(Asked::Replay("-")),
+        Some(("serve", options)) => Ok(Task::Serve(settings_of(options))),
+        Some((_, replay)) => Ok(Task::Replay(replay.get_str("FILE").unwrap_or("-"))),
+        None => Ok(Task::Replay("-")),
     }
 }
 
