@@ -74,19 +74,19 @@ fn asked_of<'b>(
     endpoint: Endpoint,
     method: Method,
     id: &str,
-    p: Parameters,
+    parameters: Parameters,
     body: &'b [u8],
     named: Option<&str>,
 ) -> Result<Asked<'b>, RequestFault>
     ensures { Gives fault_of asked_view result
-        (spec.asked_of mapping.now endpoint method id.now p body.now (option_copied named.entry)) }
+        (spec.asked_of mapping.now endpoint method id.now parameters body.now (option_copied named.entry)) }
 {
     match endpoint {
         Endpoint::Bulk => {
             let items = items_in(alloc, named, body)?;
-            Ok(Asked::Many(is_true(p.refresh), items))
+            Ok(Asked::Many(is_true(parameters.refresh), items))
         }
-        _ => Ok(Asked::One(command_of(alloc, mapping, endpoint, method, id, p, body)?)),
+        _ => Ok(Asked::One(command_of(alloc, mapping, endpoint, method, id, parameters, body)?)),
     }
 }
 
@@ -113,10 +113,14 @@ fn check_allowed(endpoint: Endpoint, method: Method) -> Result<(), RequestFault>
     }
 }
 
-fn check_fits(endpoint: Endpoint, method: Method, p: Parameters) -> Result<(), RequestFault>
-    ensures { Gives fault_of (λ u. u) result (target.check (spec.fits endpoint method p) bad_parameter) }
+fn check_fits(
+    endpoint: Endpoint,
+    method: Method,
+    parameters: Parameters,
+) -> Result<(), RequestFault>
+    ensures { Gives fault_of (λ u. u) result (target.check (spec.fits endpoint method parameters) bad_parameter) }
 {
-    if fits(endpoint, method, p) {
+    if fits(endpoint, method, parameters) {
         Ok(())
     } else {
         Err(RequestFault::BadParameter)
@@ -139,16 +143,20 @@ fn or_nothing(text: Option<&[u8]>) -> &[u8]
     text.unwrap_or(b"")
 }
 
-fn has_none(p: Parameters) -> bool
-    ensures { result ≡ spec.has_none p }
+fn has_none(parameters: Parameters) -> bool
+    ensures { result ≡ spec.has_none parameters }
 {
-    p.refresh.is_none() && p.create.is_none() && p.seq.is_none() && p.term.is_none()
+    parameters.refresh.is_none()
+        && parameters.create.is_none()
+        && parameters.seq.is_none()
+        && parameters.term.is_none()
 }
 
-fn has_both(p: Parameters) -> bool
-    ensures { result ≡ spec.has_both p }
+fn has_both(parameters: Parameters) -> bool
+    ensures { result ≡ spec.has_both parameters }
 {
-    (p.seq.is_some() && p.term.is_some()) || (p.seq.is_none() && p.term.is_none())
+    (parameters.seq.is_some() && parameters.term.is_some())
+        || (parameters.seq.is_none() && parameters.term.is_none())
 }
 
 fn is_true(flag: Option<bool>) -> bool
@@ -161,33 +169,34 @@ fn is_true(flag: Option<bool>) -> bool
 }
 
 /// Whether these parameters may come with a method at a path.
-fn fits(endpoint: Endpoint, method: Method, p: Parameters) -> bool
-    ensures { result ≡ spec.fits endpoint method p }
+fn fits(endpoint: Endpoint, method: Method, parameters: Parameters) -> bool
+    ensures { result ≡ spec.fits endpoint method parameters }
 {
     match endpoint {
-        Endpoint::Document => fits_document(method, p),
-        Endpoint::Create | Endpoint::Bulk => p.create.is_none()
-            && p.seq.is_none()
-            && p.term.is_none(),
-        Endpoint::Search | Endpoint::Count | Endpoint::Refresh => has_none(p),
+        Endpoint::Document => fits_document(method, parameters),
+        Endpoint::Create | Endpoint::Bulk => parameters.create.is_none()
+            && parameters.seq.is_none()
+            && parameters.term.is_none(),
+        Endpoint::Search | Endpoint::Count | Endpoint::Refresh => has_none(parameters),
     }
 }
 
-fn fits_document(method: Method, p: Parameters) -> bool
-    ensures { result ≡ spec.fits Endpoint.Document method p }
+fn fits_document(method: Method, parameters: Parameters) -> bool
+    ensures { result ≡ spec.fits Endpoint.Document method parameters }
 {
     match method {
-        Method::Get => has_none(p),
-        Method::Delete => p.create.is_none() && has_both(p),
-        Method::Put | Method::Post => has_both(p) && !(is_true(p.create) && p.seq.is_some()),
+        Method::Get => has_none(parameters),
+        Method::Delete => parameters.create.is_none() && has_both(parameters),
+        Method::Put | Method::Post => has_both(parameters)
+            && !(is_true(parameters.create) && parameters.seq.is_some()),
         Method::Other => false,
     }
 }
 
-fn condition_of(p: Parameters) -> Option<Condition>
-    ensures { result ≡ spec.condition_of p.seq p.term }
+fn condition_of(parameters: Parameters) -> Option<Condition>
+    ensures { result ≡ spec.condition_of parameters.seq parameters.term }
 {
-    match (p.seq, p.term) {
+    match (parameters.seq, parameters.term) {
         (Some(seq), Some(term)) => Some(Condition { seq, term }),
         _ => None,
     }
@@ -199,14 +208,14 @@ fn command_of(
     endpoint: Endpoint,
     method: Method,
     id: &str,
-    p: Parameters,
+    parameters: Parameters,
     body: &[u8],
 ) -> Result<Command, RequestFault>
-    ensures { Gives fault_of command_view result (spec.command_of mapping.now endpoint method id.now p body.now) }
+    ensures { Gives fault_of command_view result (spec.command_of mapping.now endpoint method id.now parameters body.now) }
 {
     match endpoint {
-        Endpoint::Document => document_command(alloc, mapping, method, id, p, body),
-        Endpoint::Create => put_of(alloc, mapping, true, id, p, body),
+        Endpoint::Document => document_command(alloc, mapping, method, id, parameters, body),
+        Endpoint::Create => put_of(alloc, mapping, true, id, parameters, body),
         Endpoint::Search => search_of(alloc, mapping, body),
         Endpoint::Count => count_of(alloc, mapping, body),
         Endpoint::Refresh => Ok(Command::Refresh),
@@ -219,15 +228,22 @@ fn document_command(
     mapping: &Mapping,
     method: Method,
     id: &str,
-    p: Parameters,
+    parameters: Parameters,
     body: &[u8],
 ) -> Result<Command, RequestFault>
-    ensures { Gives fault_of command_view result (spec.command_of mapping.now Endpoint.Document method id.now p body.now) }
+    ensures { Gives fault_of command_view result (spec.command_of mapping.now Endpoint.Document method id.now parameters body.now) }
 {
     match method {
         Method::Get => get_of(alloc, id),
-        Method::Delete => delete_of(alloc, id, p),
-        Method::Put | Method::Post => put_of(alloc, mapping, is_true(p.create), id, p, body),
+        Method::Delete => delete_of(alloc, id, parameters),
+        Method::Put | Method::Post => put_of(
+            alloc,
+            mapping,
+            is_true(parameters.create),
+            id,
+            parameters,
+            body,
+        ),
         Method::Other => Err(RequestFault::BadMethod(Endpoint::Document)),
     }
 }
@@ -240,15 +256,15 @@ fn get_of(alloc: Global, id: &str) -> Result<Command, RequestFault>
 }
 
 #[tactic(auto, unfolding(crate::specs::Asking::delete_of))]
-fn delete_of(alloc: Global, id: &str, p: Parameters) -> Result<Command, RequestFault>
-    ensures { Gives fault_of command_view result (spec.delete_of id.now p) }
+fn delete_of(alloc: Global, id: &str, parameters: Parameters) -> Result<Command, RequestFault>
+    ensures { Gives fault_of command_view result (spec.delete_of id.now parameters) }
 {
     let id = DocId::new(alloc, id)?;
     Ok(Command::Write(Write {
         id,
         change: Change::Delete,
-        condition: condition_of(p),
-        refresh: is_true(p.refresh),
+        condition: condition_of(parameters),
+        refresh: is_true(parameters.refresh),
     }))
 }
 
@@ -258,18 +274,18 @@ fn put_of(
     mapping: &Mapping,
     create: bool,
     id: &str,
-    p: Parameters,
+    parameters: Parameters,
     body: &[u8],
 ) -> Result<Command, RequestFault>
-    ensures { Gives fault_of command_view result (spec.put_of mapping.now create id.now p body.now) }
+    ensures { Gives fault_of command_view result (spec.put_of mapping.now create id.now parameters body.now) }
 {
     let id = DocId::new(alloc, id)?;
     let document = Doc::read(alloc, mapping, body)?;
     Ok(Command::Write(Write {
         id,
         change: stored(create, document),
-        condition: condition_of(p),
-        refresh: is_true(p.refresh),
+        condition: condition_of(parameters),
+        refresh: is_true(parameters.refresh),
     }))
 }
 

@@ -154,7 +154,7 @@ fn check_keys(members: &Map<String, Value>) -> Result<(), RequestFault>
 fn is_line_key(name: &str) -> bool
     ensures { result ≡ spec.is_line_key name.now }
 {
-    name == "_id" || name == "_index" || name == "if_seq_no" || name == "if_primary_term"
+    matches!(name, "_id" | "_index" | "if_seq_no" | "if_primary_term")
 }
 
 fn text_in(alloc: Global, value: Option<&Value>) -> Result<String, RequestFault>

@@ -52,24 +52,37 @@ fn once_number(old: Option<u64>, new: Option<u64>) -> Result<Option<u64>, Reques
     Ok(new)
 }
 
-fn with_parameter(p: Parameters, name: &str, value: &str) -> Result<Parameters, RequestFault>
-    ensures { Gives fault_of (λ q. q) result (spec.with_parameter p name.now value.now) }
+fn with_parameter(
+    parameters: Parameters,
+    name: &str,
+    value: &str,
+) -> Result<Parameters, RequestFault>
+    ensures { Gives fault_of (λ q. q) result (spec.with_parameter parameters name.now value.now) }
 {
     if name == "pretty" {
-        let pretty = once_flag(p.pretty, Some(true))?;
-        Ok(Parameters { pretty, ..p })
+        let pretty = once_flag(parameters.pretty, Some(true))?;
+        Ok(Parameters {
+            pretty,
+            ..parameters
+        })
     } else if name == "refresh" {
-        let refresh = once_flag(p.refresh, refresh_of(value))?;
-        Ok(Parameters { refresh, ..p })
+        let refresh = once_flag(parameters.refresh, refresh_of(value))?;
+        Ok(Parameters {
+            refresh,
+            ..parameters
+        })
     } else if name == "op_type" {
-        let create = once_flag(p.create, create_of(value))?;
-        Ok(Parameters { create, ..p })
+        let create = once_flag(parameters.create, create_of(value))?;
+        Ok(Parameters {
+            create,
+            ..parameters
+        })
     } else if name == "if_seq_no" {
-        let seq = once_number(p.seq, number_of(value))?;
-        Ok(Parameters { seq, ..p })
+        let seq = once_number(parameters.seq, number_of(value))?;
+        Ok(Parameters { seq, ..parameters })
     } else if name == "if_primary_term" {
-        let term = once_number(p.term, number_of(value))?;
-        Ok(Parameters { term, ..p })
+        let term = once_number(parameters.term, number_of(value))?;
+        Ok(Parameters { term, ..parameters })
     } else {
         Err(RequestFault::BadParameter)
     }

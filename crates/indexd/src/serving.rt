@@ -16,6 +16,9 @@ use std::{fmt, fs, io};
 /// The greatest mapping file that is read, in bytes.
 const MAX_MAPPING: u64 = 1_048_576;
 
+/// How many connections in a row may fail before they begin.
+const MOST_REFUSED: u32 = 100;
+
 /// How long a connection that has ended is listened to for more, in milliseconds.
 const LINGER: u64 = 500;
 
@@ -30,7 +33,7 @@ pub(crate) struct Settings<'a> {
     pub(crate) connections: Option<u64>,
 }
 
-/// Why the server doesn't start. Faults are looked for in this order, with want of memory anywhere.
+/// Why the server doesn't start, or ends. Faults are looked for in this order, with want of memory anywhere.
 #[derive(Debug, Drop)]
 pub(crate) enum ServeFault {
     IndexName,
@@ -40,6 +43,7 @@ pub(crate) enum ServeFault {
     Mapping(DocFault),
     Port(u16, io::Error),
     Output(io::Error),
+    Connection(io::Error),
     NoMemory,
 }
 
@@ -59,6 +63,9 @@ impl Display for ServeFault {
                 "port {port} can't be had: {error}; give another one by --port"
             ),
             ServeFault::Output(error) => write!(f, "the output can't be written: {error}"),
+            ServeFault::Connection(error) => {
+                write!(f, "no connection can be had any more: {error}")
+            }
             ServeFault::NoMemory => write!(f, "out of memory"),
         }
     }
@@ -82,15 +89,18 @@ where
     }
     let mapping = mapping_of(rt, settings.mapping)?;
     let name = String::from_str(alloc, settings.index)?;
-    let mut shard = Shard::new(alloc, name, &mapping).map_err(ServeFault::Mapping)?;
+    let mut shard = match Shard::new(alloc, name, &mapping) {
+        Ok(shard) => shard,
+        Err(DocFault::NoMemory) => return Err(ServeFault::NoMemory),
+        Err(fault) => return Err(ServeFault::Mapping(fault)),
+    };
     let port = settings.port;
     let listener = match TcpListener::bind(rt, ("127.0.0.1", port)) {
         Ok(listener) => listener,
         Err(error) => return Err(ServeFault::Port(port, error)),
     };
     announce(output, port).map_err(ServeFault::Output)?;
-    serve_all(alloc, &listener, &mut shard, settings.connections);
-    Ok(())
+    serve_all(alloc, &listener, &mut shard, settings.connections)
 }
 
 fn announce<O: Write>(output: &mut O, port: u16) -> io::Result<()> {
@@ -132,19 +142,34 @@ fn text_of<R: Files + AllocGlobal>(rt: &R, file: &str) -> Result<String, ServeFa
     Ok(text)
 }
 
-/// Serves connections, one after another. A fault on one ends that connection alone.
-fn serve_all(alloc: Global, listener: &TcpListener, shard: &mut Shard, connections: Option<u64>) {
-    let mut left = connections;
+/// Serves connections, one after another. A fault on one ends that connection alone; where none can be had any more the server ends.
+fn serve_all(
+    alloc: Global,
+    listener: &TcpListener,
+    shard: &mut Shard,
+    connections: Option<u64>,
+) -> Result<(), ServeFault> {
+    let mut served: u64 = 0;
+    let mut refused: u32 = 0;
     for stream in listener.incoming() {
-        if let Ok(stream) = stream {
-            let _ = serve_one(alloc, &stream, shard);
+        match stream {
+            Ok(stream) => {
+                let _ = serve_one(alloc, &stream, shard);
+                served = served.saturating_add(1);
+                refused = 0;
+            }
+            Err(error) => {
+                refused = refused.saturating_add(1);
+                if refused >= MOST_REFUSED {
+                    return Err(ServeFault::Connection(error));
+                }
+            }
         }
-        left = match left {
-            Some(0 | 1) => return,
-            Some(more) => Some(more - 1),
-            None => None,
-        };
+        if connections == Some(served) {
+            return Ok(());
+        }
     }
+    Ok(())
 }
 
 /// Serves one connection: pages go to it as they are spelt, and requests come through a buffer.

@@ -53,8 +53,9 @@ impl CountBody {
         ensures { Gives fault_of (λ b. query_view b.query) result (spec.counted_of mapping.now (view value.now)) }
     {
         check_count_keys(members_of(value)?)?;
-        let query = query_or_all(alloc, mapping, value.get("query"))?;
-        Ok(CountBody { query })
+        Ok(CountBody {
+            query: query_or_all(alloc, mapping, value.get("query"))?,
+        })
     }
 }
 

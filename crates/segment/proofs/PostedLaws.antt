@@ -125,7 +125,7 @@ words-push at ws word first old new w is more =
 
 terms-append : (xs ys : List Scalar) → flat_map terms_of_value (xs ++ ys) ≡ flat_map terms_of_value xs ++ flat_map terms_of_value ys
 terms-append [] ys = refl
-terms-append (x ∷ xs) ys = ap (λ zs. cut x ++ zs) (terms-append xs ys) ∙ sym (append_assoc (terms_of_value x) (flat_map terms_of_value xs) (flat_map terms_of_value ys))
+terms-append (x ∷ xs) ys = ap (λ zs. terms_of_value x ++ zs) (terms-append xs ys) ∙ sym (append_assoc (terms_of_value x) (flat_map terms_of_value xs) (flat_map terms_of_value ys))
 
 pub terms_by-append : (k : Kind) (xs ys : List Scalar) → terms_by (Some k) (xs ++ ys) ≡ terms_by (Some k) xs ++ terms_by (Some k) ys
 terms_by-append Keyword xs ys = refl
