@@ -1,5 +1,5 @@
 //! Mappings.
-ghost use Rattle.std.specs.Prelude.{◌≡◌, ◌==◌, not, nat_lt, codes, option_map, length};
+ghost use Rattle.std.specs.Prelude.{◌≡◌, ◌==◌, not, nat_lt, codes, option_map, length, IfOk};
 ghost use Rattle.std.specs.List.{list_all};
 ghost use Rattle.serde_json.specs.Data.{no_members, Data, Members};
 ghost use Rattle.serde_json.specs.Find.{get};
@@ -14,7 +14,7 @@ ghost use Rattle.doc.specs.Mapping as spec;
 
 use crate::fault::DocFault;
 use serde_json::{Map, Value};
-use std::alloc::Global;
+use std::alloc::{AllocError, Global};
 use std::marker::Model;
 
 const MAX_FIELDS: usize = 1000;
@@ -83,6 +83,31 @@ impl Mapping {
         ensures { result ≡ kind_at name.now self.now.fields }
     {
         kind_of_name(&self.fields, name)
+    }
+
+    /// An equal mapping.
+    pub fn copy(&self, alloc: Global) -> Result<Mapping, AllocError>
+        ensures { IfOk result (λ m. m ≡ self.now) }
+    {
+        let mut fields = Vec::new(alloc);
+        for field in &self.fields {
+            fields.push(field.copy(alloc)?)?;
+        }
+        Ok(Mapping {
+            strict: self.strict,
+            fields,
+        })
+    }
+}
+
+impl Field {
+    fn copy(&self, alloc: Global) -> Result<Field, AllocError>
+        ensures { IfOk result (λ f. field_view f ≡ field_view self.now) }
+    {
+        Ok(Field {
+            name: String::from_str(alloc, self.name.as_str())?,
+            kind: self.kind,
+        })
     }
 }
 

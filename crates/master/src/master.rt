@@ -6,8 +6,9 @@ ghost use Rattle.translog.specs.Fault.{errs_with, fault_of, is_device};
 ghost use Rattle.translog.specs.Frames.{IsLog, IsUnopened, LosesNothing};
 ghost use Rattle.master.specs.declared.entry.Entry.TheVariants.{Begin};
 ghost use Rattle.master.specs.Log.{header, kept_state};
-ghost use Rattle.master.specs.Decide.{master_step};
+ghost use Rattle.master.specs.Decide.{decision_of, master_step};
 ghost use Rattle.master.specs.Entry.{IsEntry, entry_of, spelled};
+ghost use Rattle.master.specs.Fault as refusals;
 ghost use Rattle.master.specs.Fault.{is_log};
 ghost use Rattle.master.specs.Logged.{begun_state, frame_for, IsDone, IsLogOf, IsRefused, IsUnbegun};
 ghost use Rattle.master.specs.State.{begun, IsSound};
@@ -112,6 +113,17 @@ impl<D: LogDevice> Master<D> {
         let (state, decision) = decided.into_parts();
         self.state = state;
         Ok(decision)
+    }
+
+    /// What a request would be answered, were it made now. Nothing changes.
+    pub fn preview(&self, alloc: Global, request: Request) -> Result<Decision, MasterFault>
+        ensures decision { Gives refusals.fault_of (λ d. d) result (decision_of (master_step self.now.state request)) }
+        ensures no_log { IfErr result (λ e. is_log e ≡ false) }
+    {
+        match self.state.decide(alloc, request) {
+            Ok(decided) => Ok(decided.into_decision()),
+            Err(fault) => Err(fault),
+        }
     }
 
     /// What the master knows.

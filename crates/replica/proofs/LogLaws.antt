@@ -11,14 +11,14 @@ use Rattle.translog.specs.declared.frames.Torn.{Torn}
 use Rattle.translog.specs.Frames.{framed, mended, IsTorn, LosesNothing}
 use Rattle.translog.specs.Device.{AddsFront}
 use Rattle.translog.specs.Kept.{header, kept, record_frame, IsSpelt, IsTranslog}
-use Rattle.translog.proofs.RecordsLaws.{whole_kept, torn_or_whole, kept_not_large, translog_stays}
+use Rattle.translog.proofs.RecordsLaws.{one_more, whole_kept, torn_or_whole, kept_not_large, translog_stays}
 use Rattle.translog.proofs.FramesLaws.{opened_of}
 use Rattle.replica.specs.declared.fault.CopyFault.{CopyFault}
 use Rattle.replica.specs.declared.fault.CopyFault.TheVariants.{Log, NoMemory as OutOfMemory}
 use Rattle.replica.specs.declared.planned.Planned.{Planned}
 use Rattle.replica.specs.declared.prepared.Prepared.{Prepared}
 use Rattle.replica.specs.Copy.{Copy}
-use Rattle.replica.specs.Fault.{of_log, has_failed, fault_of as copy_fault}
+use Rattle.replica.specs.Fault.{of_log, has_failed, is_log, fault_of as copy_fault}
 use Rattle.replica.specs.Logged.{Logged, IsLogged, IsUnread, prepared_step}
 use Rattle.replica.specs.Planned.{stepped_by}
 use Rattle.replica.specs.Step.{Step, Stepped}
@@ -41,6 +41,10 @@ same_bytes a b rs one other = one.whole ∙ sym other.whole
 pub same_records : (bytes : List ℕ) (rs found : List Record) → IsTranslog bytes rs → kept bytes ≡ Ok found → found ≡ rs
 same_records bytes rs found log e = same_ok rs found (sym (whole_kept bytes rs log) ∙ e)
 
+-- a log with the frame of one record more
+pub grown : (l : Logged) (r : Record) (frame : List ℕ) → IsLogged l → l.closed ≡ false → record_frame r ≡ Ok frame → IsSpelt r → IsTranslog (l.log ++ frame) (l.copy.records ++ r ∷ [])
+grown l r frame logged opened spelt one = rw (frame_is r frame spelt) (one_more l.log l.copy.records r (logged opened) one)
+
 -- after an append that failed the log keeps what it kept before, or also the new record
 pub torn_at : (new held bytes : List ℕ) (rs : List Record) (r : Record) (frame : List ℕ) → held ≡ bytes → IsTranslog bytes rs → record_frame r ≡ Ok frame → IsSpelt r → AddsFront held frame new
     → (kept new ≡ kept bytes) ⊎ (kept new ≡ Ok (rs ++ r ∷ []))
@@ -62,6 +66,22 @@ unread bytes (Damaged offset) fails = fails
 unread bytes Device fails = tt
 unread bytes NoMemory fails = tt
 unread bytes TooLarge fails = absurd (kept_not_large bytes fails)
+
+-- a log of records is read, unless memory is wanting or its device fails
+pub sound_log : (bytes : List ℕ) (rs : List Record) (f : LogFault) → IsTranslog bytes rs → Fails fault_of f (kept bytes) → is_device f ≡ false → is_log (of_log f) ≡ false
+sound_log bytes rs BadMagic log fails other = absurd (let e = sym (whole_kept bytes rs log) ∙ fails in cc)
+sound_log bytes rs (Damaged offset) log fails other = absurd (let e = sym (whole_kept bytes rs log) ∙ fails in cc)
+sound_log bytes rs Device log fails other = absurd cc
+sound_log bytes rs NoMemory log fails other = refl
+sound_log bytes rs TooLarge log fails other = refl
+
+-- only a failure of the device is a fault of the log
+pub not_log : (f : LogFault) → fault_of f ≡ None → is_device f ≡ false → is_log (of_log f) ≡ false
+not_log BadMagic none other = absurd cc
+not_log (Damaged offset) none other = absurd cc
+not_log Device none other = absurd cc
+not_log NoMemory none other = refl
+not_log TooLarge none other = absurd cc
 
 -- a torn end is left for want of memory, or by the device
 pub unmended : (bytes : List ℕ) (f : LogFault) → fault_of f ≡ None → IsUnread bytes (of_log f)

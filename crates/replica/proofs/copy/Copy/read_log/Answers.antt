@@ -3,7 +3,7 @@ use Rattle.doc.specs.Outcome.{Fails}
 use Rattle.translog.specs.Fault.{fault_of}
 use Rattle.translog.specs.Kept.{kept}
 use Rattle.replica.specs.Logged.{Logged, IsLogged}
-use Rattle.replica.proofs.LogLaws.{same_records, unread}
+use Rattle.replica.proofs.LogLaws.{same_records, sound_log, unread}
 use Rattle.replica.proofs.copy.Copy.read_log.Goals as goal
 
 pub returns-in-Ok-clause-same : goal.returns-in-Ok-clause-same
@@ -19,3 +19,11 @@ returns-after-self-clause-unread g c =
     let fault = c.in-Err.fault in
     let found = subst (λ (x : List ℕ). Fails fault_of fault (kept x)) (ap (λ (l : Logged). l.log) c.self.view_is) c.in-Err.ensures.found in
     rw c.from-refusal.ensures (unread s.log fault found)
+
+pub returns-after-self-clause-open_in_memory : goal.returns-after-self-clause-open_in_memory
+returns-after-self-clause-open_in_memory g c memory opened =
+    let s = c.args.self.now in
+    let fault = c.in-Err.fault in
+    let logged : IsLogged s = subst (λ (l : Logged). IsLogged l) c.self.view_is c.self.invariant in
+    let found = subst (λ (x : List ℕ). Fails fault_of fault (kept x)) (ap (λ (l : Logged). l.log) c.self.view_is) c.in-Err.ensures.found in
+    rw c.from-refusal.ensures (sound_log s.log s.copy.records fault (logged opened) found (c.in-Err.ensures.in_memory memory))
