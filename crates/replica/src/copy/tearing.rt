@@ -90,7 +90,7 @@ impl<D: LogDevice> Copy<D> {
         requires ready { IsReady self.old (Prepared.Kept frame planned) }
         requires records { records.items ≡ self.old.copy.records }
         requires rules { All IsRecord records.items }
-        ensures copy { OnOk result (self.new.copy ≡ opened self.old.copy.id self.old.copy.birth self.old.copy.mapping (self.old.copy.records ++ planned.kept ∷ [])) }
+        ensures copy { OnOk result (self.new.copy ≡ opened self.old.copy.id self.old.copy.birth self.old.copy.mapping (self.old.copy.records ++ planned.next_record ∷ [])) }
         ensures stays { OnErr result (self.new.copy ≡ self.old.copy) }
         ensures open { self.new.closed ≡ false }
     {
