@@ -21,6 +21,7 @@ impl<D: LogDevice> Copy<D> {
         requires in_memory { D.in_memory ≡ true }
         requires open { self.old.closed ≡ false }
         ensures copy { OnOk result (self.new.copy ≡ torn self.old.copy (copy_step self.old.copy input) is_kept) }
+        ensures id { OnOk result (self.new.copy.id ≡ self.old.copy.id) }
         ensures stays { OnErr result (self.new.copy ≡ self.old.copy) }
         ensures open { self.new.closed ≡ false }
     {
@@ -36,6 +37,7 @@ impl<D: LogDevice> Copy<D> {
         requires in_memory { D.in_memory ≡ true }
         requires open { self.old.closed ≡ false }
         ensures copy { OnOk result (self.new.copy ≡ torn self.old.copy (copy_step self.old.copy input) true) }
+        ensures id { OnOk result (self.new.copy.id ≡ self.old.copy.id) }
         ensures stays { OnErr result (self.new.copy ≡ self.old.copy) }
         ensures open { self.new.closed ≡ false }
     {
@@ -54,6 +56,7 @@ impl<D: LogDevice> Copy<D> {
         requires in_memory { D.in_memory ≡ true }
         requires open { self.old.closed ≡ false }
         ensures copy { OnOk result (self.new.copy ≡ restarted self.old.copy) }
+        ensures id { OnOk result (self.new.copy.id ≡ self.old.copy.id) }
         ensures stays { OnErr result (self.new.copy ≡ self.old.copy) }
         ensures open { self.new.closed ≡ false }
     {
@@ -91,6 +94,7 @@ impl<D: LogDevice> Copy<D> {
         requires records { records.items ≡ self.old.copy.records }
         requires rules { All IsRecord records.items }
         ensures copy { OnOk result (self.new.copy ≡ opened self.old.copy.id self.old.copy.birth self.old.copy.mapping (self.old.copy.records ++ planned.next_record ∷ [])) }
+        ensures id { OnOk result (self.new.copy.id ≡ self.old.copy.id) }
         ensures stays { OnErr result (self.new.copy ≡ self.old.copy) }
         ensures open { self.new.closed ≡ false }
     {

@@ -1,0 +1,116 @@
+//! A world: what events make of a new index of some copies.
+ghost use Rattle.std.specs.Prelude.{◌≡◌, ◌≤◌, false, length, IfOk, IfErr, IfSome, OnOk, OnErr};
+ghost use Rattle.std.specs.Option.{option_map};
+ghost use Rattle.world.specs.Held.{Held};
+ghost use Rattle.world.specs.Reached.{IsRefusedRun};
+ghost use Rattle.world.specs.World.{answering, copy_in, new_world, world_of, world_step};
+
+use crate::event::{Event, EventAnswer};
+use crate::fault::RunFault;
+use crate::nodes::{Nodes, OneCopy};
+use doc::Mapping;
+use master::State;
+use op::{Msg, Op};
+use std::alloc::{AllocError, Global};
+use std::marker::Model;
+
+/// The master, the copies, every message that was ever sent, and the acknowledged operations. Each world is one that events lead to.
+#[derive(Drop)]
+pub struct World {
+    nodes: Nodes,
+}
+
+impl Model for World {
+    ghost use Rattle.world.specs.World as spec;
+
+    ghost Value = { spec.World };
+
+    ghost use Rattle.world.specs.Reached.{IsReached};
+
+    ghost view = { λ w. w.nodes };
+
+    ghost invariant = { λ w. IsReached w.nodes };
+}
+
+impl World {
+    /// A new index of one copy to five: copy 1 is the primary of term 1.
+    pub fn new(alloc: Global, mapping: &Mapping, copies: u8) -> Result<World, AllocError>
+        requires { (1 ≤ copies) × (copies ≤ 5) }
+        ensures world { IfOk result (λ w. w ≡ new_world mapping.now copies) }
+        ensures held { IfOk result Held }
+    {
+        let nodes = Nodes::new(alloc, mapping, copies)?;
+        Ok(World { nodes })
+    }
+
+    /// One event. Want of memory changes nothing.
+    pub fn step(&mut self, alloc: Global, event: &Event) -> Result<EventAnswer, AllocError>
+        ensures happened { IfOk result (λ a. world_step self.old event.now ≡ answering self.new a) }
+        ensures stays { OnErr result (self.new ≡ self.old) }
+        ensures held { Held self.new }
+    {
+        self.nodes.step(alloc, event)
+    }
+
+    /// The mapping that documents are read under.
+    pub fn mapping(&self) -> &Mapping
+        ensures { result.now ≡ self.now.mapping }
+    {
+        self.nodes.mapping()
+    }
+
+    /// What the master knows.
+    pub fn master(&self) -> &State
+        ensures { result.now ≡ self.now.master }
+    {
+        self.nodes.master()
+    }
+
+    /// The copy with an id. Its log hasn't failed.
+    pub fn copy(&self, id: u32) -> Option<&OneCopy>
+        ensures copy { option_map (λ c. c.now.copy) result ≡ copy_in self.now.copies id }
+        ensures open { IfSome result (λ c. c.now.closed ≡ false) }
+    {
+        self.nodes.copy(id)
+    }
+
+    /// Every message that was ever sent; message 1 comes first.
+    pub fn messages(&self) -> &[Msg]
+        ensures { result.now ≡ self.now.messages }
+    {
+        self.nodes.messages()
+    }
+
+    /// Every operation that was ever acknowledged.
+    pub fn acknowledged(&self) -> &[Op]
+        ensures { result.now ≡ self.now.acknowledged }
+    {
+        self.nodes.acknowledged()
+    }
+}
+
+/// The world of some copies after some events. `BadCount` unless there are one copy to five; `NoMemory` tells how many events were taken before.
+pub fn run(
+    alloc: Global,
+    mapping: &Mapping,
+    copies: u8,
+    events: &[Event],
+) -> Result<World, RunFault>
+    ensures world { IfOk result (λ w. w ≡ world_of mapping.now copies events.now) }
+    ensures held { IfOk result Held }
+    ensures count { OnOk result ((1 ≤ copies) × (copies ≤ 5)) }
+    ensures refused { IfErr result (IsRefusedRun copies (length events.now)) }
+{
+    if copies == 0 || copies > 5 {
+        return Err(RunFault::BadCount);
+    }
+    let Ok(mut world) = World::new(alloc, mapping, copies) else {
+        return Err(RunFault::NoMemory(0));
+    };
+    for (taken, event) in events.iter().enumerate() {
+        if world.step(alloc, event).is_err() {
+            return Err(RunFault::NoMemory(taken as u64));
+        }
+    }
+    Ok(world)
+}
