@@ -7,15 +7,15 @@ use Rattle.wire.specs.Pieces.{text_of}
 use Rattle.indexd.specs.Words.{split_word, one_word}
 
 -- what a write does; documents are texts that are still to be read
-pub data Change : Type 0 where
-  index : (source : List ℕ) → Option Condition → Change
-  create : (source : List ℕ) → Change
-  delete : Option Condition → Change
+pub data LineWrite : Type 0 where
+  index : (source : List ℕ) → Option Condition → LineWrite
+  create : (source : List ℕ) → LineWrite
+  delete : Option Condition → LineWrite
 
 -- a copy is named by its number; mappings, documents and searches are texts that are still to be read
 pub data Command : Type 0 where
   opening : (copies : ℕ) (mapping : List ℕ) → Command
-  write : (copy : ℕ) (id : List ℕ) → Change → Command
+  write : (copy : ℕ) (id : List ℕ) → LineWrite → Command
   get : (copy : ℕ) (id : List ℕ) → Command
   refresh : (copy : ℕ) → Command
   restart : (copy : ℕ) → Command

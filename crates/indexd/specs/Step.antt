@@ -18,7 +18,7 @@ use Rattle.replica.specs.declared.input.Input.{Input}
 use Rattle.replica.specs.declared.input.Input.TheVariants.{Write, Refresh, Get, Restart}
 use Rattle.replica.specs.Copy.{Copy, begun}
 use Rattle.replica.specs.Step.{Stepped, copy_step}
-use Rattle.indexd.specs.Command.{Command, Change, index, create, delete, opening, write, get, refresh, restart, search}
+use Rattle.indexd.specs.Command.{Command, LineWrite, index, create, delete, opening, write, get, refresh, restart, search}
 use Rattle.indexd.specs.Refusal.{Refusal, not_open, already_open, bad_count, no_such_copy, of_doc, of_query, in_doc, in_query, in_copy}
 use Rattle.indexd.specs.Reply.{Reply, opened, stepped, hits}
 
@@ -39,13 +39,13 @@ abbrev pub source_in : MappingData → List ℕ → Result (List ℕ) doc.Fault
 source_in m text = doc_of m text >>= λ d. Ok d.source
 
 -- what a write does, with its document read under the mapping
-abbrev pub kind_of : MappingData → Change → Result OpType Refusal
+abbrev pub kind_of : MappingData → LineWrite → Result OpType Refusal
 kind_of m (index text condition) = in_doc (source_in m text) >>= λ source. Ok (Index source condition)
 kind_of m (create text) = in_doc (source_in m text) >>= λ source. Ok (Create source)
 kind_of m (delete condition) = Ok (Delete condition)
 
 -- a write: the id, then the document, then the step
-unfoldable pub write_at : Copy → List ℕ → Change → Step Copy
+unfoldable pub write_at : Copy → List ℕ → LineWrite → Step Copy
 write_at c id change = do
   i ← in_doc (id_of id)
   kind ← kind_of c.mapping change
@@ -100,13 +100,13 @@ abbrev pub open_index : ℕ → List ℕ → Step Copy
 open_index copies mapping = if copies == 1 then (new_index mapping >>= λ c. Ok (c, opened)) else Err bad_count
 
 -- a command before the index is open
-abbrev pub step_closed : Command → Step Copy
-step_closed (opening copies mapping) = open_index copies mapping
-step_closed (write copy id change) = Err not_open
-step_closed (get copy id) = Err not_open
-step_closed (refresh copy) = Err not_open
-step_closed (restart copy) = Err not_open
-step_closed (search copy body) = Err not_open
+abbrev pub step_unopened : Command → Step Copy
+step_unopened (opening copies mapping) = open_index copies mapping
+step_unopened (write copy id change) = Err not_open
+step_unopened (get copy id) = Err not_open
+step_unopened (refresh copy) = Err not_open
+step_unopened (restart copy) = Err not_open
+step_unopened (search copy body) = Err not_open
 
 abbrev pub in_state : Step Copy → Step State
 in_state (Ok r) = Ok (Some r.0, r.1)
@@ -114,5 +114,5 @@ in_state (Err f) = Err f
 
 -- a command, whether or not the index is open
 abbrev pub step : State → Command → Step State
-step None command = in_state (step_closed command)
+step None command = in_state (step_unopened command)
 step (Some c) command = in_state (step_open c command)

@@ -5,8 +5,8 @@ use Rattle.doc.specs.Fault as doc
 use Rattle.query.specs.Fault as query
 use Rattle.engine.specs.Shown.{hits_view}
 use Rattle.replica.specs.Fault as replica
-use Rattle.indexd.specs.declared.command.Change.{Change}
-use Rattle.indexd.specs.declared.command.Change.TheVariants.{Index, Create, Delete}
+use Rattle.indexd.specs.declared.command.LineWrite.{LineWrite}
+use Rattle.indexd.specs.declared.command.LineWrite.TheVariants.{Index, Create, Delete}
 use Rattle.indexd.specs.declared.command.Command.{Command}
 use Rattle.indexd.specs.declared.command.Command.TheVariants.{Open, Write, Get, Refresh, Restart, Search}
 use Rattle.indexd.specs.declared.refusal.Refusal.{Refusal}
@@ -17,14 +17,14 @@ use Rattle.indexd.specs.Command as command
 use Rattle.indexd.specs.Refusal as refusal
 use Rattle.indexd.specs.Reply as reply
 
-abbrev pub change_view : Change → command.Change
-change_view (Index source condition) = command.index source.now condition
-change_view (Create source) = command.create source.now
-change_view (Delete condition) = command.delete condition
+abbrev pub line_write_view : LineWrite → command.LineWrite
+line_write_view (Index source condition) = command.index source.now condition
+line_write_view (Create source) = command.create source.now
+line_write_view (Delete condition) = command.delete condition
 
 abbrev pub command_view : Command → command.Command
 command_view (Open copies mapping) = command.opening copies mapping.now
-command_view (Write copy id change) = command.write copy id.now (change_view change)
+command_view (Write copy id change) = command.write copy id.now (line_write_view change)
 command_view (Get copy id) = command.get copy id.now
 command_view (Refresh copy) = command.refresh copy
 command_view (Restart copy) = command.restart copy

@@ -10,7 +10,7 @@ use wire::{number_of, text_of};
 
 /// What a write does; a document stands as the text of the line.
 #[derive(Clone, Copy)]
-pub(crate) enum Change<'a> {
+pub(crate) enum LineWrite<'a> {
     Index(&'a str, Option<Condition>),
     Create(&'a str),
     Delete(Option<Condition>),
@@ -20,7 +20,7 @@ pub(crate) enum Change<'a> {
 #[derive(Clone, Copy)]
 pub(crate) enum Command<'a> {
     Open(u64, &'a str),
-    Write(u64, &'a str, Change<'a>),
+    Write(u64, &'a str, LineWrite<'a>),
     Get(u64, &'a str),
     Refresh(u64),
     Restart(u64),
@@ -73,7 +73,7 @@ fn put_of(rest: &str) -> Option<Command<'_>>
 {
     let (copy, rest) = number_then(rest)?;
     let (id, source) = split_word(rest)?;
-    Some(Command::Write(copy, id, Change::Index(source, None)))
+    Some(Command::Write(copy, id, LineWrite::Index(source, None)))
 }
 
 fn create_of(rest: &str) -> Option<Command<'_>>
@@ -81,7 +81,7 @@ fn create_of(rest: &str) -> Option<Command<'_>>
 {
     let (copy, rest) = number_then(rest)?;
     let (id, source) = split_word(rest)?;
-    Some(Command::Write(copy, id, Change::Create(source)))
+    Some(Command::Write(copy, id, LineWrite::Create(source)))
 }
 
 fn del_of(rest: &str) -> Option<Command<'_>>
@@ -89,7 +89,7 @@ fn del_of(rest: &str) -> Option<Command<'_>>
 {
     let (copy, rest) = number_then(rest)?;
     let id = one_word(rest)?;
-    Some(Command::Write(copy, id, Change::Delete(None)))
+    Some(Command::Write(copy, id, LineWrite::Delete(None)))
 }
 
 fn putif_of(rest: &str) -> Option<Command<'_>>
@@ -98,7 +98,7 @@ fn putif_of(rest: &str) -> Option<Command<'_>>
     let (copy, rest) = number_then(rest)?;
     let (condition, rest) = condition_then(rest)?;
     let (id, source) = split_word(rest)?;
-    Some(Command::Write(copy, id, Change::Index(source, Some(condition))))
+    Some(Command::Write(copy, id, LineWrite::Index(source, Some(condition))))
 }
 
 fn delif_of(rest: &str) -> Option<Command<'_>>
@@ -107,7 +107,7 @@ fn delif_of(rest: &str) -> Option<Command<'_>>
     let (copy, rest) = number_then(rest)?;
     let (condition, rest) = condition_then(rest)?;
     let id = one_word(rest)?;
-    Some(Command::Write(copy, id, Change::Delete(Some(condition))))
+    Some(Command::Write(copy, id, LineWrite::Delete(Some(condition))))
 }
 
 fn get_of(rest: &str) -> Option<Command<'_>>

@@ -4,7 +4,7 @@ ghost use Rattle.std.specs.Io.BufRead.{strip_last};
 ghost use Rattle.std.specs.Io.KnownBytes.{Appends};
 ghost use Rattle.doc.specs.Outcome.{Gives};
 ghost use Rattle.wire.specs.Bytes.{AppendsFront};
-ghost use Rattle.indexd.specs.Held.{copy_in, IsOpen, Keeps};
+ghost use Rattle.indexd.specs.OneCopy.{copy_in, IsOpen, Keeps};
 ghost use Rattle.indexd.specs.Lines.{IsFirstLine};
 ghost use Rattle.indexd.specs.Output as spec;
 ghost use Rattle.indexd.specs.View.{refusal_of, reply_view};

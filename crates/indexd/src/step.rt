@@ -5,12 +5,12 @@ ghost use Rattle.serde_json.specs.View.{view};
 ghost use Rattle.doc.specs.Fault.{fault_of};
 ghost use Rattle.doc.specs.Outcome.{Gives};
 ghost use Rattle.replica.specs.Copy.{begun};
-ghost use Rattle.indexd.specs.Held.{copy_in, IsOpen, Keeps, KeepsCopy};
+ghost use Rattle.indexd.specs.OneCopy.{copy_in, IsOpen, Keeps, KeepsCopy};
 ghost use Rattle.indexd.specs.Reply.{opened};
 ghost use Rattle.indexd.specs.Step as spec;
-ghost use Rattle.indexd.specs.View.{change_view, command_view, refusal_of, reply_view};
+ghost use Rattle.indexd.specs.View.{line_write_view, command_view, refusal_of, reply_view};
 
-use crate::command::{Change, Command};
+use crate::command::{Command, LineWrite};
 use crate::refusal::Refusal;
 use crate::reply::Reply;
 use doc::{Doc, DocFault, DocId, Mapping, Source};
@@ -37,15 +37,15 @@ pub(crate) fn step(
     match index {
         Some(copy) => step_open(alloc, copy, command),
         None => {
-            let copy = step_closed(alloc, command)?;
+            let copy = step_unopened(alloc, command)?;
             *index = Some(copy);
             Ok(Reply::Opened)
         }
     }
 }
 
-fn step_closed(alloc: Global, command: Command<'_>) -> Result<OneCopy, Refusal>
-    ensures gives { Gives refusal_of (λ c. (c.copy, opened)) result (spec.step_closed (command_view command.entry)) }
+fn step_unopened(alloc: Global, command: Command<'_>) -> Result<OneCopy, Refusal>
+    ensures gives { Gives refusal_of (λ c. (c.copy, opened)) result (spec.step_unopened (command_view command.entry)) }
     ensures open { IfOk result (λ c. c.closed ≡ false) }
 {
     match command {
@@ -152,9 +152,14 @@ fn take(alloc: Global, copy: &mut OneCopy, input: Input) -> Result<Reply, Refusa
 }
 
 #[tactic(auto, unfolding(crate::specs::Step::write_at))]
-fn write(alloc: Global, copy: &mut OneCopy, id: &str, change: Change<'_>) -> Result<Reply, Refusal>
+fn write(
+    alloc: Global,
+    copy: &mut OneCopy,
+    id: &str,
+    change: LineWrite<'_>,
+) -> Result<Reply, Refusal>
     requires { copy.old.closed ≡ false }
-    ensures gives { Gives refusal_of (λ r. (copy.new.copy, reply_view r)) result (spec.write_at copy.old.copy id.now (change_view change.entry)) }
+    ensures gives { Gives refusal_of (λ r. (copy.new.copy, reply_view r)) result (spec.write_at copy.old.copy id.now (line_write_view change.entry)) }
     ensures keeps { KeepsCopy result copy.old copy.new }
 {
     let id = DocId::new(alloc, id)?;
@@ -163,19 +168,19 @@ fn write(alloc: Global, copy: &mut OneCopy, id: &str, change: Change<'_>) -> Res
 }
 
 /// What a write does, its document read under the mapping.
-fn kind_of(alloc: Global, mapping: &Mapping, change: Change<'_>) -> Result<OpType, Refusal>
-    ensures { Gives refusal_of (λ k. k) result (spec.kind_of mapping.now (change_view change.entry)) }
+fn kind_of(alloc: Global, mapping: &Mapping, change: LineWrite<'_>) -> Result<OpType, Refusal>
+    ensures { Gives refusal_of (λ k. k) result (spec.kind_of mapping.now (line_write_view change.entry)) }
 {
     match change {
-        Change::Index(text, condition) => {
+        LineWrite::Index(text, condition) => {
             let source = source_of(alloc, mapping, text)?;
             Ok(OpType::Index(source, condition))
         }
-        Change::Create(text) => {
+        LineWrite::Create(text) => {
             let source = source_of(alloc, mapping, text)?;
             Ok(OpType::Create(source))
         }
-        Change::Delete(condition) => Ok(OpType::Delete(condition)),
+        LineWrite::Delete(condition) => Ok(OpType::Delete(condition)),
     }
 }
 

@@ -51,15 +51,15 @@ kind_of change.Delete condition = kind.Delete (option_map condition_of condition
 abbrev pub input_of : Write → Input
 input_of w = input.Write (record { id = w.id; kind = kind_of w.change w.condition })
 
-abbrev pub outcome_of : kept_outcome.Outcome → Outcome
-outcome_of outcome.Created = Created
-outcome_of outcome.Updated = Updated
-outcome_of outcome.Deleted = Deleted
-outcome_of outcome.NotFound = NotFound
+abbrev pub replied_outcome : kept_outcome.Outcome → Outcome
+replied_outcome outcome.Created = Created
+replied_outcome outcome.Updated = Updated
+replied_outcome outcome.Deleted = Deleted
+replied_outcome outcome.NotFound = NotFound
 
 -- the reply that tells a copy's answer; so many copies have to acknowledge a write, and one copy is refreshed
 abbrev pub reply_of : ℕ → Answer → Reply
-reply_of members (Wrote w) = wrote (record { seq = w.seq; term = w.term; version = w.version; outcome = outcome_of w.outcome; copies = members })
+reply_of members (Wrote w) = wrote (record { seq = w.seq; term = w.term; version = w.version; outcome = replied_outcome w.outcome; copies = members })
 reply_of members (Found d) = got (Some (record { seq = d.seq; term = d.term; version = d.version; source = d.source }))
 reply_of members Missing = got None
 reply_of members (Point n) = refreshed 1

@@ -114,7 +114,7 @@ fn reply_of(output: Output) -> Reply
             seq: written.seq,
             term: written.term,
             version: written.version,
-            outcome: outcome_of(written.outcome),
+            outcome: replied_outcome(written.outcome),
             copies,
         }),
         Answer::Found(document) => Reply::Got(Some(Document {
@@ -131,8 +131,8 @@ fn reply_of(output: Output) -> Reply
     }
 }
 
-fn outcome_of(outcome: replica::Outcome) -> Outcome
-    ensures { result ≡ spec.outcome_of outcome }
+fn replied_outcome(outcome: replica::Outcome) -> Outcome
+    ensures { result ≡ spec.replied_outcome outcome }
 {
     match outcome {
         replica::Outcome::Created => Outcome::Created,

@@ -1,6 +1,6 @@
 use Rattle.std.proofs.Common.{◌≡◌, ℕ, List, ap, ◌∙◌, sym}
 use Rattle.std.proofs.lemmas.Result.{err_from_is_err_and}
-use Rattle.indexd.specs.Held.{copy_in}
+use Rattle.indexd.specs.OneCopy.{copy_in}
 use Rattle.indexd.specs.Step.{State}
 use Rattle.indexd.specs.Output.{played}
 use Rattle.indexd.proofs.Played.{goes_on, cut_short}

@@ -1,6 +1,6 @@
 use Rattle.std.proofs.Common.{IfSome}
 use Rattle.indexd.specs.Going.{Going}
-use Rattle.indexd.specs.Held.{copy_in, IsOpen}
+use Rattle.indexd.specs.OneCopy.{copy_in, IsOpen}
 use Rattle.indexd.proofs.playing.replay_telling.Given as goal
 
 -- what is written and what is left make up the output, and the copy's log hasn't failed
