@@ -3,3 +3,4 @@ pub mod KeptLaws
 pub mod ShownLaws
 pub mod IndexLaws
 pub mod DocumentMap
+pub mod FoundLaws

@@ -1,4 +1,4 @@
-//! The documents of one copy: its records, what they make, and what searches show, by plain lists.
+//! The documents of one copy: its records, what they make, and what searches show.
 #![tactic(auto)]
 
 mod documents;

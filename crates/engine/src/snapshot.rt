@@ -1,49 +1,52 @@
 //! What searches show.
-ghost use Rattle.std.specs.Prelude.{◌≡◌, map, take, drop, IfOk};
+ghost use Rattle.std.specs.Prelude.{◌≡◌, ◌<◌, All, Some, map, take, drop, length, slice_get, IfOk};
 ghost use Rattle.std.specs.Arc.{arc_value};
-ghost use Rattle.doc.specs.Document.{all_values};
 ghost use Rattle.query.specs.View.{query_view};
 ghost use Rattle.op.specs.Documents.{documents};
-ghost use Rattle.engine.specs.Answer.{answer_of, found, hit};
+ghost use Rattle.engine.specs.Answer.{answer_of, hit};
 ghost use Rattle.engine.specs.Entry.{entry_view};
-ghost use Rattle.engine.specs.Shown.{shown_view, IsReadUnder, hit_view, hits_view};
+ghost use Rattle.engine.specs.Shown.{shown_view, read_under, hit_view, hits_view};
 
 use crate::documents::{Entry, documents_of};
 use doc::{Doc, DocFault, DocId, Mapping, Source};
 use op::Op;
 use query::{Page, Query};
+use search::find;
+use segment::Segment;
 use std::alloc::{AllocError, Global};
 use std::marker::Model;
 use std::sync::Arc;
 
-/// A document that searches show, read under the mapping.
+/// No segment has as many documents.
+const MAX_DOCUMENTS: usize = 4_294_967_296;
+
+/// A document that searches show.
 #[derive(Drop)]
 pub(crate) struct Shown {
     id: DocId,
     seq: u64,
     term: u64,
     version: u64,
-    doc: Doc,
+    source: Source,
 }
 
-/// The documents that searches show, in byte order of their ids. It never changes.
+/// The documents that searches show, in byte order of their ids, and the segment of their sources. It never changes.
 #[derive(Drop)]
 pub struct Snapshot {
-    mapping: Arc<Mapping, Global>,
     documents: Vec<Shown>,
+    segment: Segment,
 }
 
 impl Model for Snapshot {
-    ghost use Rattle.std.specs.Prelude.{map, All};
-    ghost use Rattle.std.specs.Arc.{arc_value};
+    ghost use Rattle.std.specs.Prelude.{◌≡◌, map};
     ghost use Rattle.engine.specs.Answer.{SnapshotData};
-    ghost use Rattle.engine.specs.Shown.{shown_view, IsReadUnder};
+    ghost use Rattle.engine.specs.Shown.{shown_view};
 
     ghost Value = { SnapshotData };
 
-    ghost view = { λ s. record { mapping = arc_value s.mapping; documents = map shown_view s.documents.items } };
+    ghost view = { λ s. record { mapping = s.segment.mapping; documents = map shown_view s.documents.items } };
 
-    ghost invariant = { λ s. All (IsReadUnder (arc_value s.mapping)) s.documents.items };
+    ghost invariant = { λ s. s.segment.sources ≡ map (λ d. d.source) s.documents.items };
 }
 
 /// A document that a search found.
@@ -69,43 +72,39 @@ impl Snapshot {
     ) -> Result<Snapshot, AllocError>
         ensures { IfOk result (λ s. s ≡ record { mapping = arc_value mapping; documents = documents operations.now }) }
     {
-        let mut shown = Vec::new(alloc);
-        for entry in &documents_of(alloc, operations)? {
-            shown.push(shown_of(alloc, &mapping, entry)?)?;
-        }
-        Ok(Snapshot {
-            mapping,
-            documents: shown,
-        })
+        let entries = documents_of(alloc, operations)?;
+        let documents = shown_of(alloc, &entries)?;
+        let segment = segment_of(alloc, &mapping, &entries)?;
+        Ok(Snapshot { documents, segment })
     }
 
     /// The documents that the query means, their number and those of the page.
     pub fn search(&self, alloc: Global, query: &Query, page: Page) -> Result<Hits, AllocError>
         ensures { IfOk result (λ h. hits_view h ≡ answer_of self.now (query_view query.now) page) }
     {
-        let found = self.matching(alloc, query)?;
-        let hits = hits_of(alloc, on_page(&found, page))?;
+        let found = find(alloc, &self.segment, query)?;
+        let hits = self.hits_of(alloc, on_page(&found, page))?;
         let total = found.len() as u64;
         Ok(Hits { total, hits })
     }
 
-    /// The documents that the query means.
-    fn matching(&self, alloc: Global, query: &Query) -> Result<Vec<&Shown>, AllocError>
-        ensures { IfOk result (λ v. map (λ s. shown_view s.now) v.items ≡ found self.now (query_view query.now)) }
+    /// The documents at some places, each with its id and its text.
+    fn hits_of(&self, alloc: Global, places: &[u32]) -> Result<Vec<Hit>, AllocError>
+        requires { All (λ p. p < length self.now.documents) places.now }
+        ensures { IfOk result (λ v. map (λ h. Some (hit_view h)) v.items ≡ map (λ p. slice_get (map hit self.now.documents) p) places.now) }
     {
-        let mut found = Vec::new(alloc);
-        for shown in &self.documents {
-            if query.matches(alloc, &self.mapping, &shown.doc)? {
-                found.push(shown)?;
-            }
+        let mut hits = Vec::new(alloc);
+        for place in places {
+            let shown = &self.documents[*place as usize];
+            hits.push(hit_of(alloc, shown)?)?;
         }
-        Ok(found)
+        Ok(hits)
     }
 }
 
 /// The part of what was found that the page asks for.
-fn on_page<'a>(found: &'a [&'a Shown], page: Page) -> &'a [&'a Shown]
-    ensures { result.now ≡ take page.size (drop page.from found.entry.now) }
+fn on_page(found: &[u32], page: Page) -> &[u32]
+    ensures { result.now ≡ take page.size (drop page.from found.now) }
 {
     let from = found.len().min(page.from() as usize);
     let rest = &found[from..];
@@ -113,36 +112,64 @@ fn on_page<'a>(found: &'a [&'a Shown], page: Page) -> &'a [&'a Shown]
     &rest[..size]
 }
 
-/// Each with its id and its text.
-fn hits_of(alloc: Global, found: &[&Shown]) -> Result<Vec<Hit>, AllocError>
-    ensures { IfOk result (λ v. map hit_view v.items ≡ map (λ s. hit (shown_view s.now)) found.entry.now) }
+/// A document with its id and its text.
+fn hit_of(alloc: Global, shown: &Shown) -> Result<Hit, AllocError>
+    ensures { IfOk result (λ h. hit_view h ≡ hit (shown_view shown.now)) }
 {
-    let mut hits = Vec::new(alloc);
-    for shown in found {
-        let id = shown.id.copy(alloc)?;
-        let source = shown.doc.text().copy(alloc)?;
-        hits.push(Hit { id, source })?;
-    }
-    Ok(hits)
+    Ok(Hit {
+        id: shown.id.copy(alloc)?,
+        source: shown.source.copy(alloc)?,
+    })
 }
 
-/// The document of an entry, read under the mapping.
-fn shown_of(alloc: Global, mapping: &Mapping, entry: &Entry<'_>) -> Result<Shown, AllocError>
-    ensures document { IfOk result (λ s. shown_view s ≡ entry_view entry.now) }
-    ensures values { IfOk result (IsReadUnder mapping.now) }
+/// The documents of entries.
+fn shown_of(alloc: Global, entries: &[Entry<'_>]) -> Result<Vec<Shown>, AllocError>
+    ensures documents { IfOk result (λ v. map shown_view v.items ≡ map entry_view entries.entry.now) }
+    ensures sources { IfOk result (λ v. map (λ s. s.source) v.items ≡ map (λ e. e.source.now) entries.entry.now) }
 {
-    Ok(Shown {
-        id: entry.id.copy(alloc)?,
-        seq: entry.seq,
-        term: entry.term,
-        version: entry.version,
-        doc: doc_of(alloc, mapping, entry.source)?,
-    })
+    let mut documents = Vec::new(alloc);
+    for entry in entries {
+        documents.push(Shown {
+            id: entry.id.copy(alloc)?,
+            seq: entry.seq,
+            term: entry.term,
+            version: entry.version,
+            source: entry.source.copy(alloc)?,
+        })?;
+    }
+    Ok(documents)
+}
+
+/// The segment of the sources of entries. Of 2^32 or more there is none.
+fn segment_of(
+    alloc: Global,
+    mapping: &Arc<Mapping, Global>,
+    entries: &[Entry<'_>],
+) -> Result<Segment, AllocError>
+    ensures { IfOk result (λ s. s ≡ record { mapping = arc_value mapping.now; sources = map (λ e. e.source.now) entries.entry.now }) }
+{
+    let docs = docs_of(alloc, mapping, entries)?;
+    if docs.len() >= MAX_DOCUMENTS {
+        return Err(AllocError);
+    }
+    let segment = Segment::build(alloc, mapping, &docs)?;
+    Ok(segment)
+}
+
+/// The documents of entries, read under the mapping.
+fn docs_of(alloc: Global, mapping: &Mapping, entries: &[Entry<'_>]) -> Result<Vec<Doc>, AllocError>
+    ensures { IfOk result (λ v. v.items ≡ map (λ e. read_under mapping.now e.source.now) entries.entry.now) }
+{
+    let mut docs = Vec::new(alloc);
+    for entry in entries {
+        docs.push(doc_of(alloc, mapping, entry.source)?)?;
+    }
+    Ok(docs)
 }
 
 /// The document of a text that is kept: with its values where it fits the mapping, and else without.
 fn doc_of(alloc: Global, mapping: &Mapping, source: &Source) -> Result<Doc, AllocError>
-    ensures { IfOk result (λ d. d ≡ record { source = source.now; values = all_values mapping.now source.now }) }
+    ensures { IfOk result (λ d. d ≡ read_under mapping.now source.now) }
 {
     match Doc::read(alloc, mapping, source.as_str().as_bytes()) {
         Ok(doc) => Ok(doc),

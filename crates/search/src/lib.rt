@@ -2,6 +2,8 @@
 #![tactic(auto)]
 
 mod counts;
+pub mod finding;
 pub mod selecting;
 
+pub use finding::find;
 pub use selecting::select;
