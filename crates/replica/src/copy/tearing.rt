@@ -98,9 +98,9 @@ impl<D: LogDevice> Copy<D> {
         ensures stays { OnErr result (self.new.copy ≡ self.old.copy) }
         ensures open { self.new.closed ≡ false }
     {
-        let Planned { kept, .. } = planned;
+        let Planned { next_record, .. } = planned;
         let mut records = records;
-        records.push(kept)?;
+        records.push(next_record)?;
         let (reopened, _) = self.state.stage_reopen(alloc, records)?;
         match self.log.append(frame) {
             Ok(()) => {
