@@ -7,5 +7,5 @@ pub mod Step
 pub mod Output
 pub mod Going
 pub mod View
-pub mod OneCopy
+pub mod Refused
 pub mod IndexName

@@ -1,7 +1,10 @@
 -- What a line of a script answers, and how it is printed.
-use Rattle.std.specs.Prelude.{ℕ, List, [], ◌∷◌, ◌++◌, codes, decimal}
+use Rattle.std.specs.Prelude.{ℕ, suc, Bool, true, false, List, [], ◌∷◌, ◌++◌, Option, Some, None, codes, decimal}
 use Rattle.doc.specs.Id.{Id}
 use Rattle.op.specs.declared.operation.Op.{Op}
+use Rattle.op.specs.declared.message.Content.{Content}
+use Rattle.op.specs.declared.message.Content.TheVariants.{Op as Operation, Ack, Promoted, Resync, Track, Recover, Synced, Fail, Removed}
+use Rattle.op.specs.declared.message.Msg.{Msg}
 use Rattle.engine.specs.Answer as engine
 use Rattle.replica.specs.declared.output.Answer.{Answer}
 use Rattle.replica.specs.declared.output.Answer.TheVariants.{Wrote, Taken, Stale, Repeated, Reported, Found, Missing, Point}
@@ -10,10 +13,17 @@ use Rattle.replica.specs.declared.output.Outcome.TheVariants.{Created, Updated, 
 use Rattle.replica.specs.declared.output.Document.{Document}
 use Rattle.replica.specs.declared.output.Written.{Written}
 
+-- messages are numbered from one past those that were sent before
 pub data Reply : Type 0 where
   opened : Reply
-  -- what the copy answers, and the operations that it acknowledges
-  stepped : Answer → (acknowledged : List Op) → Reply
+  -- what a copy answers, the messages that it sends, and the operations that it acknowledges
+  answered : Answer → (before : ℕ) → (sent : List Msg) → (acknowledged : List Op) → Reply
+  -- the id that the master gives, and its message
+  decided : (given : Option ℕ) → (before : ℕ) → (sent : Option Msg) → Reply
+  -- whether nothing is new to the master, and its message
+  delivered : (repeated : Bool) → (before : ℕ) → (sent : Option Msg) → Reply
+  -- the point of a copy whose step was torn
+  torn : (point : ℕ) → Reply
   hits : engine.Answer → Reply
 
 abbrev pub outcome_name : Outcome → List ℕ
@@ -54,10 +64,47 @@ abbrev pub ack_lines : List Op → List ℕ
 ack_lines [] = []
 ack_lines (o ∷ os) = ack_line o ++ ack_lines os
 
--- the lines of an answer: the answer itself, and then its acknowledgements
+abbrev pub kind_name : Content → List ℕ
+kind_name (Operation g o) = codes "op"
+kind_name (Ack seq local) = codes "ack"
+kind_name (Promoted set) = codes "promoted"
+kind_name (Resync g tail) = codes "resync"
+kind_name (Track r) = codes "track"
+kind_name (Recover all) = codes "recover"
+kind_name (Synced r) = codes "synced"
+kind_name (Fail r) = codes "fail"
+kind_name (Removed r) = codes "removed"
+
+-- the line of a message with its number
+abbrev pub msg_line : ℕ → Msg → List ℕ
+msg_line number m = codes "msg " ++ (decimal number ++ (codes " " ++ (kind_name m.content ++ (codes " " ++ (decimal m.from ++ (codes " " ++ (decimal m.to ++ codes "\n")))))))
+
+-- the lines of messages, where so many were sent before them
+abbrev pub msg_lines : ℕ → List Msg → List ℕ
+msg_lines before [] = []
+msg_lines before (m ∷ ms) = msg_line (suc before) m ++ msg_lines (suc before) ms
+
+abbrev pub sent_lines : ℕ → Option Msg → List ℕ
+sent_lines before None = []
+sent_lines before (Some m) = msg_line (suc before) m
+
+-- the line of the id that the master gives
+abbrev pub given_line : Option ℕ → List ℕ
+given_line None = []
+given_line (Some id) = codes "copy " ++ (decimal id ++ codes "\n")
+
+-- the line of a delivery to the master
+abbrev pub delivered_line : Bool → List ℕ
+delivered_line true = codes "repeated\n"
+delivered_line false = codes "taken\n"
+
+-- the lines of an answer: the answer itself, then its messages, then its acknowledgements
 abbrev pub printed : Reply → List ℕ
 printed opened = []
-printed (stepped a os) = answer_line a ++ ack_lines os
+printed (answered a before ms os) = answer_line a ++ (msg_lines before ms ++ ack_lines os)
+printed (decided given before m) = given_line given ++ sent_lines before m
+printed (delivered repeated before m) = delivered_line repeated ++ sent_lines before m
+printed (torn n) = codes "torn\npoint " ++ (decimal n ++ codes "\n")
 printed (hits a) = codes "hits " ++ (decimal a.total ++ (ids_text a.hits ++ codes "\n"))
 
 -- the line of a refusal

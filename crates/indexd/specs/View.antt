@@ -5,14 +5,15 @@ use Rattle.doc.specs.Fault as doc
 use Rattle.query.specs.Fault as query
 use Rattle.engine.specs.Shown.{hits_view}
 use Rattle.replica.specs.Fault as replica
+use Rattle.master.specs.Fault as master
 use Rattle.indexd.specs.declared.command.LineWrite.{LineWrite}
 use Rattle.indexd.specs.declared.command.LineWrite.TheVariants.{Index, Create, Delete}
 use Rattle.indexd.specs.declared.command.Command.{Command}
-use Rattle.indexd.specs.declared.command.Command.TheVariants.{Open, Write, Get, Refresh, Restart, Search}
+use Rattle.indexd.specs.declared.command.Command.TheVariants.{Open, Write, Get, Refresh, Restart, Search, Deliver, Promote, Allocate, Fail, TornDelivery, TornPut}
 use Rattle.indexd.specs.declared.refusal.Refusal.{Refusal}
-use Rattle.indexd.specs.declared.refusal.Refusal.TheVariants.{BadLine, NotOpen, AlreadyOpen, BadCount, NoSuchCopy, Doc, Query, Copy, NoMemory}
+use Rattle.indexd.specs.declared.refusal.Refusal.TheVariants.{BadLine, NotOpen, AlreadyOpen, BadCount, NoSuchCopy, NoSuchMessage, Doc, Query, Copy, Master, NoMemory}
 use Rattle.indexd.specs.declared.reply.Reply.{Reply}
-use Rattle.indexd.specs.declared.reply.Reply.TheVariants.{Opened, Stepped, Hits}
+use Rattle.indexd.specs.declared.reply.Reply.TheVariants.{Opened, Answered, Decided, Delivered, Torn, Hits}
 use Rattle.indexd.specs.Command as command
 use Rattle.indexd.specs.Refusal as refusal
 use Rattle.indexd.specs.Reply as reply
@@ -29,6 +30,12 @@ command_view (Get copy id) = command.get copy id.now
 command_view (Refresh copy) = command.refresh copy
 command_view (Restart copy) = command.restart copy
 command_view (Search copy body) = command.search copy body.now
+command_view (Deliver message) = command.deliver message
+command_view (Promote copy) = command.promote copy
+command_view Allocate = command.allocate
+command_view (Fail copy) = command.fail copy
+command_view (TornDelivery message kept) = command.torn_delivery message kept
+command_view (TornPut copy kept id source) = command.torn_put copy kept id.now source.now
 
 -- nothing for want of memory
 abbrev pub refusal_of : Refusal → Option refusal.Refusal
@@ -37,12 +44,17 @@ refusal_of NotOpen = Some refusal.not_open
 refusal_of AlreadyOpen = Some refusal.already_open
 refusal_of BadCount = Some refusal.bad_count
 refusal_of NoSuchCopy = Some refusal.no_such_copy
+refusal_of NoSuchMessage = Some refusal.no_such_message
 refusal_of (Doc f) = option_map refusal.of_doc (doc.fault_of f)
 refusal_of (Query f) = option_map refusal.of_query (query.fault_of f)
 refusal_of (Copy f) = option_map refusal.of_copy (replica.fault_of f)
+refusal_of (Master f) = option_map refusal.of_master (master.fault_of f)
 refusal_of NoMemory = None
 
 abbrev pub reply_view : Reply → reply.Reply
 reply_view Opened = reply.opened
-reply_view (Stepped output) = reply.stepped output.answer output.acknowledged
+reply_view (Answered a before sent acknowledged) = reply.answered a before sent acknowledged
+reply_view (Decided given before sent) = reply.decided given before sent
+reply_view (Delivered repeated before sent) = reply.delivered repeated before sent
+reply_view (Torn point) = reply.torn point
 reply_view (Hits h) = reply.hits (hits_view h)

@@ -16,7 +16,7 @@ pub(crate) enum LineWrite<'a> {
     Delete(Option<Condition>),
 }
 
-/// A line of a script: copies by their number, the texts as they stand in the line.
+/// A line of a script: copies and messages by their numbers, the texts as they stand in the line.
 #[derive(Clone, Copy)]
 pub(crate) enum Command<'a> {
     Open(u64, &'a str),
@@ -25,6 +25,14 @@ pub(crate) enum Command<'a> {
     Refresh(u64),
     Restart(u64),
     Search(u64, &'a str),
+    Deliver(u64),
+    Promote(u64),
+    Allocate,
+    Fail(u64),
+    /// A delivery whose append is cut, with its record kept or not.
+    TornDelivery(u64, bool),
+    /// A put whose append is cut.
+    TornPut(u64, bool, &'a str, &'a str),
 }
 
 /// The command of a line, none where the line can't be read.
@@ -32,8 +40,20 @@ pub(crate) fn command_of(line: &[u8]) -> Option<Command<'_>>
     ensures { option_map command_view result ≡ spec.command_of line.now }
 {
     let text = text_of(line)?;
-    let (word, rest) = split_word(text)?;
-    command_named(word, rest)
+    match split_word(text) {
+        Some((word, rest)) => command_named(word, rest),
+        None => command_alone(text),
+    }
+}
+
+/// The command of a line that is one word.
+fn command_alone(word: &str) -> Option<Command<'_>>
+    ensures { option_map command_view result ≡ spec.command_alone word.now }
+{
+    match word {
+        "allocate" => Some(Command::Allocate),
+        _ => None,
+    }
 }
 
 /// Whether a line is empty or a comment.
@@ -57,6 +77,11 @@ fn command_named<'a>(word: &str, rest: &'a str) -> Option<Command<'a>>
         "refresh" => refresh_of(rest),
         "restart" => restart_of(rest),
         "search" => search_of(rest),
+        "deliver" => deliver_of(rest),
+        "promote" => promote_of(rest),
+        "fail" => fail_of(rest),
+        "torn" => torn_of(rest),
+        "tornput" => tornput_of(rest),
         _ => None,
     }
 }
@@ -137,6 +162,64 @@ fn search_of(rest: &str) -> Option<Command<'_>>
 {
     let (copy, body) = number_then(rest)?;
     Some(Command::Search(copy, body))
+}
+
+fn deliver_of(rest: &str) -> Option<Command<'_>>
+    ensures { option_map command_view result ≡ spec.deliver_of rest.now }
+{
+    let message = number_of(rest)?;
+    Some(Command::Deliver(message))
+}
+
+fn promote_of(rest: &str) -> Option<Command<'_>>
+    ensures { option_map command_view result ≡ spec.promote_of rest.now }
+{
+    let copy = number_of(rest)?;
+    Some(Command::Promote(copy))
+}
+
+fn fail_of(rest: &str) -> Option<Command<'_>>
+    ensures { option_map command_view result ≡ spec.fail_of rest.now }
+{
+    let copy = number_of(rest)?;
+    Some(Command::Fail(copy))
+}
+
+fn torn_of(rest: &str) -> Option<Command<'_>>
+    ensures { option_map command_view result ≡ spec.torn_of rest.now }
+{
+    let (message, rest) = number_then(rest)?;
+    let is_kept = kept_of(rest)?;
+    Some(Command::TornDelivery(message, is_kept))
+}
+
+fn tornput_of(rest: &str) -> Option<Command<'_>>
+    ensures { option_map command_view result ≡ spec.tornput_of rest.now }
+{
+    let (copy, rest) = number_then(rest)?;
+    let (is_kept, rest) = kept_then(rest)?;
+    let (id, source) = split_word(rest)?;
+    Some(Command::TornPut(copy, is_kept, id, source))
+}
+
+/// Whether a torn step's record is kept.
+fn kept_of(word: &str) -> Option<bool>
+    ensures { result ≡ spec.kept_of word.now }
+{
+    match word {
+        "1" => Some(true),
+        "0" => Some(false),
+        _ => None,
+    }
+}
+
+/// That word, and the text behind the space after it.
+fn kept_then(text: &str) -> Option<(bool, &str)>
+    ensures { option_map (λ x. (x.0, x.1.now)) result ≡ spec.kept_then text.now }
+{
+    let (word, rest) = split_word(text)?;
+    let is_kept = kept_of(word)?;
+    Some((is_kept, rest))
 }
 
 /// A number, and the text behind the space after it.

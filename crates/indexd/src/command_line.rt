@@ -6,16 +6,27 @@ use std::alloc::{AllocError, Global};
 
 /// What stands behind the options in `--help`.
 const LINES: &str = "Lines of a script (words parted by one space; JSON is the rest of the line):
-  open 1 MAPPING                  begins an index; prints nothing
-  put 1 ID JSON                   wrote SEQ TERM VERSION RESULT, then ack SEQ TERM
-  create 1 ID JSON                the same, for a document that isn't there
-  del 1 ID                        the same with deleted or not_found
-  putif 1 SEQ TERM ID JSON        the same, if the last change has both numbers
-  delif 1 SEQ TERM ID             the same, if the last change has both numbers
-  get 1 ID                        found SEQ TERM VERSION SOURCE, or missing
-  refresh 1                       point N: searches show the first N writes
-  restart 1                       point N: the copy is opened again
-  search 1 JSON                   hits TOTAL ID ..
+  open N MAPPING                  begins an index of N copies, 1 to 5; prints nothing
+  put C ID JSON                   wrote SEQ TERM VERSION RESULT
+  create C ID JSON                the same, for a document that isn't there
+  del C ID                        the same with deleted or not_found
+  putif C SEQ TERM ID JSON        the same, if the last change has both numbers
+  delif C SEQ TERM ID             the same, if the last change has both numbers
+  get C ID                        found SEQ TERM VERSION SOURCE, or missing
+  refresh C                       point N: searches show the first N writes
+  restart C                       point N: the copy is opened again
+  search C JSON                   hits TOTAL ID ..
+  deliver K                       taken, stale or repeated: message K arrives
+  promote C                       C is to be the primary of a new term
+  allocate                        copy R: a new copy that joins
+  fail R                          the primary reports R, which is to leave
+  torn K 0, torn K 1              torn, point N: K arrives, and its append is cut
+  tornput C 0 ID JSON             torn, point N: a put whose append is cut (0:
+                                  its record is lost; 1: it is kept)
+C is a copy: 1 takes the writes at first. Behind what a line prints stand the
+messages that it sends, msg K KIND FROM TO (0 is the master), and the writes
+that it confirms, ack SEQ TERM: with one copy at once, with more copies when
+each has it.
 Empty lines and lines that begin with # are passed over. A line that can't be
 done prints refused NAME and changes nothing.
 

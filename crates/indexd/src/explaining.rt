@@ -2,6 +2,7 @@
 
 use crate::refusal::Refusal;
 use doc::{DocFault, Kind, Mapping};
+use master::MasterFault;
 use query::QueryFault;
 use replica::CopyFault;
 use serde_json::Value;
@@ -12,8 +13,8 @@ use std::str;
 const SHOWN: usize = 60;
 
 /// The lines of a script, by their first word.
-const FORMS: [(&str, &str); 10] = [
-    ("open", "open 1 MAPPING"),
+const FORMS: [(&str, &str); 16] = [
+    ("open", "open COPIES MAPPING"),
     ("put", "put COPY ID JSON"),
     ("create", "create COPY ID JSON"),
     ("del", "del COPY ID"),
@@ -23,6 +24,15 @@ const FORMS: [(&str, &str); 10] = [
     ("refresh", "refresh COPY"),
     ("restart", "restart COPY"),
     ("search", "search COPY JSON"),
+    ("deliver", "deliver MESSAGE"),
+    ("promote", "promote COPY"),
+    ("allocate", "allocate"),
+    ("fail", "fail COPY"),
+    ("torn", "torn MESSAGE 0` or `torn MESSAGE 1"),
+    (
+        "tornput",
+        "tornput COPY 0 ID JSON` or `tornput COPY 1 ID JSON",
+    ),
 ];
 
 /// What is wrong with a line that was refused.
@@ -36,11 +46,13 @@ pub(crate) fn reason(
         Refusal::BadLine => bad_line(alloc, line),
         Refusal::NotOpen => text(alloc, "no index is open yet; `open 1 MAPPING` comes first"),
         Refusal::AlreadyOpen => text(alloc, "an index is open already"),
-        Refusal::BadCount => text(alloc, "an index has one copy here: `open 1 MAPPING`"),
+        Refusal::BadCount => text(alloc, "an index begins with 1 to 5 copies"),
         Refusal::NoSuchCopy => text(alloc, "there is no such copy"),
+        Refusal::NoSuchMessage => text(alloc, "no message has that number yet"),
         Refusal::Doc(fault) => doc_reason(alloc, fault, line, mapping),
         Refusal::Query(fault) => query_reason(alloc, fault, line),
         Refusal::Copy(fault) => copy_reason(alloc, fault, line),
+        Refusal::Master(fault) => master_reason(alloc, fault, line),
         Refusal::NoMemory => text(alloc, "out of memory"),
     }
 }
@@ -82,7 +94,7 @@ fn bad_line(alloc: Global, line: &[u8]) -> Result<String, AllocError> {
         None => {
             let word = cut(alloc, word)?;
             format!(in alloc;
-                "{word:?} is no word of a script; a line begins with open, put, create, del, putif, delif, get, refresh, restart or search"
+                "{word:?} is no word of a script; a line begins with open, put, create, del, putif, delif, get, refresh, restart, search, deliver, promote, allocate, fail, torn or tornput"
             )
         }
     }
@@ -193,8 +205,35 @@ fn copy_reason(alloc: Global, fault: &CopyFault, line: &[u8]) -> Result<String, 
         }
         CopyFault::NotPrimary => text(
             alloc,
-            "the copy isn't the primary; after a restart it takes no writes",
+            "the copy isn't the primary; a copy that was restarted has to be promoted again",
         ),
+        CopyFault::WindowFull => text(
+            alloc,
+            "1,024 writes wait for the acknowledgements of other copies; `deliver` their messages first",
+        ),
+        CopyFault::Mismatch => if line.starts_with(b"fail") {
+            text(
+                alloc,
+                "the primary doesn't wait for that copy; it reports another copy that it waits for",
+            )
+        } else {
+            format!(in alloc; "{fault}")
+        },
+        CopyFault::WrongAddress => text(alloc, "the message is to the master, which tears nothing"),
+        _ => format!(in alloc; "{fault}"),
+    }
+}
+
+fn master_reason(alloc: Global, fault: &MasterFault, line: &[u8]) -> Result<String, AllocError> {
+    match fault {
+        MasterFault::Full => if line.starts_with(b"allocate") {
+            text(
+                alloc,
+                "five copies aren't gone yet, and an index has no more",
+            )
+        } else {
+            format!(in alloc; "{fault}")
+        },
         _ => format!(in alloc; "{fault}"),
     }
 }

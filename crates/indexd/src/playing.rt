@@ -4,7 +4,6 @@ ghost use Rattle.std.specs.Io.BufRead.{strip_last};
 ghost use Rattle.std.specs.Io.KnownBytes.{Appends};
 ghost use Rattle.doc.specs.Outcome.{Gives};
 ghost use Rattle.wire.specs.Bytes.{AppendsFront};
-ghost use Rattle.indexd.specs.OneCopy.{copy_in, IsOpen, Keeps};
 ghost use Rattle.indexd.specs.Lines.{IsFirstLine};
 ghost use Rattle.indexd.specs.Output as spec;
 ghost use Rattle.indexd.specs.View.{refusal_of, reply_view};
@@ -13,14 +12,15 @@ use crate::command::{command_of, is_passed_over};
 use crate::fault::ReplayFault;
 use crate::refusal::Refusal;
 use crate::reply::{Reply, refused};
-use crate::step::{OneCopy, step};
+use crate::step::step;
 use crate::telling::{Listener, Silent};
 use crate::writing::{Flushing, write_line};
 use doc::Mapping;
 use std::alloc::{AllocError, Global};
 use std::io::{BufRead, ErrorKind, Write};
+use world::World;
 
-/// Plays a script over one copy of an index, whose log is in memory. What is written is the script's output,
+/// Plays a script over an index, whose copies have their logs in memory. What is written is the script's output,
 /// and after a fault a beginning of it.
 pub fn replay<R: BufRead, W: Write>(
     alloc: Global,
@@ -48,7 +48,7 @@ pub(crate) fn replay_telling<R: BufRead, W: Write, L: Listener>(
     ensures err { OnErr result (IfSome (R.remaining reader.old) (λ script.
         AppendsFront (W.contents writer.old) (W.contents writer.new) (spec.lines script))) }
 {
-    let mut index: Option<OneCopy> = None;
+    let mut index: Option<World> = None;
     for _ in 0..u64::MAX {
         let Some(line) = read_line(alloc, reader)? else {
             return Ok(());
@@ -61,9 +61,9 @@ pub(crate) fn replay_telling<R: BufRead, W: Write, L: Listener>(
     Err(ReplayFault::Read(ErrorKind::Other.into()))
 }
 
-fn mapping_of(index: &Option<OneCopy>) -> Option<&Mapping> {
+fn mapping_of(index: &Option<World>) -> Option<&Mapping> {
     match index {
-        Some(copy) => Some(copy.mapping()),
+        Some(world) => Some(world.mapping()),
         None => None,
     }
 }
@@ -72,13 +72,11 @@ fn mapping_of(index: &Option<OneCopy>) -> Option<&Mapping> {
 #[tactic(auto, unfolding(crate::specs::Output::played))]
 fn played(
     alloc: Global,
-    index: &mut Option<OneCopy>,
+    index: &mut Option<World>,
     line: &[u8],
     refused_for: &mut Option<Refusal>,
 ) -> Result<String, AllocError>
-    requires { IsOpen index.old }
-    ensures text { IfOk result (λ text. spec.played (copy_in index.old) line.now ≡ (copy_in index.new, string_bytes text)) }
-    ensures unfailed { OnOk result (IsOpen index.new) }
+    ensures { IfOk result (λ text. spec.played index.old line.now ≡ (index.new, string_bytes text)) }
 {
     if is_passed_over(line) {
         return Ok(String::new(alloc));
@@ -95,10 +93,9 @@ fn played(
     }
 }
 
-fn line_step(alloc: Global, index: &mut Option<OneCopy>, line: &[u8]) -> Result<Reply, Refusal>
-    requires { IsOpen index.old }
-    ensures gives { Gives refusal_of (λ r. (copy_in index.new, reply_view r)) result (spec.line_step (copy_in index.old) line.now) }
-    ensures keeps { Keeps result index.old index.new }
+fn line_step(alloc: Global, index: &mut Option<World>, line: &[u8]) -> Result<Reply, Refusal>
+    ensures gives { Gives refusal_of (λ r. (index.new, reply_view r)) result (spec.line_step index.old line.now) }
+    ensures stays { OnErr result (index.new ≡ index.old) }
 {
     match command_of(line) {
         Some(command) => step(alloc, index, command),

@@ -4,6 +4,7 @@ ghost use Rattle.indexd.specs.Refusal.{name_of};
 ghost use Rattle.indexd.specs.View.{refusal_of};
 
 use doc::DocFault;
+use master::MasterFault;
 use query::QueryFault;
 use replica::CopyFault;
 use std::alloc::{AllocError, AllocFailed};
@@ -16,9 +17,11 @@ pub(crate) enum Refusal {
     AlreadyOpen,
     BadCount,
     NoSuchCopy,
+    NoSuchMessage,
     Doc(DocFault),
     Query(QueryFault),
     Copy(CopyFault),
+    Master(MasterFault),
     NoMemory,
 }
 
@@ -33,9 +36,11 @@ impl Refusal {
             Refusal::AlreadyOpen => "AlreadyOpen",
             Refusal::BadCount => "BadCount",
             Refusal::NoSuchCopy => "NoSuchCopy",
+            Refusal::NoSuchMessage => "NoSuchMessage",
             Refusal::Doc(fault) => fault.name(),
             Refusal::Query(fault) => fault.name(),
             Refusal::Copy(fault) => fault.name(),
+            Refusal::Master(fault) => fault.name(),
             Refusal::NoMemory => "NoMemory",
         }
     }
@@ -50,6 +55,7 @@ impl Refusal {
                 | Refusal::Doc(DocFault::NoMemory)
                 | Refusal::Query(QueryFault::NoMemory)
                 | Refusal::Copy(CopyFault::NoMemory | CopyFault::Log(_))
+                | Refusal::Master(MasterFault::NoMemory | MasterFault::Log(_))
         )
     }
 }
@@ -73,17 +79,6 @@ impl From<QueryFault> for Refusal {
 
     fn from(fault: QueryFault) -> Refusal {
         Refusal::Query(fault)
-    }
-}
-
-impl From<CopyFault> for Refusal {
-    ghost use Rattle.std.specs.Prelude.{◌≡◌};
-    ghost use Rattle.indexd.specs.declared.refusal.Refusal.TheVariants.{Copy};
-
-    ghost from_gives = { λ f e. e ≡ Copy f };
-
-    fn from(fault: CopyFault) -> Refusal {
-        Refusal::Copy(fault)
     }
 }
 

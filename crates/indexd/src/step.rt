@@ -1,11 +1,11 @@
-//! What a command does to the one copy of an index.
-ghost use Rattle.std.specs.Prelude.{◌≡◌, false, None, IfOk, IfErr};
+//! What a command does to the copies of an index.
+ghost use Rattle.std.specs.Prelude.{◌≡◌, ◌≤◌, OnErr};
 ghost use Rattle.serde_json.specs.Read.{read};
 ghost use Rattle.serde_json.specs.View.{view};
 ghost use Rattle.doc.specs.Fault.{fault_of};
 ghost use Rattle.doc.specs.Outcome.{Gives};
-ghost use Rattle.replica.specs.Copy.{begun};
-ghost use Rattle.indexd.specs.OneCopy.{copy_in, IsOpen, Keeps, KeepsCopy};
+ghost use Rattle.world.specs.World.{new_world};
+ghost use Rattle.indexd.specs.Refused.{IsRefused};
 ghost use Rattle.indexd.specs.Reply.{opened};
 ghost use Rattle.indexd.specs.Step as spec;
 ghost use Rattle.indexd.specs.View.{line_write_view, command_view, refusal_of, reply_view};
@@ -15,38 +15,32 @@ use crate::refusal::Refusal;
 use crate::reply::Reply;
 use doc::{Doc, DocFault, DocId, Mapping, Source};
 use query::{QueryFault, SearchBody};
-use replica::{Copy, CopyFault, Input, OpType, Write};
+use replica::{CopyFault, OpType, Write};
 use serde_json::Value;
 use std::alloc::Global;
-use translog::MemDevice;
+use world::{Event, EventAnswer, World};
 
-/// The copy of an index that a script plays on; its log is in memory.
-pub(crate) type OneCopy = Copy<MemDevice>;
-
-/// Does a command. A refusal that is printed leaves all as it was.
+/// Does a command. A refusal leaves all as it was.
 pub(crate) fn step(
     alloc: Global,
-    index: &mut Option<OneCopy>,
+    index: &mut Option<World>,
     command: Command<'_>,
 ) -> Result<Reply, Refusal>
-    requires { IsOpen index.old }
-    ensures gives { Gives refusal_of (λ r. (copy_in index.new, reply_view r)) result
-        (spec.step (copy_in index.old) (command_view command.entry)) }
-    ensures keeps { Keeps result index.old index.new }
+    ensures gives { Gives refusal_of (λ r. (index.new, reply_view r)) result (spec.step index.old (command_view command.entry)) }
+    ensures stays { OnErr result (index.new ≡ index.old) }
 {
     match index {
-        Some(copy) => step_open(alloc, copy, command),
+        Some(world) => step_open(alloc, world, command),
         None => {
-            let copy = step_unopened(alloc, command)?;
-            *index = Some(copy);
+            let world = step_unopened(alloc, command)?;
+            *index = Some(world);
             Ok(Reply::Opened)
         }
     }
 }
 
-fn step_unopened(alloc: Global, command: Command<'_>) -> Result<OneCopy, Refusal>
-    ensures gives { Gives refusal_of (λ c. (c.copy, opened)) result (spec.step_unopened (command_view command.entry)) }
-    ensures open { IfOk result (λ c. c.closed ≡ false) }
+fn step_unopened(alloc: Global, command: Command<'_>) -> Result<World, Refusal>
+    ensures { Gives refusal_of (λ w. (w, opened)) result (spec.step_unopened (command_view command.entry)) }
 {
     match command {
         Command::Open(copies, mapping) => open(alloc, copies, mapping),
@@ -54,37 +48,24 @@ fn step_unopened(alloc: Global, command: Command<'_>) -> Result<OneCopy, Refusal
     }
 }
 
-fn open(alloc: Global, copies: u64, mapping: &str) -> Result<OneCopy, Refusal>
-    ensures gives { Gives refusal_of (λ c. (c.copy, opened)) result (spec.open_index copies mapping.now) }
-    ensures open { IfOk result (λ c. c.closed ≡ false) }
+fn open(alloc: Global, copies: u64, mapping: &str) -> Result<World, Refusal>
+    ensures { Gives refusal_of (λ w. (w, opened)) result (spec.open_index copies mapping.now) }
 {
-    if copies != 1 {
+    if copies == 0 || copies > 5 {
         return Err(Refusal::BadCount);
     }
-    new_index(alloc, mapping)
+    new_index(alloc, copies as u8, mapping)
 }
 
 #[tactic(auto, unfolding(crate::specs::Step::new_index))]
-fn new_index(alloc: Global, mapping: &str) -> Result<OneCopy, Refusal>
-    ensures gives { Gives refusal_of (λ c. c.copy) result (spec.new_index mapping.now) }
-    ensures open { IfOk result (λ c. c.closed ≡ false) }
+fn new_index(alloc: Global, copies: u8, mapping: &str) -> Result<World, Refusal>
+    requires { (1 ≤ copies) × (copies ≤ 5) }
+    ensures { Gives refusal_of (λ w. w) result (spec.new_index copies mapping.now) }
 {
     let value = mapping_value(alloc, mapping)?;
     let mapping = Mapping::from_value(alloc, &value)?;
-    new_copy(alloc, mapping)
-}
-
-/// The copy of a new index, with an empty log in memory.
-fn new_copy(alloc: Global, mapping: Mapping) -> Result<OneCopy, Refusal>
-    ensures copy { IfOk result (λ c. c.copy ≡ begun 1 1 mapping) }
-    ensures open { IfOk result (λ c. c.closed ≡ false) }
-    ensures memory { IfErr result (λ e. refusal_of e ≡ None) }
-{
-    let device = MemDevice::new(Vec::new(alloc));
-    match Copy::begin(alloc, 1, 1, mapping, device) {
-        Ok(copy) => Ok(copy),
-        Err(_) => Err(Refusal::NoMemory),
-    }
+    let world = World::new(alloc, &mapping, copies)?;
+    Ok(world)
 }
 
 fn mapping_value(alloc: Global, text: &str) -> Result<Value, Refusal>
@@ -100,71 +81,136 @@ fn mapping_value(alloc: Global, text: &str) -> Result<Value, Refusal>
     }
 }
 
-fn step_open(alloc: Global, copy: &mut OneCopy, command: Command<'_>) -> Result<Reply, Refusal>
-    requires { copy.old.closed ≡ false }
-    ensures gives { Gives refusal_of (λ r. (copy.new.copy, reply_view r)) result
-        (spec.step_open copy.old.copy (command_view command.entry)) }
-    ensures keeps { KeepsCopy result copy.old copy.new }
+fn step_open(alloc: Global, world: &mut World, command: Command<'_>) -> Result<Reply, Refusal>
+    ensures gives { Gives refusal_of (λ r. (world.new, reply_view r)) result (spec.step_open world.old (command_view command.entry)) }
+    ensures stays { OnErr result (world.new ≡ world.old) }
 {
     match command {
         Command::Open(_, _) => Err(Refusal::AlreadyOpen),
-        Command::Write(number, id, change) => {
-            check_copy(number)?;
-            write(alloc, copy, id, change)
+        Command::Write(copy, id, change) => write(alloc, world, id_named(copy), id, change),
+        Command::Get(copy, id) => get(alloc, world, id_named(copy), id),
+        Command::Refresh(copy) => take(alloc, world, Event::Refresh(id_named(copy))),
+        Command::Restart(copy) => take(alloc, world, Event::Restart(id_named(copy))),
+        Command::Search(copy, body) => search(alloc, world, id_named(copy), body),
+        Command::Deliver(message) => take(alloc, world, Event::Deliver(message)),
+        Command::Promote(copy) => take(alloc, world, Event::Promote(id_named(copy))),
+        Command::Allocate => take(alloc, world, Event::Allocate),
+        Command::Fail(copy) => {
+            let primary = world.master().primary;
+            take(alloc, world, Event::Report(primary, id_named(copy)))
         }
-        Command::Get(number, id) => {
-            check_copy(number)?;
-            get(alloc, copy, id)
-        }
-        Command::Refresh(number) => {
-            check_copy(number)?;
-            take(alloc, copy, Input::Refresh)
-        }
-        Command::Restart(number) => {
-            check_copy(number)?;
-            take(alloc, copy, Input::Restart)
-        }
-        Command::Search(number, body) => {
-            check_copy(number)?;
-            search(alloc, copy, body)
-        }
+        Command::TornDelivery(message, is_kept) => take(
+            alloc,
+            world,
+            Event::TornDelivery(message, is_kept),
+        ),
+        Command::TornPut(copy, is_kept, id, text) => torn_put(
+            alloc,
+            world,
+            id_named(copy),
+            is_kept,
+            id,
+            text,
+        ),
     }
 }
 
-fn check_copy(number: u64) -> Result<(), Refusal>
-    ensures { Gives refusal_of (λ u. u) result (spec.copy_one number) }
+/// The id that a number is; 0, which is no copy's, where it has more than 32 bits.
+fn id_named(number: u64) -> u32
+    ensures { result ≡ spec.id_named number }
 {
-    if number == 1 {
-        Ok(())
+    if number < 4_294_967_296 {
+        number as u32
     } else {
-        Err(Refusal::NoSuchCopy)
+        0
     }
 }
 
-/// Does a step of the copy.
-fn take(alloc: Global, copy: &mut OneCopy, input: Input) -> Result<Reply, Refusal>
-    requires { copy.old.closed ≡ false }
-    ensures gives { Gives refusal_of (λ r. (copy.new.copy, reply_view r)) result (spec.taken copy.old.copy input) }
-    ensures keeps { KeepsCopy result copy.old copy.new }
+/// Has an event happen.
+fn take(alloc: Global, world: &mut World, event: Event) -> Result<Reply, Refusal>
+    ensures gives { Gives refusal_of (λ r. (world.new, reply_view r)) result (spec.taken world.old event) }
+    ensures stays { OnErr result (world.new ≡ world.old) }
 {
-    let output = copy.step(alloc, input)?;
-    Ok(Reply::Stepped(output))
+    let before = world.messages().len() as u64;
+    let answer = world.step(alloc, &event)?;
+    reply_of(before, answer)
+}
+
+/// What an event answers, where so many messages were sent before it.
+fn reply_of(before: u64, answer: EventAnswer) -> Result<Reply, Refusal>
+    ensures gives { Gives refusal_of reply_view result (spec.reply_of before answer) }
+    ensures refused { OnErr result (IsRefused answer) }
+{
+    match answer {
+        EventAnswer::Answered(answer, sent, acknowledged) => Ok(Reply::Answered(
+            answer,
+            before,
+            sent,
+            acknowledged,
+        )),
+        EventAnswer::Decided(given, sent) => Ok(Reply::Decided(given, before, sent)),
+        EventAnswer::Delivered(is_repeated, sent) => Ok(Reply::Delivered(
+            is_repeated,
+            before,
+            sent,
+        )),
+        EventAnswer::Torn(point) => Ok(Reply::Torn(point)),
+        EventAnswer::Refused(fault) => Err(Refusal::Copy(fault)),
+        EventAnswer::RefusedByMaster(fault) => Err(Refusal::Master(fault)),
+        EventAnswer::NoSuchCopy => Err(Refusal::NoSuchCopy),
+        EventAnswer::NoSuchMessage => Err(Refusal::NoSuchMessage),
+    }
 }
 
 #[tactic(auto, unfolding(crate::specs::Step::write_at))]
 fn write(
     alloc: Global,
-    copy: &mut OneCopy,
+    world: &mut World,
+    copy: u32,
     id: &str,
     change: LineWrite<'_>,
 ) -> Result<Reply, Refusal>
-    requires { copy.old.closed ≡ false }
-    ensures gives { Gives refusal_of (λ r. (copy.new.copy, reply_view r)) result (spec.write_at copy.old.copy id.now (line_write_view change.entry)) }
-    ensures keeps { KeepsCopy result copy.old copy.new }
+    ensures gives { Gives refusal_of (λ r. (world.new, reply_view r)) result (spec.write_at world.old copy id.now (line_write_view change.entry)) }
+    ensures stays { OnErr result (world.new ≡ world.old) }
+{
+    let Some(there) = world.copy(copy) else {
+        return Err(Refusal::NoSuchCopy);
+    };
+    let write = write_of(alloc, there.mapping(), id, change)?;
+    take(alloc, world, Event::Write(copy, write))
+}
+
+#[tactic(auto, unfolding(crate::specs::Step::torn_put_at))]
+fn torn_put(
+    alloc: Global,
+    world: &mut World,
+    copy: u32,
+    is_kept: bool,
+    id: &str,
+    text: &str,
+) -> Result<Reply, Refusal>
+    ensures gives { Gives refusal_of (λ r. (world.new, reply_view r)) result (spec.torn_put_at world.old copy is_kept id.now text.now) }
+    ensures stays { OnErr result (world.new ≡ world.old) }
+{
+    let Some(there) = world.copy(copy) else {
+        return Err(Refusal::NoSuchCopy);
+    };
+    let write = write_of(alloc, there.mapping(), id, LineWrite::Index(text, None))?;
+    take(alloc, world, Event::TornWrite(copy, write, is_kept))
+}
+
+/// A write to a document, read under the mapping.
+fn write_of(
+    alloc: Global,
+    mapping: &Mapping,
+    id: &str,
+    change: LineWrite<'_>,
+) -> Result<Write, Refusal>
+    ensures { Gives refusal_of (λ w. w) result (spec.write_of mapping.now id.now (line_write_view change.entry)) }
 {
     let id = DocId::new(alloc, id)?;
-    let kind = kind_of(alloc, copy.mapping(), change)?;
-    take(alloc, copy, Input::Write(Write { id, kind }))
+    let kind = kind_of(alloc, mapping, change)?;
+    Ok(Write { id, kind })
 }
 
 /// What a write does, its document read under the mapping.
@@ -193,23 +239,27 @@ fn source_of(alloc: Global, mapping: &Mapping, text: &str) -> Result<Source, Doc
 }
 
 #[tactic(auto, unfolding(crate::specs::Step::get_at))]
-fn get(alloc: Global, copy: &mut OneCopy, id: &str) -> Result<Reply, Refusal>
-    requires { copy.old.closed ≡ false }
-    ensures gives { Gives refusal_of (λ r. (copy.new.copy, reply_view r)) result (spec.get_at copy.old.copy id.now) }
-    ensures keeps { KeepsCopy result copy.old copy.new }
+fn get(alloc: Global, world: &mut World, copy: u32, id: &str) -> Result<Reply, Refusal>
+    ensures gives { Gives refusal_of (λ r. (world.new, reply_view r)) result (spec.get_at world.old copy id.now) }
+    ensures stays { OnErr result (world.new ≡ world.old) }
 {
+    if world.copy(copy).is_none() {
+        return Err(Refusal::NoSuchCopy);
+    }
     let id = DocId::new(alloc, id)?;
-    take(alloc, copy, Input::Get(id))
+    take(alloc, world, Event::Get(copy, id))
 }
 
 #[tactic(auto, unfolding(crate::specs::Step::search_at))]
-fn search(alloc: Global, copy: &OneCopy, body: &str) -> Result<Reply, Refusal>
-    requires { copy.now.closed ≡ false }
-    ensures { Gives refusal_of (λ r. (copy.now.copy, reply_view r)) result (spec.search_at copy.now.copy body.now) }
+fn search(alloc: Global, world: &World, copy: u32, body: &str) -> Result<Reply, Refusal>
+    ensures { Gives refusal_of (λ r. (world.now, reply_view r)) result (spec.search_at world.now copy body.now) }
 {
+    let Some(there) = world.copy(copy) else {
+        return Err(Refusal::NoSuchCopy);
+    };
     let value = body_value(alloc, body)?;
-    let body = SearchBody::read(alloc, copy.mapping(), &value)?;
-    let Some(snapshot) = copy.snapshot() else {
+    let body = SearchBody::read(alloc, there.mapping(), &value)?;
+    let Some(snapshot) = there.snapshot() else {
         return Err(Refusal::Copy(CopyFault::Closed));
     };
     let hits = snapshot.search(alloc, &body.query, body.page)?;
