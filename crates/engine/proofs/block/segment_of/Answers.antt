@@ -3,7 +3,7 @@ use Rattle.std.specs.Arc.{arc_value}
 use Rattle.doc.specs.declared.document.Doc.{Doc}
 use Rattle.segment.specs.Indexed.{SegmentData}
 use Rattle.engine.proofs.FoundLaws.{read-values, read-sources}
-use Rattle.engine.proofs.snapshot.segment_of.Goals as goal
+use Rattle.engine.proofs.block.segment_of.Goals as goal
 
 -- each was read
 pub build-requires-clause-read : goal.build-requires-clause-read

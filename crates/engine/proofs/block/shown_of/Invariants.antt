@@ -1,7 +1,7 @@
 use Rattle.std.proofs.Common.{◌≡◌, map, take}
 use Rattle.engine.specs.Entry.{entry_view}
 use Rattle.engine.specs.Shown.{shown_view}
-use Rattle.engine.proofs.snapshot.shown_of.Given as goal
+use Rattle.engine.proofs.block.shown_of.Given as goal
 
 -- the documents of the entries so far
 abbrev pub invariant-loop-entry : goal.invariant-loop-entry

@@ -1,6 +1,6 @@
 use Rattle.std.proofs.Common.{◌≡◌, map, take}
 use Rattle.engine.specs.Shown.{read_under}
-use Rattle.engine.proofs.snapshot.docs_of.Given as goal
+use Rattle.engine.proofs.block.docs_of.Given as goal
 
 -- the entries so far are read
 abbrev pub invariant-loop-entry : goal.invariant-loop-entry

@@ -1,6 +1,6 @@
 use Rattle.std.proofs.Common.{◌∙◌}
 use Rattle.engine.proofs.ShownLaws.{doc_read}
-use Rattle.engine.proofs.snapshot.doc_of.Goals as goal
+use Rattle.engine.proofs.block.doc_of.Goals as goal
 
 pub returns-in-Ok : goal.returns-in-Ok
 returns-in-Ok c =
