@@ -4,3 +4,9 @@ pub mod ShownLaws
 pub mod IndexLaws
 pub mod DocumentMap
 pub mod FoundLaws
+pub mod PartLaws
+pub mod ApartLaws
+pub mod ChosenLaws
+pub mod RefreshLaws
+pub mod ShareLaws
+pub mod SnapshotLaws

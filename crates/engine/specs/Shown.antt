@@ -1,10 +1,11 @@
 -- Documents as they are kept for searches.
-use Rattle.std.specs.Prelude.{ℕ, List, map}
-use Rattle.doc.specs.Id.{Id}
+use Rattle.std.specs.Prelude.{◌≡◌, ℕ, true, List, map}
+use Rattle.std.specs.FinMap.Entries.{is_sorted}
+use Rattle.doc.specs.Id.{Id, id_cmp}
 use Rattle.doc.specs.Mapping.{MappingData}
 use Rattle.doc.specs.Document.{DocData, all_values}
 use Rattle.op.specs.Documents.{Document}
-use Rattle.engine.specs.declared.snapshot.Shown.{Shown}
+use Rattle.engine.specs.declared.block.Shown.{Shown}
 use Rattle.engine.specs.declared.snapshot.Hit.{Hit}
 use Rattle.engine.specs.declared.snapshot.Hits.{Hits}
 use Rattle.engine.specs.Answer.{Answer}
@@ -12,6 +13,11 @@ use Rattle.engine.specs.Answer.{Answer}
 -- the document, as it was made
 abbrev pub shown_view : Shown → Id × Document
 shown_view s = (s.id, record { seq = s.seq; term = s.term; version = s.version; source = s.source })
+
+-- the sources of documents in byte order of their ids, no id twice
+pub record IsBlock (ds : List Shown) (sources : List (List ℕ)) : Type 0 where
+  pub same : sources ≡ map (λ d. d.source) ds
+  pub sorted : is_sorted id_cmp (map shown_view ds) ≡ true
 
 -- a source read under a mapping: with its values where it fits, and else without
 abbrev pub read_under : MappingData → List ℕ → DocData

@@ -12,6 +12,7 @@ ghost use Rattle.engine.specs.Last.{last_of};
 ghost use Rattle.engine.specs.SnapshotChange.{changed, IsSnapshotChange};
 ghost use Rattle.engine.specs.Staged.{IsStagedFrom, put_in};
 
+use crate::documents::documents_at;
 use crate::history::{Applied, Found, History};
 use crate::snapshot::Snapshot;
 use crate::staged::{SnapshotChange, Staged};
@@ -109,7 +110,7 @@ impl Engine {
     {
         match change {
             SnapshotChange::Refresh => {
-                let snapshot = snapshot_of(alloc, &self.mapping, &self.history)?;
+                let snapshot = self.refreshed(alloc)?;
                 Ok(Staged {
                     history: None,
                     snapshot,
@@ -127,6 +128,18 @@ impl Engine {
                 })
             }
         }
+    }
+
+    /// What searches show of all records: what they show with the ids that changed, unless more than ids changed.
+    fn refreshed(&self, alloc: Global) -> Result<Arc<Snapshot, Global>, AllocError>
+        ensures { IfOk result (λ s. arc_value s ≡ record { mapping = self.now.mapping; documents = documents (operations self.now.records) }) }
+    {
+        let Some(ids) = self.history.ids_since(alloc, self.point)? else {
+            return snapshot_of(alloc, &self.mapping, &self.history);
+        };
+        let entries = documents_at(alloc, &self.history, &ids)?;
+        let snapshot = self.snapshot.with(alloc, &ids, &entries)?;
+        Ok(Arc::new(alloc, snapshot)?)
     }
 
     /// Makes a change that is ready for this engine. It takes no memory.

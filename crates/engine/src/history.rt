@@ -1,11 +1,13 @@
 //! The records of a copy, and their operations.
-ghost use Rattle.std.specs.Prelude.{◌≡◌, ◌<◌, ◌^◌, None, All, IfOk, OnErr};
+ghost use Rattle.std.specs.Prelude.{◌≡◌, ◌<◌, ◌≤◌, ◌^◌, ◌||◌, false, None, All, IfOk, IfSome, OnOk, OnErr};
+ghost use Rattle.doc.specs.Id.{Id};
 ghost use Rattle.std.specs.Option.{option_copied, option_map};
 ghost use Rattle.op.specs.Checkpoint.{checkpoint_of, known};
 ghost use Rattle.op.specs.Documents.{left_by};
-ghost use Rattle.op.specs.Operations.{IsAscending, add, from_number, is_stale, last_on, local_checkpoint, next_seq, op_at};
-ghost use Rattle.op.specs.Records.{IsRecord, operations};
+ghost use Rattle.op.specs.Operations.{IsAscending, add, from_number, is_on, is_stale, last_on, local_checkpoint, next_seq, op_at};
+ghost use Rattle.op.specs.Records.{IsRecord, operations, shown};
 ghost use Rattle.engine.specs.Found.{found_document};
+ghost use Rattle.engine.specs.Parts.{is_among};
 
 use crate::operation_index::OperationIndex;
 use crate::operations;
@@ -150,6 +152,26 @@ impl History {
         operations::from_number(alloc, self.operations.as_slice(), checkpoint::count(global))
     }
 
+    /// The ids of the operations that came behind a point, if nothing else came there.
+    pub(crate) fn ids_since(
+        &self,
+        alloc: Global,
+        point: usize,
+    ) -> Result<Option<Vec<DocId>>, AllocError>
+        requires { point ≤ length self.now }
+        ensures { IfOk result (λ ids. IfSome ids (λ v. (id : Id) → is_among v.items id ≡ false → last_on (operations self.now) id ≡ last_on (shown self.now point) id)) }
+    {
+        let mut ids = Vec::new(alloc);
+        for kept in &self.records[point..] {
+            match kept {
+                Record::Op(_, op) => push_id(alloc, &mut ids, op)?,
+                Record::Resync(_, _, _) => return Ok(None),
+                Record::Recover(_, _) => return Ok(None),
+            }
+        }
+        Ok(Some(ids))
+    }
+
     /// Keeps the record, where it isn't an operation whose number is there.
     pub(crate) fn apply(&mut self, alloc: Global, kept: &Record) -> Result<Applied, AllocError>
         requires { IsRecord kept.now }
@@ -166,6 +188,23 @@ impl History {
         self.operations.keep(alloc, kept)?;
         self.records.push(copy)?;
         Ok(applied)
+    }
+}
+
+/// Adds the id of an operation.
+fn push_id(alloc: Global, ids: &mut Vec<DocId>, op: &Op) -> Result<(), AllocError>
+    ensures { OnOk result ((id : Id) → is_among ids.new.items id ≡ (is_among ids.old.items id || is_on id op.now)) }
+{
+    match &op.body {
+        Body::Index(id, _) => {
+            ids.push(id.copy(alloc)?)?;
+            Ok(())
+        }
+        Body::Delete(id) => {
+            ids.push(id.copy(alloc)?)?;
+            Ok(())
+        }
+        Body::NoOp => Ok(()),
     }
 }
 

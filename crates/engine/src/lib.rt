@@ -1,11 +1,14 @@
 //! The documents of one copy: its records, what they make, and what searches show.
 #![tactic(auto)]
 
+mod block;
 mod documents;
 pub mod engine;
 mod history;
+mod merging;
 mod operation_index;
 mod operations;
+mod part;
 pub mod snapshot;
 pub mod staged;
 

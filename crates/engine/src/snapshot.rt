@@ -1,52 +1,45 @@
 //! What searches show.
-ghost use Rattle.std.specs.Prelude.{◌≡◌, ◌<◌, All, Some, map, take, drop, length, slice_get, IfOk};
+ghost use Rattle.std.specs.Prelude.{◌≡◌, ◌≤◌, ◌+◌, true, All, map, take, drop, filter, length, IfOk};
 ghost use Rattle.std.specs.Arc.{arc_value};
+ghost use Rattle.std.specs.FinMap.Entries.{is_sorted};
+ghost use Rattle.doc.specs.Id.{Id, id_cmp};
 ghost use Rattle.query.specs.View.{query_view};
 ghost use Rattle.op.specs.Documents.{documents};
-ghost use Rattle.engine.specs.Answer.{answer_of, hit};
+ghost use Rattle.engine.specs.Answer.{answer_of, hit, is_found};
 ghost use Rattle.engine.specs.Entry.{entry_view};
-ghost use Rattle.engine.specs.Shown.{shown_view, read_under, hit_view, hits_view};
+ghost use Rattle.engine.specs.Parts.{documents_of_parts, has_id, is_among, merged, without, woven, AllInOrder, AreParts};
+ghost use Rattle.engine.specs.Shown.{hit_view, hits_view};
 
 use crate::documents::{Entry, documents_of};
-use doc::{Doc, DocFault, DocId, Mapping, Source};
+use crate::merging::merge;
+use crate::part::{Part, Share};
+use doc::{DocId, Mapping, Source};
 use op::Op;
 use query::{Page, Query};
-use search::find;
-use segment::Segment;
 use std::alloc::{AllocError, Global};
 use std::marker::Model;
 use std::sync::Arc;
 
-/// No segment has as many documents.
-const MAX_DOCUMENTS: usize = 4_294_967_296;
+/// There are never more parts.
+const MAX_PARTS: usize = 64;
 
-/// A document that searches show.
-#[derive(Drop)]
-pub(crate) struct Shown {
-    id: DocId,
-    seq: u64,
-    term: u64,
-    version: u64,
-    source: Source,
-}
-
-/// The documents that searches show, in byte order of their ids, and the segment of their sources. It never changes.
+/// What searches show, in parts, the newest first. It never changes.
 #[derive(Drop)]
 pub struct Snapshot {
-    documents: Vec<Shown>,
-    segment: Segment,
+    mapping: Arc<Mapping, Global>,
+    parts: Vec<Part>,
 }
 
 impl Model for Snapshot {
-    ghost use Rattle.std.specs.Prelude.{◌≡◌, map};
+    ghost use Rattle.std.specs.Arc.{arc_value};
     ghost use Rattle.engine.specs.Answer.{SnapshotData};
-    ghost use Rattle.engine.specs.Shown.{shown_view};
+    ghost use Rattle.engine.specs.Parts.{documents_of_parts, woven, AreParts};
 
     ghost Value = { SnapshotData };
 
-    ghost view = { λ s. record { mapping = s.segment.mapping; documents = map shown_view s.documents.items } };
+    ghost view = { λ s. record { mapping = arc_value s.mapping; documents = woven (documents_of_parts s.parts.items) } };
 
-    ghost invariant = { λ s. s.segment.sources ≡ map (λ d. d.source) s.documents.items };
+    ghost invariant = { λ s. AreParts (arc_value s.mapping) s.parts.items };
 }
 
 /// A document that a search found.
@@ -64,7 +57,7 @@ pub struct Hits {
 }
 
 impl Snapshot {
-    /// The documents that operations in ascending order make.
+    /// The documents that operations in ascending order make, in one part.
     pub(crate) fn of(
         alloc: Global,
         mapping: Arc<Mapping, Global>,
@@ -73,107 +66,148 @@ impl Snapshot {
         ensures { IfOk result (λ s. s ≡ record { mapping = arc_value mapping; documents = documents operations.now }) }
     {
         let entries = documents_of(alloc, operations)?;
-        let documents = shown_of(alloc, &entries)?;
-        let segment = segment_of(alloc, &mapping, &entries)?;
-        Ok(Snapshot { documents, segment })
+        let part = Part::of(alloc, &mapping, &entries)?;
+        let mut parts = Vec::new(alloc);
+        parts.push(part)?;
+        Ok(Snapshot { mapping, parts })
     }
 
     /// The documents that the query means, their number and those of the page.
     pub fn search(&self, alloc: Global, query: &Query, page: Page) -> Result<Hits, AllocError>
         ensures { IfOk result (λ h. hits_view h ≡ answer_of self.now (query_view query.now) page) }
     {
-        let found = find(alloc, &self.segment, query)?;
-        let hits = self.hits_of(alloc, on_page(&found, page))?;
-        let total = found.len() as u64;
-        Ok(Hits { total, hits })
+        let from = page.from() as usize;
+        let wanted = from + page.size() as usize;
+        let share = find(alloc, &self.mapping, &self.parts, query, wanted)?;
+        let hits = hits_of(alloc, behind(&share.first, from))?;
+        Ok(Hits {
+            total: share.total,
+            hits,
+        })
     }
 
-    /// The documents at some places, each with its id and its text.
-    fn hits_of(&self, alloc: Global, places: &[u32]) -> Result<Vec<Hit>, AllocError>
-        requires { All (λ p. p < length self.now.documents) places.now }
-        ensures { IfOk result (λ v. map (λ h. Some (hit_view h)) v.items ≡ map (λ p. slice_get (map hit self.now.documents) p) places.now) }
+    /// What is shown where some ids have these documents now, and the others what they had.
+    pub(crate) fn with(
+        &self,
+        alloc: Global,
+        ids: &[DocId],
+        entries: &[Entry<'_>],
+    ) -> Result<Snapshot, AllocError>
+        requires sorted { is_sorted id_cmp (map entry_view entries.now) ≡ true }
+        requires only { (id : Id) → has_id id (map entry_view entries.now) ≡ true → is_among ids.now id ≡ true }
+        ensures { IfOk result (λ s. s ≡ record self.now { documents = merged (map entry_view entries.entry.now) (without ids.now self.now.documents) }) }
     {
-        let mut hits = Vec::new(alloc);
-        for place in places {
-            let shown = &self.documents[*place as usize];
-            hits.push(hit_of(alloc, shown)?)?;
+        let mut newer = parts_without(alloc, &self.parts, ids)?;
+        let taken = taken_in(&newer, entries.len());
+        let mut parts = newer.split_off(taken)?;
+        let part = joined(alloc, &self.mapping, entries, &newer)?;
+        parts.insert(0, part)?;
+        let mapping = Arc::try_clone(&self.mapping)?;
+        Ok(Snapshot { mapping, parts })
+    }
+}
+
+/// What parts under the mapping have for a query: how many documents, and the first of them, no more than wanted.
+fn find<'a>(
+    alloc: Global,
+    _mapping: &Mapping,
+    parts: &'a [Part],
+    query: &Query,
+    wanted: usize,
+) -> Result<Share<'a>, AllocError>
+    requires { AreParts _mapping.now parts.now }
+    ensures total { IfOk result (λ s. s.total ≡ length (filter (is_found _mapping.now (query_view query.now)) (woven (documents_of_parts parts.now)))) }
+    ensures first { IfOk result (λ s. map entry_view s.first.items ≡ take wanted (filter (is_found _mapping.now (query_view query.now)) (woven (documents_of_parts parts.now)))) }
+{
+    let mut total = 0u64;
+    let mut first = Vec::new(alloc);
+    for part in parts {
+        let share = part.find(alloc, query, wanted)?;
+        first = merge(alloc, &first, &share.first)?;
+        first.truncate(wanted);
+        total += share.total;
+    }
+    Ok(Share { total, first })
+}
+
+/// The documents after the first so many.
+fn behind<'a, 'b>(entries: &'b [Entry<'a>], from: usize) -> &'b [Entry<'a>]
+    ensures { result.now ≡ drop from entries.entry.now }
+{
+    let count = entries.len().min(from);
+    &entries[count..]
+}
+
+/// The parts without the documents that have one of the ids.
+fn parts_without(alloc: Global, parts: &[Part], ids: &[DocId]) -> Result<Vec<Part>, AllocError>
+    ensures mappings { IfOk result (λ v. map (λ p. p.mapping) v.items ≡ map (λ p. p.mapping) parts.now) }
+    ensures documents { IfOk result (λ v. documents_of_parts v.items ≡ map (without ids.now) (documents_of_parts parts.now)) }
+{
+    let mut left = Vec::new(alloc);
+    for part in parts {
+        left.push(part.without(alloc, ids)?)?;
+    }
+    Ok(left)
+}
+
+/// How many of the newest parts go into a new one of so many documents: each that is no more than three times as large as what stands before it.
+/// So the parts grow, and a document goes into a new one no more often than the logarithm of their number says.
+fn taken_in(parts: &[Part], documents: usize) -> usize
+    ensures within { result ≤ length parts.now }
+    ensures few { length parts.now ≤ 64 → length parts.now + 1 ≤ 64 + result }
+{
+    if parts.len() >= MAX_PARTS {
+        return parts.len();
+    }
+    let mut size = documents;
+    for (at, part) in parts.iter().enumerate() {
+        if part.weight() / 3 > size {
+            return at;
         }
-        Ok(hits)
+        size = size.saturating_add(part.weight());
     }
+    parts.len()
 }
 
-/// The part of what was found that the page asks for.
-fn on_page(found: &[u32], page: Page) -> &[u32]
-    ensures { result.now ≡ take page.size (drop page.from found.now) }
-{
-    let from = found.len().min(page.from() as usize);
-    let rest = &found[from..];
-    let size = rest.len().min(page.size() as usize);
-    &rest[..size]
-}
-
-/// A document with its id and its text.
-fn hit_of(alloc: Global, shown: &Shown) -> Result<Hit, AllocError>
-    ensures { IfOk result (λ h. hit_view h ≡ hit (shown_view shown.now)) }
-{
-    Ok(Hit {
-        id: shown.id.copy(alloc)?,
-        source: shown.source.copy(alloc)?,
-    })
-}
-
-/// The documents of entries.
-fn shown_of(alloc: Global, entries: &[Entry<'_>]) -> Result<Vec<Shown>, AllocError>
-    ensures documents { IfOk result (λ v. map shown_view v.items ≡ map entry_view entries.entry.now) }
-    ensures sources { IfOk result (λ v. map (λ s. s.source) v.items ≡ map (λ e. e.source.now) entries.entry.now) }
-{
-    let mut documents = Vec::new(alloc);
-    for entry in entries {
-        documents.push(Shown {
-            id: entry.id.copy(alloc)?,
-            seq: entry.seq,
-            term: entry.term,
-            version: entry.version,
-            source: entry.source.copy(alloc)?,
-        })?;
-    }
-    Ok(documents)
-}
-
-/// The segment of the sources of entries. Of 2^32 or more there is none.
-fn segment_of(
+/// One part of entries and of the documents of parts.
+fn joined(
     alloc: Global,
     mapping: &Arc<Mapping, Global>,
     entries: &[Entry<'_>],
-) -> Result<Segment, AllocError>
-    ensures { IfOk result (λ s. s ≡ record { mapping = arc_value mapping.now; sources = map (λ e. e.source.now) entries.entry.now }) }
+    parts: &[Part],
+) -> Result<Part, AllocError>
+    requires sorted { is_sorted id_cmp (map entry_view entries.now) ≡ true }
+    requires parts { AllInOrder (documents_of_parts parts.now) }
+    ensures { IfOk result (λ p. p ≡ record { mapping = arc_value mapping.now; documents = merged (map entry_view entries.entry.now) (woven (documents_of_parts parts.now)) }) }
 {
-    let docs = docs_of(alloc, mapping, entries)?;
-    if docs.len() >= MAX_DOCUMENTS {
-        return Err(AllocError);
-    }
-    let segment = Segment::build(alloc, mapping, &docs)?;
-    Ok(segment)
+    let older = entries_of_parts(alloc, parts)?;
+    let all = merge(alloc, entries, &older)?;
+    Part::of(alloc, mapping, &all)
 }
 
-/// The documents of entries, read under the mapping.
-fn docs_of(alloc: Global, mapping: &Mapping, entries: &[Entry<'_>]) -> Result<Vec<Doc>, AllocError>
-    ensures { IfOk result (λ v. v.items ≡ map (λ e. read_under mapping.now e.source.now) entries.entry.now) }
+/// The documents of parts, in byte order of their ids.
+fn entries_of_parts(alloc: Global, parts: &[Part]) -> Result<Vec<Entry<'_>>, AllocError>
+    requires { AllInOrder (documents_of_parts parts.now) }
+    ensures { IfOk result (λ v. map entry_view v.items ≡ woven (documents_of_parts parts.now)) }
 {
-    let mut docs = Vec::new(alloc);
+    let mut entries = Vec::new(alloc);
+    for part in parts {
+        let more = part.entries(alloc)?;
+        entries = merge(alloc, &entries, &more)?;
+    }
+    Ok(entries)
+}
+
+/// Documents with their ids and texts.
+fn hits_of(alloc: Global, entries: &[Entry<'_>]) -> Result<Vec<Hit>, AllocError>
+    ensures { IfOk result (λ v. map hit_view v.items ≡ map hit (map entry_view entries.entry.now)) }
+{
+    let mut hits = Vec::new(alloc);
     for entry in entries {
-        docs.push(doc_of(alloc, mapping, entry.source)?)?;
+        hits.push(Hit {
+            id: entry.id.copy(alloc)?,
+            source: entry.source.copy(alloc)?,
+        })?;
     }
-    Ok(docs)
-}
-
-/// The document of a text that is kept: with its values where it fits the mapping, and else without.
-fn doc_of(alloc: Global, mapping: &Mapping, source: &Source) -> Result<Doc, AllocError>
-    ensures { IfOk result (λ d. d ≡ read_under mapping.now source.now) }
-{
-    match Doc::read(alloc, mapping, source.as_str().as_bytes()) {
-        Ok(doc) => Ok(doc),
-        Err(DocFault::NoMemory) => Err(AllocError),
-        Err(_) => Doc::bare(alloc, mapping, source),
-    }
+    Ok(hits)
 }

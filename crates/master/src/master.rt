@@ -115,6 +115,35 @@ impl<D: LogDevice> Master<D> {
         Ok(decision)
     }
 
+    /// Opens the log again, as after a failed append: the state is that of the decisions that it keeps. After a refusal the state stays, and
+    /// requests are refused until the log is opened.
+    pub fn reopen(&mut self, alloc: Global) -> Result<(), LogFault>
+        ensures state { Gives fault_of (λ _. self.new.state) result (kept_state self.old.log) }
+        ensures opened { OnOk result (self.new.closed ≡ false) }
+        ensures left { OnOk result (LosesNothing header self.old.log self.new.log) }
+        ensures counts { OnOk result (self.new.failures ≡ self.old.failures) }
+        ensures refused { IfErr result (λ e. IsUnopened (is_device e) header self.old.log self.new.log self.old.failures self.new.failures) }
+        ensures stays { OnErr result ((self.new.state ≡ self.old.state) × (self.new.closed ≡ true)) }
+        ensures in_memory { D.in_memory ≡ true → IfErr result (λ e. is_device e ≡ false) }
+    {
+        self.closed = true;
+        match opened(alloc, &mut self.frames) {
+            Ok(state) => {
+                self.state = state;
+                self.closed = false;
+                Ok(())
+            }
+            Err(fault) => Err(fault),
+        }
+    }
+
+    /// Whether the log has failed, so that requests are refused until it is opened again.
+    pub fn is_closed(&self) -> bool
+        ensures { result ≡ self.now.closed }
+    {
+        self.closed
+    }
+
     /// What a request would be answered, were it made now. Nothing changes.
     pub fn preview(&self, alloc: Global, request: Request) -> Result<Decision, MasterFault>
         ensures decision { Gives refusals.fault_of (λ d. d) result (decision_of (master_step self.now.state request)) }

@@ -3,6 +3,7 @@
 
 pub mod device;
 pub mod fault;
+pub mod file;
 pub mod frames;
 pub mod laws;
 pub mod log;
@@ -11,6 +12,7 @@ pub mod refused;
 
 pub use device::{DeviceFault, Failed, LogDevice};
 pub use fault::LogFault;
+pub use file::FileDevice;
 pub use frames::{Frame, Frames, Torn};
 pub use log::Translog;
 pub use memory::MemDevice;

@@ -1,23 +1,12 @@
-use Rattle.std.proofs.Common.{◌≡◌, ◌<◌, ◌∙◌, sym, ap, subst, refl, length, map, take, drop, All, slice_get}
-use Rattle.query.specs.Meaning.{means}
+use Rattle.std.proofs.Common.{◌≡◌, ◌∙◌, ◌+◌, ap, sym, refl, map, take, drop, length}
+use Rattle.std.proofs.lemmas.List.{drop-map}
 use Rattle.query.specs.View.{query_view}
-use Rattle.marks.specs.Lists.{places}
+use Rattle.op.specs.Documents.{Documents}
 use Rattle.engine.specs.Answer.{SnapshotData, found, hit, on_page}
+use Rattle.engine.specs.Entry.{entry_view}
 use Rattle.engine.specs.Shown.{hit_view}
-use Rattle.engine.proofs.FoundLaws.{places_of, found-counted, found-within, found-hits, found-in}
+use Rattle.engine.proofs.PartLaws.{drop-take}
 use Rattle.engine.proofs.snapshot.Snapshot.search.Goals as goal
-
--- the places of the page are those of documents
-pub hits_of-requires : goal.hits_of-requires
-hits_of-requires c =
-    let s = c.args.self.now in
-    let q = query_view c.args.query.now in
-    let page = c.args.page in
-    let inside = c.self.inside in
-    let among : places (λ t. means inside.segment.mapping t q) inside.segment.sources ≡ places_of s q =
-    subst (λ (v : SnapshotData). places (λ t. means inside.segment.mapping t q) inside.segment.sources ≡ places_of v q) c.self.view_is (found-in inside.segment.mapping inside.documents.items inside.segment.sources q c.self.invariant) in
-    let cut_is : c.on_page.result.now ≡ take page.size (drop page.from (places_of s q)) = c.on_page.ensures ∙ ap (λ ps. take page.size (drop page.from ps)) (c.deref.ensures.value ∙ c.in_ok-found.ensures ∙ among) in
-    subst (λ ps. All (λ p. p < length s.documents) ps) (sym cut_is) (found-within s q page)
 
 -- what was found, counted and cut, is the answer
 pub returns : goal.returns
@@ -25,10 +14,14 @@ returns c =
     let s = c.args.self.now in
     let q = query_view c.args.query.now in
     let page = c.args.page in
-    let inside = c.self.inside in
-    let among : places (λ t. means inside.segment.mapping t q) inside.segment.sources ≡ places_of s q =
-    subst (λ (v : SnapshotData). places (λ t. means inside.segment.mapping t q) inside.segment.sources ≡ places_of v q) c.self.view_is (found-in inside.segment.mapping inside.documents.items inside.segment.sources q c.self.invariant) in
-    let cut_is : c.on_page.result.now ≡ take page.size (drop page.from (places_of s q)) = c.on_page.ensures ∙ ap (λ ps. take page.size (drop page.from ps)) (c.deref.ensures.value ∙ c.in_ok-found.ensures ∙ among) in
-    let counted : c.len-total.result ≡ length (found s q) = c.len-total.ensures ∙ sym c.deref.ensures.len ∙ ap length (c.deref.ensures.value ∙ c.in_ok-found.ensures ∙ among) ∙ found-counted s q in
-    let hits : map hit_view c.in_ok-hits.hits.items ≡ map hit (on_page page (found s q)) = found-hits s q hit_view page c.in_ok-hits.hits.items (c.in_ok-hits.ensures ∙ ap (map (λ p. slice_get (map hit s.documents) p)) cut_is) in
-    rw (counted, hits) refl
+    let items = c.in_ok-share.share.first.items in
+    let all = found s q in
+    let total : c.in_ok-share.share.total ≡ length all =
+    (rw (c.deref.ensures, c.deref-2.ensures.value) at c.in_ok-share.ensures.total) ∙ ap (λ (v : SnapshotData). length (found v q)) c.self.view_is in
+    let first : map entry_view items ≡ take (page.from + page.size) all =
+    (rw (c.deref.ensures, c.deref-2.ensures.value, c.from-from.ensures.same, c.size.ensures.same) at c.in_ok-share.ensures.first) ∙ ap (λ (v : SnapshotData). take (page.from + page.size) (found v q)) c.self.view_is in
+    let behind : c.behind.result.now ≡ drop page.from items = rw (c.deref-3.ensures.value, c.from-from.ensures.same) at c.behind.ensures in
+    let hits : map hit_view c.in_ok-hits.hits.items ≡ map hit (on_page page all) =
+    c.in_ok-hits.ensures
+    ∙ ap (λ (ds : Documents). map hit ds) (ap (map entry_view) behind ∙ sym (drop-map entry_view page.from items) ∙ ap (drop page.from) first ∙ drop-take page.from page.size all) in
+    rw (total, hits) refl

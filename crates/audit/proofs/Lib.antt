@@ -1,0 +1,11 @@
+mod Begun
+mod Caused
+mod StepIds
+mod Nodes
+mod Merging
+mod Audits
+mod Links
+mod Parts
+mod Judging
+mod Glue
+mod Rows

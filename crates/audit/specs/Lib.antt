@@ -1,0 +1,9 @@
+pub mod Opening
+pub mod Moves
+pub mod Journal
+pub mod Rulings
+pub mod Audit
+pub mod Merge
+pub mod Causes
+pub mod Judge
+pub mod Rows

@@ -1,0 +1,139 @@
+-- What changes where only some ids have new operations.
+use Rattle.std.proofs.Common.{◌≡◌, ◌≤◌, ◌<◌, ◌+◌, ◌-◌, ℕ, ℤ, length, take, drop, get_or, length-drop, arith, Bool, true, false, cond, List, [], ◌∷◌, Option, Some, None, if◌then◌else◌, refl, sym, ap, ◌∙◌}
+use Rattle.std.specs.Prelude.{is_some, not, nat_lt, ◌||◌, fold}
+use Rattle.std.specs.declared.cmp.Ordering.{Ordering}
+use Rattle.std.specs.declared.cmp.Ordering.TheVariants.{Less, Equal, Greater}
+use Rattle.std.specs.Ordering.{is_eq}
+use Rattle.std.proofs.lemmas.List.{take_all, take-append-drop}
+use Rattle.std.proofs.lemmas.List.Sums.{fold_more, fold-append}
+use Rattle.op.specs.declared.record.Record.{Record}
+use Rattle.op.specs.declared.record.Record.TheVariants.{Op as Kept}
+use Rattle.op.specs.Records.{after_record, operations, shown}
+use Rattle.engine.specs.Entry.{put_if}
+use Rattle.engine.proofs.ChosenLaws.{among-more}
+use Rattle.std.specs.Option.{option_or}
+use Rattle.std.specs.Cmp.Lexicographic.{nat_list_cmp_total}
+use Rattle.std.specs.FinMap.Entries.{is_sorted, same_entries, is_sorted-where_key, is_sorted-put, find-put}
+use Rattle.std.proofs.lemmas.Map.Lookups.{exact_bytes}
+use Rattle.doc.specs.Id.{Id, id_cmp, is_id}
+use Rattle.op.specs.declared.operation.Op.{Op}
+use Rattle.op.specs.Documents.{Document, Documents, document_at, documents, document_of}
+use Rattle.op.specs.Operations.{placed, add, op_at, is_on, last_on}
+use Rattle.op.proofs.DocumentLaws.{document_at-documents, is_sorted-documents}
+use Rattle.engine.specs.Parts.{merged, without, is_among, has_id}
+use Rattle.engine.proofs.PartLaws.{true_T, T_true, find-merged, in_order-merged}
+use Rattle.engine.proofs.ApartLaws.{find-without}
+
+none_of : (b : Bool) (l : Option Op) (o : Op) → b ≡ false → option_or l (if b then Some o else None) ≡ l
+none_of true l o is = cc
+none_of false None o is = refl
+none_of false (Some p) o is = refl
+
+-- an operation on another id leaves the last one
+pub last_on-placed_other : (os : List Op) (o : Op) (id : Id) → is_on id o ≡ false → last_on (placed os o) id ≡ last_on os id
+last_on-placed_other [] o id is = none_of (is_on id o) None o is
+last_on-placed_other (p ∷ ps) o id is = elim (nat_lt o.seq p.seq) as (λ b. last_on (if b then o ∷ p ∷ ps else p ∷ placed ps o) id ≡ last_on (p ∷ ps) id) [
+  | true ↦ none_of (is_on id o) (last_on (p ∷ ps) id) o is
+  | false ↦ ap (λ l. option_or l (if is_on id p then Some p else None)) (last_on-placed_other ps o id is)
+]
+
+pub last_on-add_other : (os : List Op) (o : Op) (id : Id) → is_on id o ≡ false → last_on (add os o) id ≡ last_on os id
+last_on-add_other os o id is = elim (is_some (op_at os o.seq)) as (λ b. last_on (if b then os else placed os o) id ≡ last_on os id) [
+  | true ↦ refl
+  | false ↦ last_on-placed_other os o id is
+]
+
+module _ (new : List Op) (ids : List Id) (es : Documents) (at : (id : Id) → document_at es id ≡ (if is_among ids id then document_at (documents new) id else None)) where
+  found_among : (id : Id) (b : Bool) → is_among ids id ≡ b → is_some (document_at es id) ≡ true → b ≡ true
+  found_among id true is has = refl
+  found_among id false is has = absurd (no (ap is_some (at id ∙ ap (λ b. if b then document_at (documents new) id else None) is)) has)
+    where
+      no : {b : Bool} → b ≡ false → b ≡ true → ⊥
+      no f t = cc
+
+  -- they are documents of these ids alone
+  pub only_among : (id : Id) → has_id id es ≡ true → is_among ids id ≡ true
+  only_among id has = found_among id (is_among ids id) refl has
+
+module _ (new old : List Op) (ids : List Id) (es : Documents) (sorted : is_sorted id_cmp es ≡ true)
+    (at : (id : Id) → document_at es id ≡ (if is_among ids id then document_at (documents new) id else None)) where
+  joined_at : (id : Id) (b : Bool) → (b ≡ false → last_on new id ≡ last_on old id)
+      → option_or (if b then document_at (documents new) id else None) (cond (not b) (document_at (documents old) id) None) ≡ document_at (documents new) id
+  joined_at id true same = or_none (document_at (documents new) id)
+    where
+      or_none : (o : Option Document) → option_or o None ≡ o
+      or_none None = refl
+      or_none (Some d) = refl
+  joined_at id false same = document_at-documents old id ∙ ap document_of (sym (same refl)) ∙ sym (document_at-documents new id)
+
+  -- with the others as they were they are the documents of all
+  pub refreshed : ((id : Id) → is_among ids id ≡ false → last_on new id ≡ last_on old id) → merged es (without ids (documents old)) ≡ documents new
+  refreshed same =
+      let left = is_sorted-where_key id_cmp (λ i. not (is_among ids i)) (documents old) (true_T _ (is_sorted-documents old)) in
+      same_entries id_cmp nat_list_cmp_total exact_bytes _ _ (in_order-merged es (without ids (documents old)) left) (true_T _ (is_sorted-documents new))
+      (λ id. find-merged es (without ids (documents old)) id
+      ∙ ap (λ o. option_or o (document_at (without ids (documents old)) id)) (at id)
+      ∙ ap (option_or (if is_among ids id then document_at (documents new) id else None)) (find-without ids (documents old) id)
+      ∙ joined_at id (is_among ids id) (same id))
+
+-- ---- the ids of the records behind a point
+
+both_false : (a b : Bool) → (a || b) ≡ false → (a ≡ false) × (b ≡ false)
+both_false true b is = cc
+both_false false b is = (refl, is)
+
+pub ids-more : (rs : List Record) (point i : ℕ) (r : Record) (g : ℤ) (o : Op) (after before : List Id) → i < length (drop point rs) → r ≡ get_or (drop point rs) i r → r ≡ Kept g o
+    → ((id : Id) → is_among after id ≡ (is_among before id || is_on id o))
+    → ((id : Id) → is_among before id ≡ false → last_on (fold after_record (shown rs point) (take i (drop point rs))) id ≡ last_on (shown rs point) id)
+    → (id : Id) → is_among after id ≡ false → last_on (fold after_record (shown rs point) (take (i + 1) (drop point rs))) id ≡ last_on (shown rs point) id
+ids-more rs point i r g o after before lt is kept more so_far id none =
+    let none_here = both_false (is_among before id) (is_on id o) (sym (more id) ∙ none) in
+    ap (λ os. last_on os id) (fold_more after_record (shown rs point) (drop point rs) i r lt ∙ ap (after_record (fold after_record (shown rs point) (take i (drop point rs)))) (sym is ∙ kept))
+    ∙ last_on-add_other (fold after_record (shown rs point) (take i (drop point rs))) o id none_here.1
+    ∙ so_far id none_here.0
+
+pub ids-end : (rs : List Record) (point i : ℕ) → length (drop point rs) ≤ i → fold after_record (shown rs point) (take i (drop point rs)) ≡ operations rs
+ids-end rs point i le =
+    ap (fold after_record (shown rs point)) (take_all i (drop point rs) le)
+    ∙ sym (fold-append after_record [] (take point rs) (drop point rs))
+    ∙ ap (fold after_record []) (take-append-drop point rs)
+
+pub rest-whole : {A : Type 0} (n : ℕ) (xs : List A) → take (length xs - n) (drop n xs) ≡ drop n xs
+rest-whole n xs = take_all (length xs - n) (drop n xs) (omega (arith, length-drop n xs))
+
+-- ---- the documents at ids
+
+pub put_if-sorted : (i : Id) (o : Option Document) (ds : Documents) → is_sorted id_cmp ds ≡ true → is_sorted id_cmp (put_if i o ds) ≡ true
+put_if-sorted i None ds h = h
+put_if-sorted i (Some d) ds h = T_true _ (is_sorted-put id_cmp nat_list_cmp_total i d ds (true_T _ h))
+
+find-put_if : (i : Id) (o : Option Document) (ds : Documents) (q : Id) → document_at (put_if i o ds) q ≡ option_or (if is_id q i then o else None) (document_at ds q)
+find-put_if i None ds q = elim (is_id q i) as (λ b. document_at ds q ≡ option_or (if b then None else None) (document_at ds q)) [ true ↦ refl | false ↦ refl ]
+find-put_if i (Some d) ds q =
+    find-put id_cmp nat_list_cmp_total q i d ds
+    ∙ elim (is_id q i) as (λ b. cond b (Some d) (document_at ds q) ≡ option_or (if b then Some d else None) (document_at ds q)) [ true ↦ refl | false ↦ refl ]
+
+is_equal : (r : Ordering) → is_eq r ≡ true → r ≡ Equal
+is_equal Less is = cc
+is_equal Equal is = refl
+is_equal Greater is = cc
+
+one_at : (a b : Bool) (x y : Option Document) → (b ≡ true → x ≡ y) → option_or (if b then x else None) (if a then y else None) ≡ (if a || b then y else None)
+one_at true true x None same = ap (λ o. option_or o None) (same refl)
+one_at true true x (Some d) same = ap (λ o. option_or o (Some d)) (same refl)
+one_at false true x y same = or_last x ∙ same refl
+  where
+    or_last : (o : Option Document) → option_or o None ≡ o
+    or_last None = refl
+    or_last (Some d) = refl
+one_at true false x y same = refl
+one_at false false x y same = refl
+
+pub put_if-found : (all : Documents) (ids : List Id) (k : ℕ) (i : Id) (ds : Documents) → k < length ids → i ≡ get_or ids k i
+    → ((q : Id) → document_at ds q ≡ (if is_among (take k ids) q then document_at all q else None))
+    → (q : Id) → document_at (put_if i (document_at all i) ds) q ≡ (if is_among (take (k + 1) ids) q then document_at all q else None)
+put_if-found all ids k i ds lt is found q =
+    find-put_if i (document_at all i) ds q
+    ∙ ap (option_or (if is_id q i then document_at all i else None)) (found q)
+    ∙ one_at (is_among (take k ids) q) (is_id q i) (document_at all i) (document_at all q) (λ b. ap (document_at all) (sym (exact_bytes q i (is_equal (id_cmp q i) b))))
+    ∙ ap (λ b. if b then document_at all q else None) (ap (λ (x : Id). is_among (take k ids) q || is_id q x) is ∙ among-more ids k i q lt)

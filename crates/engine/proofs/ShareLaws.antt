@@ -1,0 +1,86 @@
+-- What a part has of its documents.
+use Rattle.std.proofs.Common.{◌≡◌, ◌<◌, ◌≤◌, ℕ, Bool, true, false, List, [], ◌∷◌, length, map, filter, take, Some, refl, sym, ap, ◌∙◌, subst, arith, slice_get, if◌then◌else◌, All, cond}
+use Rattle.std.specs.Prelude.{not, ◌&&◌, ◌||◌, replicate}
+use Rattle.std.proofs.lemmas.List.{take-map, length-map}
+use Rattle.marks.specs.Lists.{zip_with, places}
+use Rattle.segment.proofs.Joins.{length-zip}
+use Rattle.segment.proofs.Steps.{places-below}
+use Rattle.doc.specs.Id.{Id}
+use Rattle.engine.specs.Parts.{chosen, is_among, without}
+use Rattle.engine.proofs.PartLaws.{Item}
+use Rattle.engine.proofs.ChosenLaws.{chosen-places, chosen-counted, chosen-filter, copied}
+use Rattle.engine.proofs.FoundLaws.{each-some}
+
+length-chosen : {A : Type 0} (xs : List A) (bs : List Bool) → length (chosen xs bs) ≤ length xs
+length-chosen [] bs = omega arith
+length-chosen (x ∷ xs) [] = omega arith
+length-chosen (x ∷ xs) (true ∷ bs) = omega (arith, length-chosen xs bs)
+length-chosen (x ∷ xs) (false ∷ bs) = omega (arith, length-chosen xs bs)
+
+module _ (g : Item → Bool) where
+  one_share : (t l : Bool) (x : Item) (ys zs : List Item) → ys ≡ filter g zs → g x ≡ t → (if t && l then x ∷ ys else ys) ≡ filter g (if l then x ∷ zs else zs)
+  one_share true true x ys zs is test = ap (λ ws. x ∷ ws) is ∙ ap (λ b. cond b (x ∷ filter g zs) (filter g zs)) (sym test)
+  one_share true false x ys zs is test = is
+  one_share false true x ys zs is test = is ∙ ap (λ b. cond b (x ∷ filter g zs) (filter g zs)) (sym test)
+  one_share false false x ys zs is test = is
+
+  share-chosen : (docs : List Item) (live : List Bool) → length live ≡ length docs → chosen docs (zip_with (λ (m l : Bool). m && l) (map g docs) live) ≡ filter g (chosen docs live)
+  share-chosen [] live whole = refl
+  share-chosen (x ∷ xs) [] whole = absurd (omega (arith, whole))
+  share-chosen (x ∷ xs) (b ∷ bs) whole = one_share (g x) b x (chosen xs (zip_with (λ (m l : Bool). m && l) (map g xs) bs)) (chosen xs bs) (share-chosen xs bs (omega (arith, whole))) refl
+
+  module _ (docs : List Item) (live : List Bool) (whole : length live ≡ length docs) where
+    -- the marks of those found
+    abbrev pub marks : List Bool
+    marks = zip_with (λ (m l : Bool). m && l) (map g docs) live
+
+    long : length marks ≡ length docs
+    long = length-zip (λ (m l : Bool). m && l) (map g docs) live (length-map docs g ∙ sym whole) ∙ whole
+
+    pub share-total : length (places (λ (b : Bool). b) marks) ≡ length (filter g (chosen docs live))
+    share-total = chosen-counted docs marks long ∙ ap length (share-chosen docs live whole)
+
+    pub share-few : length (places (λ (b : Bool). b) marks) ≤ length docs
+    share-few = subst (λ n. n ≤ length docs) (sym (chosen-counted docs marks long)) (length-chosen docs marks)
+
+    pub share-within : All (λ p. p < length docs) (places (λ (b : Bool). b) marks)
+    share-within = subst (λ n. All (λ p. p < n) (places (λ (b : Bool). b) marks)) long (places-below (λ (b : Bool). b) marks)
+
+    pub share-first : {A : Type 0} (view : A → Item) (n : ℕ) (hs : List A) → map (λ h. Some (view h)) hs ≡ map (λ p. slice_get docs p) (take n (places (λ (b : Bool). b) marks)) → map view hs ≡ take n (filter g (chosen docs live))
+    share-first view n hs is = each-some view hs (take n (filter g (chosen docs live)))
+        (is ∙ sym (take-map (λ p. slice_get docs p) n (places (λ (b : Bool). b) marks))
+        ∙ ap (take n) (chosen-places docs marks long ∙ ap (map (λ y. Some y)) (share-chosen docs live whole))
+        ∙ take-map (λ y. Some y) n (filter g (chosen docs live)))
+
+-- all that are live
+pub live-within : (docs : List Item) (live : List Bool) → length live ≡ length docs → All (λ p. p < length docs) (places (λ (b : Bool). b) live)
+live-within docs live whole = subst (λ n. All (λ p. p < n) (places (λ (b : Bool). b) live)) whole (places-below (λ (b : Bool). b) live)
+
+pub live-all : {A : Type 0} (view : A → Item) (docs : List Item) (live : List Bool) → length live ≡ length docs → (hs : List A) → map (λ h. Some (view h)) hs ≡ map (λ p. slice_get docs p) (places (λ (b : Bool). b) live) → map view hs ≡ chosen docs live
+live-all view docs live whole hs is = each-some view hs (chosen docs live) (is ∙ chosen-places docs live whole)
+
+-- ---- documents taken away
+
+pub none-among : (n : ℕ) (docs : List Item) → n ≡ length docs → replicate n false ≡ map (λ (d : Item). is_among [] d.0) docs
+none-among n docs is = ap (λ m. replicate m false) is ∙ each docs
+  where
+    each : (docs : List Item) → replicate (length docs) false ≡ map (λ (d : Item). is_among [] d.0) docs
+    each [] = refl
+    each (d ∷ ds) = ap (λ bs. false ∷ bs) (each ds)
+
+module _ (ids : List Id) (docs : List Item) (live : List Bool) (whole : length live ≡ length docs) (n : ℕ) (is : n ≡ length docs) where
+  -- the marks of what is left
+  abbrev pub left : List Bool
+  left = zip_with (λ (a b : Bool). a && not b) (zip_with (λ (a b : Bool). a || b) (replicate n false) live) (map (λ (d : Item). is_among ids d.0) docs)
+
+  same : left ≡ zip_with (λ (a b : Bool). a && not b) live (map (λ (d : Item). is_among ids d.0) docs)
+  same = ap (λ (bs : List Bool). zip_with (λ (a b : Bool). a && not b) bs (map (λ (d : Item). is_among ids d.0) docs)) (ap (λ m. zip_with (λ (a b : Bool). a || b) (replicate m false) live) (is ∙ sym whole) ∙ copied live)
+
+  pub left-long : length left ≡ length docs
+  left-long = ap length same ∙ length-zip (λ (a b : Bool). a && not b) live (map (λ (d : Item). is_among ids d.0) docs) (whole ∙ sym (length-map docs (λ (d : Item). is_among ids d.0))) ∙ length-map docs (λ (d : Item). is_among ids d.0)
+
+  pub left-chosen : chosen docs left ≡ without ids (chosen docs live)
+  left-chosen = ap (chosen docs) same ∙ chosen-filter (λ (d : Item). is_among ids d.0) not docs live whole
+
+  pub united-long : length (zip_with (λ (a b : Bool). a || b) (replicate n false) live) ≡ length docs
+  united-long = ap length (ap (λ m. zip_with (λ (a b : Bool). a || b) (replicate m false) live) (is ∙ sym whole) ∙ copied live) ∙ whole

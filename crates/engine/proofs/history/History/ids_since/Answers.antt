@@ -1,0 +1,25 @@
+use Rattle.std.proofs.Common.{◌≡◌, ◌∙◌, ◌<◌, ◌≤◌, ◌-◌, ap, sym, subst, take, drop, length, get_or, List}
+use Rattle.op.specs.declared.record.Record.{Record}
+use Rattle.op.specs.Operations.{last_on}
+use Rattle.engine.proofs.RefreshLaws.{ids-more, ids-end, rest-whole}
+use Rattle.engine.proofs.history.History.ids_since.Goals as goal
+
+-- one operation more
+pub loop-kept-preserved : goal.loop-kept-preserved
+loop-kept-preserved c =
+    let rs = c.args.self.now in
+    let i = c.loop-kept.kept-index in
+    let r = c.kept-item.result in
+    let same : c.deref.result.now ≡ rs = c.deref.ensures.value ∙ c.self.view_is in
+    let rest = ap (λ (xs : List Record). take (length xs - c.args.point) (drop c.args.point xs)) same ∙ rest-whole c.args.point rs in
+    ids-more rs c.args.point i r c.in-Op.field-0 c.in-Op.op c.push_id.new.ids.items c.loop-kept.ids.items
+    (subst (λ (xs : List Record). i < length xs) rest c.loop-kept-test.true) (subst (λ (xs : List Record). r ≡ get_or xs i r) rest c.kept-item.is) c.in-Op.is
+    c.in_ok-push_id-in-Op.ensures c.loop-kept.invariant
+
+pub returns : goal.returns
+returns c =
+    let rs = c.args.self.now in
+    let i = c.loop-kept.kept-index in
+    let same : c.deref.result.now ≡ rs = c.deref.ensures.value ∙ c.self.view_is in
+    let rest = ap (λ (xs : List Record). take (length xs - c.args.point) (drop c.args.point xs)) same ∙ rest-whole c.args.point rs in
+    λ id none. ap (λ os. last_on os id) (sym (ids-end rs c.args.point i (subst (λ (xs : List Record). length xs ≤ i) rest c.loop-kept-test.false))) ∙ c.loop-kept.invariant id none

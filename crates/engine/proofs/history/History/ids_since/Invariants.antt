@@ -1,0 +1,12 @@
+use Rattle.std.proofs.Common.{◌≡◌, take, drop, false}
+use Rattle.std.specs.Prelude.{fold}
+use Rattle.doc.specs.Id.{Id}
+use Rattle.op.specs.Operations.{last_on}
+use Rattle.op.specs.Records.{after_record, shown}
+use Rattle.engine.specs.Parts.{is_among}
+use Rattle.engine.proofs.history.History.ids_since.Given as goal
+
+-- so far, the last operation on each other id is the one of the point
+abbrev pub invariant-loop-kept : goal.invariant-loop-kept
+invariant-loop-kept l = (id : Id) → is_among l.ids.items id ≡ false
+    → last_on (fold after_record (shown l.self l.point) (take l.kept-index (drop l.point l.self))) id ≡ last_on (shown l.self l.point) id

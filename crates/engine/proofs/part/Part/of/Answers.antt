@@ -1,0 +1,10 @@
+use Rattle.std.proofs.Common.{◌∙◌, ap, true}
+use Rattle.std.specs.Prelude.{replicate}
+use Rattle.engine.proofs.ChosenLaws.{chosen-all}
+use Rattle.engine.proofs.part.Part.of.Goals as goal
+
+-- all are live
+pub returns : goal.returns
+returns c =
+    let all = c.in_ok-live.ensures ∙ ap (λ n. replicate n true) c.len.ensures.is in
+    rw (c.in_ok-block-2.ensures.ok, all, chosen-all c.in_ok-block.block.documents) c.in_ok-block.ensures

@@ -1,0 +1,48 @@
+use Rattle.std.proofs.Common.{◌∙◌, ◌&&◌, ◌||◌, not, false, ap, sym, length, List, Bool}
+use Rattle.std.specs.Prelude.{replicate}
+use Rattle.std.specs.Arc.{arc_value}
+use Rattle.std.proofs.lemmas.List.{length-map}
+use Rattle.marks.specs.Lists.{zip_with}
+use Rattle.engine.specs.Answer.{SnapshotData}
+use Rattle.engine.specs.Parts.{is_among, without}
+use Rattle.engine.proofs.PartLaws.{Item}
+use Rattle.engine.proofs.ShareLaws.{none-among, left-long, left-chosen, united-long}
+use Rattle.engine.proofs.part.Part.without.Goals as goal
+
+-- none is marked yet
+pub mark_ids-requires : goal.mark_ids-requires
+mark_ids-requires c =
+    let docs = (arc_value c.self.inside.block).documents in
+    let len = rw c.deref.ensures at c.len-len.ensures.is in
+    rw (c.in_ok-dead.ensures, c.deref-2.ensures) (none-among c.len-len.result docs len)
+
+pub subtract-requires : goal.subtract-requires
+subtract-requires c =
+    let docs = (arc_value c.self.inside.block).documents in
+    let live = c.self.inside.live in
+    let len = rw c.deref.ensures at c.len-len.ensures.is in
+    let dead = rw c.deref-2.ensures at c.mark_ids.ensures in
+    let united = c.unite.ensures ∙ ap (λ (bs : List Bool). zip_with (λ (a b : Bool). a || b) bs live) c.in_ok-live.ensures in
+    ap length dead ∙ length-map docs (λ (d : Item). is_among c.args.ids.now d.0) ∙ sym (ap length united ∙ united-long c.args.ids.now docs live c.self.invariant.whole c.len-len.result len)
+
+pub invariant_of-result : goal.invariant_of-result
+invariant_of-result c =
+    let docs = (arc_value c.self.inside.block).documents in
+    let live = c.self.inside.live in
+    let len = rw c.deref.ensures at c.len-len.ensures.is in
+    let dead = rw c.deref-2.ensures at c.mark_ids.ensures in
+    let united = c.unite.ensures ∙ ap (λ (bs : List Bool). zip_with (λ (a b : Bool). a || b) bs live) c.in_ok-live.ensures in
+    let marks = c.subtract.ensures ∙ ap (λ (bs : List Bool). zip_with (λ (a b : Bool). a && not b) bs c.mark_ids.new.marks) united ∙ ap (λ (bs : List Bool). zip_with (λ (a b : Bool). a && not b) (zip_with (λ (a b : Bool). a || b) (replicate c.len-len.result false) live) bs) dead in
+    rw (c.in_ok-block.ensures, marks) (record { sorted = c.self.invariant.sorted; whole = left-long c.args.ids.now docs live c.self.invariant.whole c.len-len.result len })
+
+-- those that are left
+pub returns : goal.returns
+returns c =
+    let docs = (arc_value c.self.inside.block).documents in
+    let live = c.self.inside.live in
+    let len = rw c.deref.ensures at c.len-len.ensures.is in
+    let dead = rw c.deref-2.ensures at c.mark_ids.ensures in
+    let united = c.unite.ensures ∙ ap (λ (bs : List Bool). zip_with (λ (a b : Bool). a || b) bs live) c.in_ok-live.ensures in
+    let marks = c.subtract.ensures ∙ ap (λ (bs : List Bool). zip_with (λ (a b : Bool). a && not b) bs c.mark_ids.new.marks) united ∙ ap (λ (bs : List Bool). zip_with (λ (a b : Bool). a && not b) (zip_with (λ (a b : Bool). a || b) (replicate c.len-len.result false) live) bs) dead in
+    rw (c.in_ok-block.ensures, marks, left-chosen c.args.ids.now docs live c.self.invariant.whole c.len-len.result len)
+    (ap (λ (s : SnapshotData). let t : SnapshotData = record { mapping = s.mapping; documents = without c.args.ids.now s.documents } in t) c.self.view_is)

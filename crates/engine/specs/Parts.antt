@@ -1,0 +1,72 @@
+-- Documents that stand in several parts.
+-- For proofs alone: no public contract rests on it.
+use Rattle.std.specs.Prelude.{◌≡◌, ℕ, ◌≤◌, ◌+◌, Bool, true, not, List, [], ◌∷◌, ◌<◌, drop, fold, is_some, if◌then◌else◌, length, map, replicate}
+use Rattle.doc.specs.Mapping.{MappingData}
+use Rattle.engine.specs.Answer.{SnapshotData}
+use Rattle.std.specs.List.{AllByRecursion, list_any}
+use Rattle.std.specs.FinMap.Entries.{put, where_key, is_sorted}
+use Rattle.doc.specs.Id.{Id, id_cmp, is_id}
+use Rattle.op.specs.Documents.{Document, Documents, document_at}
+
+-- the elements whose mark is true
+abbrev pub chosen : {A : Type 0} → List A → List Bool → List A
+chosen [] bs = []
+chosen (x ∷ xs) [] = []
+chosen (x ∷ xs) (b ∷ bs) = if b then x ∷ chosen xs bs else chosen xs bs
+
+-- the documents of both; where both have an id, that of the first
+abbrev pub merged : Documents → Documents → Documents
+merged [] es = es
+merged (d ∷ ds) es = put id_cmp d.0 d.1 (merged ds es)
+
+-- the first document of both, and how many of each it stands for
+pub record IsNext (ds es : Documents) (d : Id × Document) (i j : ℕ) : Type 0 where
+  pub split : merged ds es ≡ d ∷ merged (drop i ds) (drop j es)
+  pub within_first : i ≤ length ds
+  pub within_second : j ≤ length es
+  pub goes_on : 0 < i + j
+
+-- the documents of all parts
+abbrev pub woven : List Documents → Documents
+woven ps = fold merged [] ps
+
+-- whether one of the documents has the id
+abbrev pub has_id : Id → Documents → Bool
+has_id id ds = is_some (document_at ds id)
+
+-- in how many parts the id stands
+abbrev pub times : Id → List Documents → ℕ
+times id [] = 0
+times id (p ∷ ps) = (if has_id id p then 1 else 0) + times id ps
+
+-- each part is in order, and no id stands in two
+pub record AreApart (ps : List Documents) : Type 0 where
+  pub sorted : AllByRecursion (λ ds. is_sorted id_cmp ds ≡ true) ps
+  pub once : (id : Id) → times id ps ≤ 1
+
+-- the parts' documents
+abbrev pub documents_of_parts : List SnapshotData → List Documents
+documents_of_parts ps = map (λ p. p.documents) ps
+
+-- each is in order
+abbrev pub AllInOrder : List Documents → Type 0
+AllInOrder ps = AllByRecursion (λ ds. is_sorted id_cmp ds ≡ true) ps
+
+-- parts of one snapshot
+pub record AreParts (m : MappingData) (ps : List SnapshotData) : Type 0 where
+  pub mappings : map (λ p. p.mapping) ps ≡ replicate (length ps) m
+  pub apart : AreApart (documents_of_parts ps)
+  pub few : length ps ≤ 64
+
+-- documents in order, each with a mark
+pub record IsPart (ds : Documents) (live : List Bool) : Type 0 where
+  pub sorted : is_sorted id_cmp ds ≡ true
+  pub whole : length live ≡ length ds
+
+-- whether the id is one of these
+abbrev pub is_among : List Id → Id → Bool
+is_among ids id = list_any (is_id id) ids
+
+-- the documents that have none of these ids
+abbrev pub without : List Id → Documents → Documents
+without ids ds = where_key id_cmp (λ i. not (is_among ids i)) ds

@@ -1,0 +1,216 @@
+//! Documents with their segment.
+ghost use Rattle.std.specs.Prelude.{◌≡◌, ◌<◌, ◌^◌, ◌&&◌, ◌||◌, Bool, All, Some, [], true, false, map, length, slice_get, slice_index_or, IfOk, IfErr};
+ghost use Rattle.std.specs.List.{AllByRecursion};
+ghost use Rattle.std.specs.declared.cmp.Ordering.TheVariants.{Equal};
+ghost use Rattle.std.specs.Arc.{arc_value};
+ghost use Rattle.std.specs.FinMap.Entries.{is_sorted};
+ghost use Rattle.doc.specs.Id.{Id, id_cmp, is_id};
+ghost use Rattle.op.specs.Documents.{Document};
+ghost use Rattle.query.specs.View.{query_view};
+ghost use Rattle.marks.specs.Lists.{zip_with, places};
+ghost use Rattle.engine.specs.Answer.{is_found};
+ghost use Rattle.engine.specs.Entry.{entry_view};
+ghost use Rattle.engine.specs.Parts.{is_among};
+ghost use Rattle.engine.specs.Shown.{shown_view, read_under};
+
+use crate::documents::Entry;
+use doc::{Doc, DocFault, DocId, Mapping, Source};
+use marks::Marks;
+use query::Query;
+use search::find;
+use segment::Segment;
+use std::alloc::{AllocError, Global};
+use std::cmp::Ordering;
+use std::marker::Model;
+use std::sync::Arc;
+
+/// No segment has as many documents.
+const MAX_DOCUMENTS: usize = 4_294_967_296;
+
+/// A document that searches show.
+#[derive(Drop)]
+pub(crate) struct Shown {
+    id: DocId,
+    seq: u64,
+    term: u64,
+    version: u64,
+    source: Source,
+}
+
+/// Documents in byte order of their ids, and the segment of their sources. It never changes.
+#[derive(Drop)]
+pub(crate) struct Block {
+    documents: Vec<Shown>,
+    segment: Segment,
+}
+
+impl Model for Block {
+    ghost use Rattle.std.specs.Prelude.{◌≡◌, map};
+    ghost use Rattle.engine.specs.Answer.{SnapshotData};
+    ghost use Rattle.engine.specs.Shown.{shown_view, IsBlock};
+
+    ghost Value = { SnapshotData };
+
+    ghost view = { λ b. record { mapping = b.segment.mapping; documents = map shown_view b.documents.items } };
+
+    ghost invariant = { λ b. IsBlock b.documents.items b.segment.sources };
+}
+
+impl Block {
+    /// The documents of entries, read under the mapping.
+    pub(crate) fn of(
+        alloc: Global,
+        mapping: &Arc<Mapping, Global>,
+        entries: &[Entry<'_>],
+    ) -> Result<Block, AllocError>
+        requires { is_sorted id_cmp (map entry_view entries.now) ≡ true }
+        ensures { IfOk result (λ b. b ≡ record { mapping = arc_value mapping.now; documents = map entry_view entries.entry.now }) }
+    {
+        let documents = shown_of(alloc, entries)?;
+        let segment = segment_of(alloc, mapping, entries)?;
+        Ok(Block { documents, segment })
+    }
+
+    /// How many documents there are.
+    pub(crate) fn len(&self) -> usize
+        ensures is { result ≡ length self.now.documents }
+        ensures few { result < 2 ^ 32 }
+        ensures sorted { is_sorted id_cmp self.now.documents ≡ true }
+    {
+        self.segment.len()
+    }
+
+    /// The places of the live documents that the query means, rising.
+    pub(crate) fn find(
+        &self,
+        alloc: Global,
+        live: &Marks,
+        query: &Query,
+    ) -> Result<Vec<u32>, AllocError>
+        requires { length live.now ≡ length self.now.documents }
+        ensures { IfOk result (λ v. v.items ≡ places (λ b. b) (zip_with (λ m l. m && l) (map (is_found self.now.mapping (query_view query.now)) self.now.documents) live.now)) }
+    {
+        find(alloc, &self.segment, live, query)
+    }
+
+    /// The documents at some places.
+    pub(crate) fn entries_at<'a>(
+        &'a self,
+        alloc: Global,
+        found: &[u32],
+    ) -> Result<Vec<Entry<'a>>, AllocError>
+        requires { All (λ p. p < length self.now.documents) found.now }
+        ensures { IfOk result (λ v. map (λ e. Some (entry_view e)) v.items ≡ map (λ p. slice_get self.now.documents p) found.now) }
+    {
+        let mut entries = Vec::new(alloc);
+        for place in found {
+            let shown = &self.documents[*place as usize];
+            entries.push(entry_of(shown))?;
+        }
+        Ok(entries)
+    }
+
+    /// Marks the documents that have one of the ids.
+    pub(crate) fn mark_ids(&self, ids: &[DocId], marks: &mut Marks)
+        requires { marks.old ≡ map (λ d. is_among [] d.0) self.now.documents }
+        ensures { marks.new ≡ map (λ d. is_among ids.now d.0) self.now.documents }
+    {
+        for id in ids {
+            self.mark_id(id, marks);
+        }
+    }
+
+    /// Marks the document that has the id, too.
+    fn mark_id(&self, id: &DocId, marks: &mut Marks)
+        requires { length marks.old ≡ length self.now.documents }
+        ensures { (t : Id × Document → Bool) → marks.old ≡ map t self.now.documents → marks.new ≡ map (λ d. t d || is_id d.0 id.now) self.now.documents }
+    {
+        let _few = self.len();
+        if let Ok(at) = place_of(&self.documents, id) {
+            marks.set(at as u32);
+        }
+    }
+}
+
+/// The place of the document with the id, or where it would go.
+fn place_of(documents: &[Shown], id: &DocId) -> Result<usize, usize>
+    requires { is_sorted id_cmp (map shown_view documents.now) ≡ true }
+    ensures within { IfOk result (λ at. at < length documents.now) }
+    ensures found { IfOk result (λ at. (d : Shown) → id_cmp (slice_index_or documents.now at d).id id.now ≡ Equal) }
+    ensures absent { IfErr result (λ _. AllByRecursion (λ d. is_id d.id id.now ≡ false) documents.now) }
+{
+    documents.binary_search_by(
+        |shown: &Shown| -> Ordering
+            ensures { result ≡ id_cmp shown.now.id id.entry.now }
+        { shown.id.order(id) },
+    )
+}
+
+/// A document where it stands.
+fn entry_of(shown: &Shown) -> Entry<'_>
+    ensures { entry_view result ≡ shown_view shown.now }
+{
+    Entry {
+        id: &shown.id,
+        seq: shown.seq,
+        term: shown.term,
+        version: shown.version,
+        source: &shown.source,
+    }
+}
+
+/// The documents of entries.
+fn shown_of(alloc: Global, entries: &[Entry<'_>]) -> Result<Vec<Shown>, AllocError>
+    ensures documents { IfOk result (λ v. map shown_view v.items ≡ map entry_view entries.entry.now) }
+    ensures sources { IfOk result (λ v. map (λ s. s.source) v.items ≡ map (λ e. e.source.now) entries.entry.now) }
+{
+    let mut documents = Vec::new(alloc);
+    for entry in entries {
+        documents.push(Shown {
+            id: entry.id.copy(alloc)?,
+            seq: entry.seq,
+            term: entry.term,
+            version: entry.version,
+            source: entry.source.copy(alloc)?,
+        })?;
+    }
+    Ok(documents)
+}
+
+/// The segment of the sources of entries. Of 2^32 or more there is none.
+fn segment_of(
+    alloc: Global,
+    mapping: &Arc<Mapping, Global>,
+    entries: &[Entry<'_>],
+) -> Result<Segment, AllocError>
+    ensures { IfOk result (λ s. s ≡ record { mapping = arc_value mapping.now; sources = map (λ e. e.source.now) entries.entry.now }) }
+{
+    let docs = docs_of(alloc, mapping, entries)?;
+    if docs.len() >= MAX_DOCUMENTS {
+        return Err(AllocError);
+    }
+    let segment = Segment::build(alloc, mapping, &docs)?;
+    Ok(segment)
+}
+
+/// The documents of entries, read under the mapping.
+fn docs_of(alloc: Global, mapping: &Mapping, entries: &[Entry<'_>]) -> Result<Vec<Doc>, AllocError>
+    ensures { IfOk result (λ v. v.items ≡ map (λ e. read_under mapping.now e.source.now) entries.entry.now) }
+{
+    let mut docs = Vec::new(alloc);
+    for entry in entries {
+        docs.push(doc_of(alloc, mapping, entry.source)?)?;
+    }
+    Ok(docs)
+}
+
+/// The document of a text that is kept: with its values where it fits the mapping, and else without.
+fn doc_of(alloc: Global, mapping: &Mapping, source: &Source) -> Result<Doc, AllocError>
+    ensures { IfOk result (λ d. d ≡ read_under mapping.now source.now) }
+{
+    match Doc::read(alloc, mapping, source.as_str().as_bytes()) {
+        Ok(doc) => Ok(doc),
+        Err(DocFault::NoMemory) => Err(AllocError),
+        Err(_) => Doc::bare(alloc, mapping, source),
+    }
+}
