@@ -21,3 +21,5 @@ mod trackers;
 mod translogs;
 #[cfg(test)]
 mod variants;
+#[cfg(test)]
+mod worlds;
