@@ -6,12 +6,7 @@
 # INDEXD_PROGRAM=FILE measures the executable FILE in place of crates/indexd/out/indexd, which ./indexd builds first where it has to. Needs Linux and python3.
 set -euo pipefail
 
-root=$(dirname -- "$(dirname -- "$(readlink -f -- "${BASH_SOURCE[0]}")")")
-program=${INDEXD_PROGRAM:-}
-if [ -z "$program" ]; then
-    "$root/indexd" replay - </dev/null
-    program=$root/crates/indexd/out/indexd
-fi
+. "$(dirname -- "$(readlink -f -- "${BASH_SOURCE[0]}")")/program.sh"
 requests=${1:-20000}
 if ! [[ $requests =~ ^[1-9][0-9]{2,7}$ ]]; then
     echo "bench/http.sh: 100 requests or more are wanted, and not $requests" >&2

@@ -7,12 +7,7 @@
 # executable FILE in place of crates/indexd/out/indexd, which ./indexd builds first where it has to. Needs GNU time.
 set -euo pipefail
 
-root=$(dirname -- "$(dirname -- "$(readlink -f -- "${BASH_SOURCE[0]}")")")
-program=${INDEXD_PROGRAM:-}
-if [ -z "$program" ]; then
-    "$root/indexd" replay - </dev/null
-    program=$root/crates/indexd/out/indexd
-fi
+. "$(dirname -- "$(readlink -f -- "${BASH_SOURCE[0]}")")/program.sh"
 folder=$(mktemp -d)
 trap 'rm -rf -- "$folder"' EXIT
 

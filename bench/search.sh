@@ -8,12 +8,7 @@
 # INDEXD_PROGRAM=FILE measures the executable FILE in place of crates/indexd/out/indexd, which ./indexd builds first where it has to. Needs Linux and python3.
 set -euo pipefail
 
-root=$(dirname -- "$(dirname -- "$(readlink -f -- "${BASH_SOURCE[0]}")")")
-program=${INDEXD_PROGRAM:-}
-if [ -z "$program" ]; then
-    "$root/indexd" replay - </dev/null
-    program=$root/crates/indexd/out/indexd
-fi
+. "$(dirname -- "$(readlink -f -- "${BASH_SOURCE[0]}")")/program.sh"
 [ "$#" -gt 0 ] || set -- 10000 100000
 for count in "$@"; do
     if ! [[ $count =~ ^[1-9][0-9]{3,6}$ ]]; then
