@@ -1,7 +1,7 @@
 #!/bin/bash
 # bench/read.sh [N]: how fast documents and queries are read, words are cut, and documents are matched, over N product documents
 # (10000 by default) of some 300 bytes and N queries, each a `bool` of 20 clauses; and how fast 100,000 records of such documents
-# are appended to a translog in memory, which is then opened again.
+# are appended to a translog in memory, which is then opened again; and what marking a number in a tracker takes.
 #
 # Prints a line for each of `Doc::read`, `tokens` over the same lines, Python's json.loads over them as a common yardstick, `Query::read`,
 # `Query::matches` with one such query over all documents, `Translog::append` (each record is prepared too) and `Translog::reopen`:
@@ -114,3 +114,11 @@ bytes=$("$program" reopened count <"$folder/lines")
 echo "$documents records in a translog of $bytes bytes"
 measure_each "Translog::append" "$folder/lines" "$program" appended time
 measure "Translog::reopen" "$program" reopened time
+
+# Ten million numbers in a tracker, without the start of the program.
+best=""
+for run in 1 2 3; do
+    micros=$("$program" marks time | awk 'END { print $1 }')
+    if [ -z "$best" ] || [ "$micros" -lt "$best" ]; then best=$micros; fi
+done
+awk -v micros="$best" 'BEGIN { printf "%-14s %.1f ns a number (%.3f s)\n", "Tracker::mark", micros / 10000, micros / 1e6 }'

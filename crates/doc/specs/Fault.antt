@@ -18,8 +18,8 @@ pub data Fault : Type 0 where
 
 -- nothing for want of memory
 abbrev pub fault_of : DocFault → Option Fault
-fault_of UnknownType = Some unknown_type
-fault_of BadName = Some bad_name
+fault_of (UnknownType field) = Some unknown_type
+fault_of (BadName key) = Some bad_name
 fault_of BadDynamic = Some bad_dynamic
 fault_of NoMemory = None
 fault_of NotJson = Some not_json

@@ -6,13 +6,13 @@ ghost use Rattle.doc.specs.Fault.{fault_of, name_of};
 use std::alloc::{AllocError, AllocFailed};
 use thiserror::Error;
 
-/// A refusal of a mapping, a document or an id. A field's name stands beside the fault that concerns it.
+/// A refusal of a mapping, a document or an id. The name of the field or key that it concerns stands beside it.
 #[derive(Debug, Drop, Error)]
 pub enum DocFault {
-    #[error("a field has no type, or one that isn't known")]
-    UnknownType,
-    #[error("a name isn't allowed in a mapping")]
-    BadName,
+    #[error("field {0} has no type, or none of keyword, text, long and boolean")]
+    UnknownType(String),
+    #[error("the key {0} isn't allowed in a mapping")]
+    BadName(String),
     #[error("`dynamic` is neither \"strict\" nor false")]
     BadDynamic,
     #[error("out of memory")]
@@ -41,8 +41,8 @@ impl DocFault {
         ensures { MatchOption (fault_of self.now) (result.now ≡ codes "NoMemory") (λ f. result.now ≡ name_of f) }
     {
         match self {
-            DocFault::UnknownType => "UnknownType",
-            DocFault::BadName => "BadName",
+            DocFault::UnknownType(_) => "UnknownType",
+            DocFault::BadName(_) => "BadName",
             DocFault::BadDynamic => "BadDynamic",
             DocFault::NoMemory => "NoMemory",
             DocFault::NotJson => "NotJson",

@@ -1,12 +1,12 @@
 //! Mappings.
-ghost use Rattle.std.specs.Prelude.{◌≡◌, ◌==◌, not, nat_lt, codes, option_map, length, IfOk};
+ghost use Rattle.std.specs.Prelude.{◌≡◌, ◌==◌, not, nat_lt, codes, option_map, length, IfOk, IfSome};
 ghost use Rattle.std.specs.List.{list_all};
 ghost use Rattle.serde_json.specs.Data.{no_members, Data, Members};
 ghost use Rattle.serde_json.specs.Find.{get};
 ghost use Rattle.serde_json.specs.Events.{members_len};
 ghost use Rattle.serde_json.specs.View.{view, members_view};
 ghost use Rattle.doc.specs.Outcome.{Gives};
-ghost use Rattle.doc.specs.Fault.{fault_of, bad_name, too_many_fields};
+ghost use Rattle.doc.specs.Fault.{fault_of, bad_name as bad_name_of, unknown_type as unknown_type_of, too_many_fields};
 ghost use Rattle.doc.specs.Name.{is_name as name_test};
 ghost use Rattle.doc.specs.Fields.{Fields, kind_at};
 ghost use Rattle.doc.specs.FieldView.{field_view, fields_view, members_or_none};
@@ -64,7 +64,7 @@ impl Mapping {
     {
         let top = top_of(value)?;
         let properties = properties_of(top.get("properties"))?;
-        check_top_keys(top)?;
+        check_top_keys(alloc, top)?;
         let strict = strict_of(top.get("dynamic"))?;
         check_count(properties)?;
         let fields = fields_of(alloc, properties)?;
@@ -171,22 +171,31 @@ fn properties_of(value: Option<&Value>) -> Result<Option<&Map<String, Value>>, D
 }
 
 #[tactic(auto, unfolding(crate::specs::Mapping::top_keys_of))]
-fn check_top_keys(top: &Value) -> Result<(), DocFault>
+fn check_top_keys(alloc: Global, top: &Value) -> Result<(), DocFault>
     ensures { Gives fault_of (λ u. u) result (spec.top_keys_of (view top.now)) }
 {
-    check_known_keys(members_of(top)?)
+    check_known_keys(alloc, members_of(top)?)
 }
 
-fn check_known_keys(members: &Map<String, Value>) -> Result<(), DocFault>
+fn check_known_keys(alloc: Global, members: &Map<String, Value>) -> Result<(), DocFault>
     ensures { Gives fault_of (λ u. u) result
-        (spec.require (spec.all_keys spec.is_top_key (members_view members.now.entries)) bad_name) }
+        (spec.require (spec.all_keys spec.is_top_key (members_view members.now.entries)) bad_name_of) }
 {
     for (name, _) in members {
         if !is_top_key(name.as_str()) {
-            return Err(DocFault::BadName);
+            return Err(bad_name(alloc, name.as_str()));
         }
     }
     Ok(())
+}
+
+fn bad_name(alloc: Global, name: &str) -> DocFault
+    ensures { IfSome (fault_of result) (λ f. f ≡ bad_name_of) }
+{
+    match String::from_str(alloc, name) {
+        Ok(name) => DocFault::BadName(name),
+        Err(_) => DocFault::NoMemory,
+    }
 }
 
 fn is_top_key(name: &str) -> bool
@@ -260,45 +269,46 @@ fn read_fields(alloc: Global, members: &Map<String, Value>) -> Result<Vec<Field>
 fn field_of(alloc: Global, name: &str, value: &Value) -> Result<Field, DocFault>
     ensures { Gives fault_of field_view result (spec.field_of (name.now, view value.now)) }
 {
-    let kind = kind_of(name, value)?;
+    let kind = kind_of(alloc, name, value)?;
     let name = String::from_str(alloc, name)?;
     Ok(Field { name, kind })
 }
 
 #[tactic(auto, unfolding(crate::specs::Mapping::kind_of))]
-fn kind_of(name: &str, value: &Value) -> Result<Kind, DocFault>
+fn kind_of(alloc: Global, name: &str, value: &Value) -> Result<Kind, DocFault>
     ensures { Gives fault_of (λ k. k) result (spec.kind_of name.now (view value.now)) }
 {
     if !is_name(name) {
-        return Err(DocFault::BadName);
+        return Err(bad_name(alloc, name));
     }
     let members = members_of(value)?;
-    check_type_keys(members)?;
-    type_of(value.get("type"))
+    check_type_keys(alloc, members)?;
+    type_of(alloc, name, value.get("type"))
 }
 
-fn check_type_keys(members: &Map<String, Value>) -> Result<(), DocFault>
+fn check_type_keys(alloc: Global, members: &Map<String, Value>) -> Result<(), DocFault>
     ensures { Gives fault_of (λ u. u) result
-        (spec.require (spec.all_keys spec.is_type_key (members_view members.now.entries)) bad_name) }
+        (spec.require (spec.all_keys spec.is_type_key (members_view members.now.entries)) bad_name_of) }
 {
     for (name, _) in members {
         if name.as_str() != "type" {
-            return Err(DocFault::BadName);
+            return Err(bad_name(alloc, name.as_str()));
         }
     }
     Ok(())
 }
 
-fn type_of(value: Option<&Value>) -> Result<Kind, DocFault>
+/// The kind that a field's type names.
+fn type_of(alloc: Global, field: &str, value: Option<&Value>) -> Result<Kind, DocFault>
     ensures { Gives fault_of (λ k. k) result (spec.type_of (option_map (λ v. view v.now) value.entry)) }
 {
     match value {
-        Some(Value::String(text)) => kind_named(text.as_str()),
-        _ => Err(DocFault::UnknownType),
+        Some(Value::String(text)) => kind_named(alloc, field, text.as_str()),
+        _ => Err(unknown_type(alloc, field)),
     }
 }
 
-fn kind_named(text: &str) -> Result<Kind, DocFault>
+fn kind_named(alloc: Global, field: &str, text: &str) -> Result<Kind, DocFault>
     ensures { Gives fault_of (λ k. k) result (spec.kind_named text.now) }
 {
     match text {
@@ -306,7 +316,16 @@ fn kind_named(text: &str) -> Result<Kind, DocFault>
         "text" => Ok(Kind::Text),
         "long" => Ok(Kind::Long),
         "boolean" => Ok(Kind::Boolean),
-        _ => Err(DocFault::UnknownType),
+        _ => Err(unknown_type(alloc, field)),
+    }
+}
+
+fn unknown_type(alloc: Global, field: &str) -> DocFault
+    ensures { IfSome (fault_of result) (λ f. f ≡ unknown_type_of) }
+{
+    match String::from_str(alloc, field) {
+        Ok(field) => DocFault::UnknownType(field),
+        Err(_) => DocFault::NoMemory,
     }
 }
 

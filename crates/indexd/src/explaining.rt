@@ -1,13 +1,16 @@
 //! Why a line is refused, in words: what stands beside the name of the refusal for whoever wrote the line.
 
+use crate::command::{Command, LineWrite, command_of};
 use crate::refusal::Refusal;
-use doc::{DocFault, Kind, Mapping};
+use doc::{DocFault, DocId, Kind, Mapping};
+use engine::Last;
 use master::MasterFault;
 use query::QueryFault;
 use replica::CopyFault;
 use serde_json::Value;
 use std::alloc::{AllocError, Global};
 use std::str;
+use world::World;
 
 /// How many characters of a value are shown.
 const SHOWN: usize = 60;
@@ -35,12 +38,22 @@ const FORMS: [(&str, &str); 16] = [
     ),
 ];
 
-/// What is wrong with a line that was refused.
+/// What is wrong with a line that was refused, in one line; the index is as it was before it.
 pub(crate) fn reason(
     alloc: Global,
     refusal: &Refusal,
     line: &[u8],
-    mapping: Option<&Mapping>,
+    index: Option<&World>,
+) -> Result<String, AllocError> {
+    let why = refused_for(alloc, refusal, line, index)?;
+    one_line(alloc, &why)
+}
+
+fn refused_for(
+    alloc: Global,
+    refusal: &Refusal,
+    line: &[u8],
+    index: Option<&World>,
 ) -> Result<String, AllocError> {
     match refusal {
         Refusal::BadLine => bad_line(alloc, line),
@@ -49,9 +62,9 @@ pub(crate) fn reason(
         Refusal::BadCount => text(alloc, "an index begins with 1 to 5 copies"),
         Refusal::NoSuchCopy => text(alloc, "there is no such copy"),
         Refusal::NoSuchMessage => text(alloc, "no message has that number yet"),
-        Refusal::Doc(fault) => doc_reason(alloc, fault, line, mapping),
+        Refusal::Doc(fault) => doc_reason(alloc, fault, line, index),
         Refusal::Query(fault) => query_reason(alloc, fault, line),
-        Refusal::Copy(fault) => copy_reason(alloc, fault, line),
+        Refusal::Copy(fault) => copy_reason(alloc, fault, line, index),
         Refusal::Master(fault) => master_reason(alloc, fault, line),
         Refusal::NoMemory => text(alloc, "out of memory"),
     }
@@ -115,11 +128,11 @@ fn doc_reason(
     alloc: Global,
     fault: &DocFault,
     line: &[u8],
-    mapping: Option<&Mapping>,
+    index: Option<&World>,
 ) -> Result<String, AllocError> {
     match fault {
         DocFault::NotJson => not_json(alloc, line),
-        DocFault::WrongValue(field) => wrong_value(alloc, field, line, mapping),
+        DocFault::WrongValue(field) => wrong_value(alloc, field, line, index),
         DocFault::TooLarge => {
             let len = json_of(line).len();
             format!(in alloc; "the document has {len} bytes; at most 65,536 are taken")
@@ -144,7 +157,7 @@ fn wrong_value(
     alloc: Global,
     field: &str,
     line: &[u8],
-    mapping: Option<&Mapping>,
+    index: Option<&World>,
 ) -> Result<String, AllocError> {
     let value = match Value::from_str(alloc, json_of(line)) {
         Ok(value) => value,
@@ -154,8 +167,8 @@ fn wrong_value(
         Some(found) => cut(alloc, &found.to_string(alloc)?)?,
         None => text(alloc, "a value")?,
     };
-    let kind = match mapping {
-        Some(mapping) => mapping.kind(field),
+    let kind = match index {
+        Some(world) => world.mapping().kind(field),
         None => None,
     };
     match kind {
@@ -191,18 +204,14 @@ fn query_reason(alloc: Global, fault: &QueryFault, line: &[u8]) -> Result<String
     format!(in alloc; "{fault}")
 }
 
-fn copy_reason(alloc: Global, fault: &CopyFault, line: &[u8]) -> Result<String, AllocError> {
+fn copy_reason(
+    alloc: Global,
+    fault: &CopyFault,
+    line: &[u8],
+    index: Option<&World>,
+) -> Result<String, AllocError> {
     match fault {
-        CopyFault::VersionConflict => {
-            if line.starts_with(b"create") {
-                text(alloc, "the document is there already")
-            } else {
-                text(
-                    alloc,
-                    "the document isn't there, or its last change has other numbers; `get` shows them",
-                )
-            }
-        }
+        CopyFault::VersionConflict => conflict(alloc, line, index),
         CopyFault::NotPrimary => text(
             alloc,
             "the copy isn't the primary; a copy that was restarted has to be promoted again",
@@ -222,6 +231,34 @@ fn copy_reason(alloc: Global, fault: &CopyFault, line: &[u8]) -> Result<String, 
         CopyFault::WrongAddress => text(alloc, "the message is to the master, which tears nothing"),
         _ => format!(in alloc; "{fault}"),
     }
+}
+
+/// What a condition met: the numbers of the document's last change.
+fn conflict(alloc: Global, line: &[u8], index: Option<&World>) -> Result<String, AllocError> {
+    let Some(Command::Write(copy, id, change)) = command_of(line) else {
+        return text(alloc, "the document's last change has other numbers");
+    };
+    let Some(Last { seq, term, .. }) = live_at(alloc, index, copy, id) else {
+        return text(alloc, "the document isn't there");
+    };
+    match change {
+        LineWrite::Index(_, Some(wanted)) | LineWrite::Delete(Some(wanted)) => {
+            let (wanted_seq, wanted_term) = (wanted.seq, wanted.term);
+            format!(in alloc;
+                "the document's last change has number {seq} of term {term}, and not {wanted_seq} of term {wanted_term}"
+            )
+        }
+        _ => format!(in alloc;
+            "the document is there already; its last change has number {seq} of term {term}"
+        ),
+    }
+}
+
+/// The last change of a document that a copy has.
+fn live_at(alloc: Global, index: Option<&World>, copy: u64, id: &str) -> Option<Last> {
+    let copy = index?.copy(u32::try_from(copy).ok()?)?;
+    let id = DocId::new(alloc, id).ok()?;
+    copy.last(&id).filter(|last| last.live)
 }
 
 fn master_reason(alloc: Global, fault: &MasterFault, line: &[u8]) -> Result<String, AllocError> {
@@ -253,6 +290,20 @@ fn json_of(line: &[u8]) -> &str {
         },
         None => "",
     }
+}
+
+/// A text with what would break its line escaped.
+fn one_line(alloc: Global, whole: &str) -> Result<String, AllocError> {
+    let mut escaped = String::new(alloc);
+    for c in whole.chars() {
+        if c.is_control() || c == '\u{2028}' || c == '\u{2029}' {
+            let code = c as u32;
+            escaped.push_str(&format!(in alloc; "\\u{{{code:x}}}")?)?;
+        } else {
+            escaped.push(c)?;
+        }
+    }
+    Ok(escaped)
 }
 
 /// The first characters of a text.

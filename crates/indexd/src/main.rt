@@ -3,6 +3,8 @@
 
 mod command;
 mod command_line;
+mod connections;
+mod desk;
 mod explaining;
 mod fault;
 mod index_name;
@@ -23,31 +25,44 @@ use std::io::{BufReader, BufWriter, ErrorKind, IsTerminal};
 use std::process::ExitCode;
 use std::{env, io};
 
-fn start(rt: &HostRuntime) -> io::Result<u8> {
-    let alloc = rt.alloc();
-    let words: Vec<String> = env::args(rt)?.collect(alloc)?;
-    let terminals = Terminals {
+fn words_of(rt: &HostRuntime) -> io::Result<Vec<String>> {
+    Ok(env::args(rt)?.collect(rt.alloc())?)
+}
+
+fn terminals_of(rt: &HostRuntime) -> Terminals {
+    Terminals {
         output: rt.stdout().is_terminal(),
         errors: rt.stderr().is_terminal(),
-    };
-    let mut input = BufReader::new(alloc, rt.reader())?;
-    let mut output = BufWriter::new(alloc, io::writer(rt))?;
-    let mut errors = rt.stderr();
-    let status = program(rt, &words, terminals, &mut input, &mut output, &mut errors);
-    // What a failed write left in the buffer stays unwritten.
-    let _ = output.into_parts();
-    Ok(status)
+    }
+}
+
+/// Says why the program can't begin.
+fn failed(rt: &HostRuntime, error: &io::Error) -> ExitCode {
+    if error.kind() == ErrorKind::InvalidData {
+        let _ = eprintln!(rt; "indexd: a word of the command line isn't UTF-8");
+        ExitCode::from(2)
+    } else {
+        let _ = eprintln!(rt; "indexd: {error}");
+        ExitCode::FAILURE
+    }
 }
 
 fn main(rt: HostRuntime) -> ExitCode {
-    match start(&rt) {
-        Ok(status) => ExitCode::from(status),
-        Err(error) => if error.kind() == ErrorKind::InvalidData {
-            let _ = eprintln!(rt; "indexd: a word of the command line isn't UTF-8");
-            ExitCode::from(2)
-        } else {
-            let _ = eprintln!(rt; "indexd: {error}");
-            ExitCode::FAILURE
-        },
-    }
+    let alloc = rt.alloc();
+    let words = match words_of(&rt) {
+        Ok(words) => words,
+        Err(error) => return failed(&rt, &error),
+    };
+    let Ok(mut input) = BufReader::new(alloc, rt.reader()) else {
+        return failed(&rt, &ErrorKind::OutOfMemory.into());
+    };
+    let Ok(mut output) = BufWriter::new(alloc, io::writer(&rt)) else {
+        return failed(&rt, &ErrorKind::OutOfMemory.into());
+    };
+    let mut errors = rt.stderr();
+    let terminals = terminals_of(&rt);
+    let status = program(&rt, &words, terminals, &mut input, &mut output, &mut errors);
+    // What a failed write left in the buffer stays unwritten.
+    let _ = output.into_parts();
+    ExitCode::from(status)
 }

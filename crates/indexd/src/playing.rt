@@ -15,7 +15,6 @@ use crate::reply::{Reply, refused};
 use crate::step::step;
 use crate::telling::{Listener, Silent};
 use crate::writing::{Flushing, write_line};
-use doc::Mapping;
 use std::alloc::{AllocError, Global};
 use std::io::{BufRead, ErrorKind, Write};
 use world::World;
@@ -56,16 +55,9 @@ pub(crate) fn replay_telling<R: BufRead, W: Write, L: Listener>(
         let mut refusal: Option<Refusal> = None;
         let text = played(alloc, &mut index, &line, &mut refusal)?;
         write_line(writer, text.as_bytes(), flushing)?;
-        listener.hear(alloc, &line, refusal.as_ref(), mapping_of(&index));
+        listener.hear(alloc, &line, refusal.as_ref(), index.as_ref());
     }
     Err(ReplayFault::Read(ErrorKind::Other.into()))
-}
-
-fn mapping_of(index: &Option<World>) -> Option<&Mapping> {
-    match index {
-        Some(world) => Some(world.mapping()),
-        None => None,
-    }
 }
 
 /// Plays one line, and answers what it prints. A refusal that is printed is left beside it.

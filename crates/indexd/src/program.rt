@@ -15,6 +15,8 @@ use std::alloc::Global;
 use std::io::{BufRead, BufReader, Write};
 use std::net::{Net, TcpListener, TcpStream};
 use std::rt::Files;
+use std::sync::Wait;
+use std::thread::Threads;
 use std::time::Clock;
 use std::{fs, io};
 
@@ -48,7 +50,7 @@ pub fn program<R, I: BufRead, O: Write, E: Write>(
     errors: &mut E,
 ) -> u8
 where
-    R: Files + Clock + AllocGlobal + Net<Listener = TcpListener, Stream = TcpStream>,
+    R: Files + Clock + AllocGlobal + Net<Listener = TcpListener, Stream = TcpStream> + Threads + Wait + Sync,
     ensures { result < 3 }
 {
     match task_of(rt.alloc(), words) {
@@ -66,7 +68,7 @@ fn run_server<R, O: Write, E: Write>(
     errors: &mut E,
 ) -> u8
 where
-    R: Files + AllocGlobal + Net<Listener = TcpListener, Stream = TcpStream>,
+    R: Files + AllocGlobal + Net<Listener = TcpListener, Stream = TcpStream> + Threads + Wait + Sync,
     ensures { result < 2 }
 {
     match serve(rt, settings, output) {

@@ -1,26 +1,21 @@
-//! Serving an index over HTTP on 127.0.0.1, one connection after another.
+//! Serving an index over HTTP on 127.0.0.1.
 
+use crate::connections::serve_connections;
 use crate::index_name::is_index_name;
 use doc::DocFault;
-use front::{StreamFault, serve_stream};
 use serde_json::Value;
 use shard::Shard;
 use std::alloc::{AllocError, Global};
 use std::fmt::Display;
-use std::io::{BufReader, Read, Write};
-use std::net::{Net, Shutdown, TcpListener, TcpStream};
+use std::io::{Read, Write};
+use std::net::{Net, TcpListener, TcpStream};
 use std::rt::Files;
-use std::time::Duration;
+use std::sync::Wait;
+use std::thread::Threads;
 use std::{fmt, fs, io};
 
 /// The greatest mapping file that is read, in bytes.
 const MAX_MAPPING: u64 = 1_048_576;
-
-/// How many connections in a row may fail before they begin.
-const MOST_REFUSED: u32 = 100;
-
-/// How long a connection that has ended is listened to for more, in milliseconds.
-const LINGER: u64 = 500;
 
 /// How an index is served.
 #[derive(Clone, Copy)]
@@ -80,7 +75,7 @@ impl From<AllocError> for ServeFault {
 /// Serves an index until the last connection that is wanted has ended. Where it listens is printed first.
 pub(crate) fn serve<R, O>(rt: &R, settings: Settings<'_>, output: &mut O) -> Result<(), ServeFault>
 where
-    R: Files + AllocGlobal + Net<Listener = TcpListener, Stream = TcpStream>,
+    R: Files + AllocGlobal + Net<Listener = TcpListener, Stream = TcpStream> + Threads + Wait + Sync,
     O: Write,
 {
     let alloc = rt.alloc();
@@ -89,7 +84,7 @@ where
     }
     let mapping = mapping_of(rt, settings.mapping)?;
     let name = String::from_str(alloc, settings.index)?;
-    let mut shard = match Shard::new(alloc, name, &mapping) {
+    let shard = match Shard::new(alloc, name, &mapping) {
         Ok(shard) => shard,
         Err(DocFault::NoMemory) => return Err(ServeFault::NoMemory),
         Err(fault) => return Err(ServeFault::Mapping(fault)),
@@ -100,7 +95,14 @@ where
         Err(error) => return Err(ServeFault::Port(port, error)),
     };
     announce(output, port).map_err(ServeFault::Output)?;
-    serve_all(alloc, &listener, &mut shard, settings.connections)
+    match serve_connections(rt, alloc, &listener, shard, settings.connections) {
+        Ok(()) => Ok(()),
+        Err(error) => if error.kind() == io::ErrorKind::OutOfMemory {
+            Err(ServeFault::NoMemory)
+        } else {
+            Err(ServeFault::Connection(error))
+        },
+    }
 }
 
 fn announce<O: Write>(output: &mut O, port: u16) -> io::Result<()> {
@@ -140,64 +142,4 @@ fn text_of<R: Files + AllocGlobal>(rt: &R, file: &str) -> Result<String, ServeFa
         return Err(ServeFault::TooLarge);
     }
     Ok(text)
-}
-
-/// Serves connections, one after another. A fault on one ends that connection alone; where none can be had any more the server ends.
-fn serve_all(
-    alloc: Global,
-    listener: &TcpListener,
-    shard: &mut Shard,
-    connections: Option<u64>,
-) -> Result<(), ServeFault> {
-    let mut served: u64 = 0;
-    let mut refused: u32 = 0;
-    for stream in listener.incoming() {
-        match stream {
-            Ok(stream) => {
-                let _ = serve_one(alloc, &stream, shard);
-                served = served.saturating_add(1);
-                refused = 0;
-            }
-            Err(error) => {
-                refused = refused.saturating_add(1);
-                if refused >= MOST_REFUSED {
-                    return Err(ServeFault::Connection(error));
-                }
-            }
-        }
-        if connections == Some(served) {
-            return Ok(());
-        }
-    }
-    Ok(())
-}
-
-/// Serves one connection: pages go to it as they are spelt, and requests come through a buffer.
-fn serve_one(alloc: Global, stream: &TcpStream, shard: &mut Shard) -> Result<u64, StreamFault> {
-    let Ok(mut input) = BufReader::new(alloc, stream) else {
-        return Err(StreamFault::NoMemory);
-    };
-    let mut output = stream;
-    let served = serve_stream(alloc, &mut input, &mut output, shard);
-    close(stream);
-    served
-}
-
-/// Ends a connection so that its last page isn't lost: what the client still sends is read for a while, as RFC 9112 has it (section 9.6).
-fn close(stream: &TcpStream) {
-    if stream.shutdown(Shutdown::Write).is_err()
-        || stream
-            .set_read_timeout(Some(Duration::from_millis(LINGER)))
-            .is_err()
-    {
-        return;
-    }
-    let mut reader = stream;
-    let mut room = [0u8; 4096];
-    for _ in 0..512_u64 {
-        match reader.read(&mut room) {
-            Ok(0) | Err(_) => return,
-            Ok(_) => {}
-        }
-    }
 }

@@ -2,10 +2,10 @@
 
 use crate::explaining::reason;
 use crate::refusal::Refusal;
-use doc::Mapping;
 use std::alloc::Global;
 use std::io::Write;
 use std::time::{Clock, Instant};
+use world::World;
 
 /// How many lines are done between two looks at the clock.
 const LINES: u64 = 256;
@@ -23,7 +23,7 @@ pub(crate) trait Listener {
         alloc: Global,
         line: &[u8],
         refusal: Option<&Refusal>,
-        mapping: Option<&Mapping>,
+        index: Option<&World>,
     );
 }
 
@@ -37,7 +37,7 @@ impl Listener for Silent {
         _alloc: Global,
         _line: &[u8],
         _refusal: Option<&Refusal>,
-        _mapping: Option<&Mapping>,
+        _index: Option<&World>,
     ) {}
 }
 
@@ -107,11 +107,11 @@ impl<'a, C: Clock, E: Write> Teller<'a, C, E> {
         alloc: Global,
         refusal: &Refusal,
         line: &[u8],
-        mapping: Option<&Mapping>,
+        index: Option<&World>,
     ) {
         self.erase();
         let (file, number, name) = (self.file, self.lines, refusal.name());
-        let _ = match reason(alloc, refusal, line, mapping) {
+        let _ = match reason(alloc, refusal, line, index) {
             Ok(why) => writeln!(self.errors, "indexd: {file}:{number}: {name}: {why}"),
             Err(_) => writeln!(self.errors, "indexd: {file}:{number}: {name}"),
         };
@@ -172,7 +172,7 @@ impl<C: Clock, E: Write> Listener for Teller<'_, C, E> {
         alloc: Global,
         line: &[u8],
         refusal: Option<&Refusal>,
-        mapping: Option<&Mapping>,
+        index: Option<&World>,
     ) {
         self.lines = self.lines.saturating_add(1);
         self.bytes = self
@@ -185,7 +185,7 @@ impl<C: Clock, E: Write> Listener for Teller<'_, C, E> {
         if let Some(refusal) = refusal {
             self.refused = self.refused.saturating_add(1);
             if self.wanted.explains {
-                self.explain(alloc, refusal, line, mapping);
+                self.explain(alloc, refusal, line, index);
             }
         }
         if self.wanted.progress && self.lines % LINES == 0 {

@@ -1,7 +1,7 @@
 -- The faults of queries, apart from want of memory.
 use Rattle.std.specs.Prelude.{ℕ, List, codes, Option, Some, None, string_bytes}
 use Rattle.query.specs.declared.fault.QueryFault.{QueryFault}
-use Rattle.query.specs.declared.fault.QueryFault.TheVariants.{Parsing, TooManyClauses, TooDeep, WrongKind, NoMemory, WindowTooLarge}
+use Rattle.query.specs.declared.fault.QueryFault.TheVariants.{Parsing, ParsingAt, TooManyClauses, TooDeep, WrongKind, NoMemory, WindowTooLarge}
 
 pub data Fault : Type 0 where
   parsing : Fault
@@ -13,6 +13,7 @@ pub data Fault : Type 0 where
 -- nothing for want of memory
 abbrev pub fault_of : QueryFault → Option Fault
 fault_of (Parsing what) = Some parsing
+fault_of (ParsingAt key what) = Some parsing
 fault_of TooManyClauses = Some too_many_clauses
 fault_of TooDeep = Some too_deep
 fault_of (WrongKind field) = Some (wrong_kind (string_bytes field))

@@ -11,7 +11,7 @@ ghost use Rattle.query.specs.View.{query_view};
 use crate::fault::QueryFault;
 use crate::page::Page;
 use crate::query::Query;
-use crate::shape::{members_of, whole_number};
+use crate::shape::{bad_at, members_of, whole_number};
 use doc::Mapping;
 use serde_json::{Map, Value};
 use std::alloc::Global;
@@ -31,9 +31,9 @@ impl SearchBody {
     pub fn read(alloc: Global, mapping: &Mapping, value: &Value) -> Result<SearchBody, QueryFault>
         ensures { Gives fault_of (λ b. (query_view b.query, b.page)) result (spec.body_of mapping.now (view value.now)) }
     {
-        check_keys(members_of(value)?)?;
-        let from = whole_number(0, value.get("from"))?;
-        let size = whole_number(10, value.get("size"))?;
+        check_keys(alloc, members_of(value)?)?;
+        let from = whole_number(alloc, "from", 0, value.get("from"))?;
+        let size = whole_number(alloc, "size", 10, value.get("size"))?;
         let query = query_or_all(alloc, mapping, value.get("query"))?;
         let page = Page::new(from, size)?;
         Ok(SearchBody { query, page })
@@ -52,30 +52,38 @@ impl CountBody {
     pub fn read(alloc: Global, mapping: &Mapping, value: &Value) -> Result<CountBody, QueryFault>
         ensures { Gives fault_of (λ b. query_view b.query) result (spec.counted_of mapping.now (view value.now)) }
     {
-        check_count_keys(members_of(value)?)?;
+        check_count_keys(alloc, members_of(value)?)?;
         Ok(CountBody {
             query: query_or_all(alloc, mapping, value.get("query"))?,
         })
     }
 }
 
-fn check_count_keys(members: &Map<String, Value>) -> Result<(), QueryFault>
+fn check_count_keys(alloc: Global, members: &Map<String, Value>) -> Result<(), QueryFault>
     ensures { Gives fault_of (λ u. u) result (check (all_keys spec.is_count_key (members_view members.now.entries))) }
 {
     for (name, _) in members {
         if name.as_str() != "query" {
-            return Err(QueryFault::Parsing("this key isn't known in a count body"));
+            return Err(bad_at(
+                alloc,
+                name.as_str(),
+                "this key isn't known in a count body",
+            ));
         }
     }
     Ok(())
 }
 
-fn check_keys(members: &Map<String, Value>) -> Result<(), QueryFault>
+fn check_keys(alloc: Global, members: &Map<String, Value>) -> Result<(), QueryFault>
     ensures { Gives fault_of (λ u. u) result (check (all_keys spec.is_body_key (members_view members.now.entries))) }
 {
     for (name, _) in members {
         if !is_body_key(name.as_str()) {
-            return Err(QueryFault::Parsing("this key isn't known in a search body"));
+            return Err(bad_at(
+                alloc,
+                name.as_str(),
+                "this key isn't known in a search body",
+            ));
         }
     }
     Ok(())

@@ -6,11 +6,13 @@ ghost use Rattle.query.specs.Fault.{fault_of, name_of};
 use std::alloc::{AllocError, AllocFailed};
 use thiserror::Error;
 
-/// A refusal of a search body or of a query in it. The text of `Parsing` says what was wanted.
+/// A refusal of a search body or of a query in it. The text of `Parsing` says what was wanted, and that of `ParsingAt` at which key.
 #[derive(Debug, Drop, Error)]
 pub enum QueryFault {
     #[error("bad query: {0}")]
     Parsing(&'static str),
+    #[error("bad query: {0}: {1}")]
+    ParsingAt(String, &'static str),
     #[error("a query has more than 1,024 clauses, or `terms` more than 65,536 values")]
     TooManyClauses,
     #[error("queries nest more than 20 deep")]
@@ -29,7 +31,7 @@ impl QueryFault {
         ensures { MatchOption (fault_of self.now) (result.now ≡ codes "NoMemory") (λ f. result.now ≡ name_of f) }
     {
         match self {
-            QueryFault::Parsing(_) => "Parsing",
+            QueryFault::Parsing(_) | QueryFault::ParsingAt(_, _) => "Parsing",
             QueryFault::TooManyClauses => "TooManyClauses",
             QueryFault::TooDeep => "TooDeep",
             QueryFault::WrongKind(_) => "WrongKind",

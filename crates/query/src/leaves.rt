@@ -14,7 +14,9 @@ ghost use Rattle.query.specs.View.{query_view};
 
 use crate::fault::QueryFault;
 use crate::query::{Bounds, Operator, Query};
-use crate::shape::{Keys, check_keys, is_value, items_in, only_of, required, text_in, value_of};
+use crate::shape::{
+    Keys, bad_at, check_keys, is_value, items_in, only_of, required, text_in, value_of,
+};
 use crate::terms::terms_of_value;
 use doc::scalar::MAX_KEYWORD;
 use doc::{Converted, Kind, Mapping, Scalar, convert};
@@ -35,7 +37,7 @@ pub(crate) fn leaf_of(
     ensures { Gives fault_of query_view result (spec.leaf_of mapping.now name.now (view body.now)) }
 {
     if name == "match_all" {
-        match_all_of(body)
+        match_all_of(alloc, body)
     } else if name == "term" {
         term_of(alloc, mapping, body)
     } else if name == "terms" {
@@ -49,14 +51,14 @@ pub(crate) fn leaf_of(
     } else if name == "exists" {
         exists_of(alloc, mapping, body)
     } else {
-        Err(QueryFault::Parsing("this query isn't known"))
+        Err(bad_at(alloc, name, "this query isn't known"))
     }
 }
 
-fn match_all_of(body: &Value) -> Result<Query, QueryFault>
+fn match_all_of(alloc: Global, body: &Value) -> Result<Query, QueryFault>
     ensures { Gives fault_of query_view result (spec.match_all_of (view body.now)) }
 {
-    check_keys(Keys::MatchAll, body)?;
+    check_keys(alloc, Keys::MatchAll, body)?;
     Ok(Query::MatchAll)
 }
 
@@ -64,8 +66,8 @@ fn match_all_of(body: &Value) -> Result<Query, QueryFault>
 fn term_of(alloc: Global, mapping: &Mapping, body: &Value) -> Result<Query, QueryFault>
     ensures { Gives fault_of query_view result (spec.term_of mapping.now (view body.now)) }
 {
-    let (field, value) = only_of(body)?;
-    let value = value_of(Keys::Value, "value", value)?;
+    let (field, value) = only_of(alloc, "term", body)?;
+    let value = value_of(alloc, Keys::Value, "value", value)?;
     term_at(alloc, field, mapping.kind(field), value)
 }
 
@@ -88,10 +90,10 @@ fn term_at(
 fn terms_of(alloc: Global, mapping: &Mapping, body: &Value) -> Result<Query, QueryFault>
     ensures { Gives fault_of query_view result (spec.terms_of mapping.now (view body.now)) }
 {
-    let (field, values) = only_of(body)?;
-    let values = items_in(values)?;
+    let (field, values) = only_of(alloc, "terms", body)?;
+    let values = items_in(alloc, field, values)?;
     check_few(values)?;
-    check_values(values)?;
+    check_values(alloc, field, values)?;
     terms_at(alloc, field, mapping.kind(field), values)
 }
 
@@ -110,12 +112,12 @@ fn count(values: &[Value]) -> usize
     values.len()
 }
 
-fn check_values(values: &[Value]) -> Result<(), QueryFault>
+fn check_values(alloc: Global, field: &str, values: &[Value]) -> Result<(), QueryFault>
     ensures { Gives fault_of (λ u. u) result (shape.check (list_all shape.is_value (elements (items_view values.now)))) }
 {
     for value in values {
         if !is_value(value) {
-            return Err(QueryFault::Parsing("a text, a number or a truth value is wanted"));
+            return Err(bad_at(alloc, field, "a text, a number or a truth value is wanted"));
         }
     }
     Ok(())
@@ -156,28 +158,28 @@ fn scalars_of(
 fn match_of(alloc: Global, mapping: &Mapping, body: &Value) -> Result<Query, QueryFault>
     ensures { Gives fault_of query_view result (spec.match_of mapping.now (view body.now)) }
 {
-    let (field, body) = only_of(body)?;
-    let value = value_of(Keys::Match, "query", body)?;
-    let operator = operator_of(body.get("operator"))?;
+    let (field, body) = only_of(alloc, "match", body)?;
+    let value = value_of(alloc, Keys::Match, "query", body)?;
+    let operator = operator_of(alloc, body.get("operator"))?;
     match_at(alloc, field, operator, mapping.kind(field), value)
 }
 
-fn operator_of(value: Option<&Value>) -> Result<Operator, QueryFault>
+fn operator_of(alloc: Global, value: Option<&Value>) -> Result<Operator, QueryFault>
     ensures { Gives fault_of (λ o. o) result (spec.operator_of (option_map (λ v. view v.now) value.entry)) }
 {
     match value {
         None => Ok(Operator::Or),
-        Some(value) => operator_named(text_in(value)?),
+        Some(value) => operator_named(alloc, text_in(alloc, "operator", value)?),
     }
 }
 
-fn operator_named(name: &str) -> Result<Operator, QueryFault>
+fn operator_named(alloc: Global, name: &str) -> Result<Operator, QueryFault>
     ensures { Gives fault_of (λ o. o) result (spec.operator_named name.now) }
 {
     match name {
         "or" | "OR" => Ok(Operator::Or),
         "and" | "AND" => Ok(Operator::And),
-        _ => Err(QueryFault::Parsing("an operator is `or` or `and`")),
+        _ => Err(bad_at(alloc, "operator", "`or` or `and` is wanted")),
     }
 }
 
@@ -206,9 +208,9 @@ fn match_at(
 fn prefix_of(alloc: Global, mapping: &Mapping, body: &Value) -> Result<Query, QueryFault>
     ensures { Gives fault_of query_view result (spec.prefix_of mapping.now (view body.now)) }
 {
-    let (field, body) = only_of(body)?;
-    let value = value_of(Keys::Value, "value", body)?;
-    let text = text_in(value)?;
+    let (field, body) = only_of(alloc, "prefix", body)?;
+    let value = value_of(alloc, Keys::Value, "value", body)?;
+    let text = text_in(alloc, "value", value)?;
     prefix_at(alloc, field, mapping.kind(field), text)
 }
 
@@ -254,24 +256,28 @@ struct WrittenBounds<'a> {
 fn range_of(alloc: Global, mapping: &Mapping, body: &Value) -> Result<Query, QueryFault>
     ensures { Gives fault_of query_view result (spec.range_of mapping.now (view body.now)) }
 {
-    let (field, body) = only_of(body)?;
-    let written = written_in(body)?;
+    let (field, body) = only_of(alloc, "range", body)?;
+    let written = written_in(alloc, body)?;
     range_at(alloc, field, mapping.kind(field), written)
 }
 
 #[tactic(auto, unfolding(crate::specs::Leaves::written_in))]
-fn written_in(body: &Value) -> Result<WrittenBounds<'_>, QueryFault>
+fn written_in<'a>(alloc: Global, body: &'a Value) -> Result<WrittenBounds<'a>, QueryFault>
     ensures { Gives fault_of written_view result (spec.written_in (view body.now)) }
 {
-    check_keys(Keys::Range, body)?;
-    let gt = bound_in(body.get("gt"))?;
-    let gte = bound_in(body.get("gte"))?;
-    let lt = bound_in(body.get("lt"))?;
-    let lte = bound_in(body.get("lte"))?;
+    check_keys(alloc, Keys::Range, body)?;
+    let gt = bound_in(alloc, "gt", body.get("gt"))?;
+    let gte = bound_in(alloc, "gte", body.get("gte"))?;
+    let lt = bound_in(alloc, "lt", body.get("lt"))?;
+    let lte = bound_in(alloc, "lte", body.get("lte"))?;
     Ok(WrittenBounds { gt, gte, lt, lte })
 }
 
-fn bound_in(value: Option<&Value>) -> Result<Option<&Value>, QueryFault>
+fn bound_in<'a>(
+    alloc: Global,
+    key: &str,
+    value: Option<&'a Value>,
+) -> Result<Option<&'a Value>, QueryFault>
     ensures { Gives fault_of (option_map (λ v. view v.now)) result (spec.bound_in (option_map (λ v. view v.now) value.entry)) }
 {
     let Some(value) = value else {
@@ -280,7 +286,7 @@ fn bound_in(value: Option<&Value>) -> Result<Option<&Value>, QueryFault>
     match value {
         Value::Null => Ok(None),
         Value::Array(_) | Value::Object(_) => {
-            Err(QueryFault::Parsing("a bound is a text, a number or a truth value"))
+            Err(bad_at(alloc, key, "a text, a number or a truth value is wanted"))
         }
         _ => Ok(Some(value)),
     }
@@ -355,8 +361,8 @@ fn wrong_kind(alloc: Global, field: &str) -> QueryFault
 fn exists_of(alloc: Global, mapping: &Mapping, body: &Value) -> Result<Query, QueryFault>
     ensures { Gives fault_of query_view result (spec.exists_of mapping.now (view body.now)) }
 {
-    check_keys(Keys::Field, body)?;
-    let field = text_in(required(body.get("field"))?)?;
+    check_keys(alloc, Keys::Field, body)?;
+    let field = text_in(alloc, "field", required(alloc, "field", body.get("field"))?)?;
     match mapping.kind(field) {
         None => Ok(Query::Nothing),
         Some(_) => Ok(Query::Exists(String::from_str(alloc, field)?)),

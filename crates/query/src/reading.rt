@@ -11,7 +11,7 @@ ghost use Rattle.query.specs.View.{query_view};
 use crate::fault::QueryFault;
 use crate::leaves::leaf_of;
 use crate::query::Query;
-use crate::shape::{Keys, check_keys, only_of, whole_number};
+use crate::shape::{Keys, bad_at, check_keys, only_of, whole_number};
 use doc::Mapping;
 use serde_json::Value;
 use std::alloc::Global;
@@ -55,7 +55,7 @@ fn query_at(
     if *left == 0 {
         return Err(QueryFault::TooManyClauses);
     }
-    let (name, body) = only_of(value)?;
+    let (name, body) = only_of(alloc, "query", value)?;
     *left -= 1;
     if name == "bool" {
         bool_of(alloc, mapping, room - 1, left, body)
@@ -76,7 +76,7 @@ fn bool_of(
     ensures { Gives fault_of (λ q. (query_view q, left.new)) result
         (spec.bool_of (spec.query_at mapping.now room) left.old (view body.now)) }
 {
-    let parts = parts_of(body)?;
+    let parts = parts_of(alloc, body)?;
     let filter = queries_at(alloc, mapping, room, left, parts.filter)?;
     let must = queries_at(alloc, mapping, room, left, parts.must)?;
     let must_not = queries_at(alloc, mapping, room, left, parts.must_not)?;
@@ -120,15 +120,20 @@ struct Parts<'a> {
 }
 
 #[tactic(auto, unfolding(crate::specs::Reading::parts_of))]
-fn parts_of(body: &Value) -> Result<Parts<'_>, QueryFault>
+fn parts_of<'a>(alloc: Global, body: &'a Value) -> Result<Parts<'a>, QueryFault>
     ensures { Gives fault_of parts_view result (spec.parts_of (view body.now)) }
 {
-    check_keys(Keys::Bool, body)?;
-    let filter = parts_in(body.get("filter"))?;
-    let must = parts_in(body.get("must"))?;
-    let must_not = parts_in(body.get("must_not"))?;
-    let should = parts_in(body.get("should"))?;
-    let minimum = whole_number(0, body.get("minimum_should_match"))?;
+    check_keys(alloc, Keys::Bool, body)?;
+    let filter = parts_in(alloc, "filter", body.get("filter"))?;
+    let must = parts_in(alloc, "must", body.get("must"))?;
+    let must_not = parts_in(alloc, "must_not", body.get("must_not"))?;
+    let should = parts_in(alloc, "should", body.get("should"))?;
+    let minimum = whole_number(
+        alloc,
+        "minimum_should_match",
+        0,
+        body.get("minimum_should_match"),
+    )?;
     Ok(Parts {
         filter,
         must,
@@ -139,7 +144,11 @@ fn parts_of(body: &Value) -> Result<Parts<'_>, QueryFault>
 }
 
 /// A query or an array of queries, none where the key is absent.
-fn parts_in(value: Option<&Value>) -> Result<&[Value], QueryFault>
+fn parts_in<'a>(
+    alloc: Global,
+    key: &str,
+    value: Option<&'a Value>,
+) -> Result<&'a [Value], QueryFault>
     ensures { Gives fault_of (λ s. elements (items_view s.now)) result
         (spec.parts_in (option_map (λ v. view v.now) value.entry)) }
 {
@@ -148,7 +157,11 @@ fn parts_in(value: Option<&Value>) -> Result<&[Value], QueryFault>
         Some(value) => match value {
             Value::Array(items) => Ok(items),
             Value::Object(_) => Ok(slice::from_ref(value)),
-            _ => Err(QueryFault::Parsing("a query or an array of queries is wanted")),
+            _ => Err(bad_at(
+                alloc,
+                key,
+                "a query or an array of queries is wanted",
+            )),
         },
     }
 }

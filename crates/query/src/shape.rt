@@ -1,14 +1,25 @@
 //! The shapes of JSON values in a query.
-ghost use Rattle.std.specs.Prelude.{◌≡◌, option_map};
+ghost use Rattle.std.specs.Prelude.{◌≡◌, option_map, IfSome};
 ghost use Rattle.serde_json.specs.View.{view, items_view, members_view};
 ghost use Rattle.doc.specs.Entries.{elements};
 ghost use Rattle.doc.specs.Outcome.{Gives};
-ghost use Rattle.query.specs.Fault.{fault_of};
+ghost use Rattle.query.specs.Fault.{fault_of, parsing};
 ghost use Rattle.query.specs.Keys.{is_key};
 ghost use Rattle.query.specs.Shape as spec;
 
 use crate::fault::QueryFault;
 use serde_json::{Map, Value};
+use std::alloc::Global;
+
+/// A refusal of what stands at a key.
+pub(crate) fn bad_at(alloc: Global, key: &str, wanted: &'static str) -> QueryFault
+    ensures { IfSome (fault_of result) (λ f. f ≡ parsing) }
+{
+    match String::from_str(alloc, key) {
+        Ok(key) => QueryFault::ParsingAt(key, wanted),
+        Err(_) => QueryFault::NoMemory,
+    }
+}
 
 /// The members of an object.
 pub(crate) fn members_of(value: &Value) -> Result<&Map<String, Value>, QueryFault>
@@ -20,51 +31,71 @@ pub(crate) fn members_of(value: &Value) -> Result<&Map<String, Value>, QueryFaul
     }
 }
 
-/// The one member of an object.
+/// The one member of the object that stands at a key.
 #[tactic(auto, unfolding(crate::specs::Shape::only_of))]
-pub(crate) fn only_of(value: &Value) -> Result<(&str, &Value), QueryFault>
+pub(crate) fn only_of<'a>(
+    alloc: Global,
+    key: &str,
+    value: &'a Value,
+) -> Result<(&'a str, &'a Value), QueryFault>
     ensures { Gives fault_of (λ x. (x.0.now, view x.1.now)) result (spec.only_of (view value.now)) }
 {
-    only(members_of(value)?)
+    only(alloc, key, members_of(value)?)
 }
 
-fn only(members: &Map<String, Value>) -> Result<(&str, &Value), QueryFault>
+fn only<'a>(
+    alloc: Global,
+    key: &str,
+    members: &'a Map<String, Value>,
+) -> Result<(&'a str, &'a Value), QueryFault>
     ensures { Gives fault_of (λ x. (x.0.now, view x.1.now)) result (spec.only (members_view members.now.entries)) }
 {
     let mut entries = members.iter();
     let Some((name, body)) = entries.next() else {
-        return Err(QueryFault::Parsing("one key is wanted"));
+        return Err(bad_at(alloc, key, "one key is wanted"));
     };
     if entries.next().is_some() {
-        return Err(QueryFault::Parsing("one key is wanted"));
+        return Err(bad_at(alloc, key, "one key is wanted"));
     }
     Ok((name.as_str(), body))
 }
 
-pub(crate) fn required(value: Option<&Value>) -> Result<&Value, QueryFault>
+pub(crate) fn required<'a>(
+    alloc: Global,
+    key: &str,
+    value: Option<&'a Value>,
+) -> Result<&'a Value, QueryFault>
     ensures { Gives fault_of (λ v. view v.now) result (spec.required (option_map (λ v. view v.now) value.entry)) }
 {
     match value {
         Some(value) => Ok(value),
-        None => Err(QueryFault::Parsing("a key is missing")),
+        None => Err(bad_at(alloc, key, "this key is missing")),
     }
 }
 
-pub(crate) fn text_in(value: &Value) -> Result<&str, QueryFault>
+pub(crate) fn text_in<'a>(
+    alloc: Global,
+    key: &str,
+    value: &'a Value,
+) -> Result<&'a str, QueryFault>
     ensures { Gives fault_of (λ s. s.now) result (spec.text_in (view value.now)) }
 {
     match value {
         Value::String(text) => Ok(text.as_str()),
-        _ => Err(QueryFault::Parsing("a text is wanted")),
+        _ => Err(bad_at(alloc, key, "a text is wanted")),
     }
 }
 
-pub(crate) fn items_in(value: &Value) -> Result<&[Value], QueryFault>
+pub(crate) fn items_in<'a>(
+    alloc: Global,
+    key: &str,
+    value: &'a Value,
+) -> Result<&'a [Value], QueryFault>
     ensures { Gives fault_of (λ s. elements (items_view s.now)) result (spec.items_in (view value.now)) }
 {
     match value {
         Value::Array(items) => Ok(items),
-        _ => Err(QueryFault::Parsing("an array is wanted")),
+        _ => Err(bad_at(alloc, key, "an array is wanted")),
     }
 }
 
@@ -75,18 +106,27 @@ pub(crate) fn is_value(value: &Value) -> bool
     matches!(value, Value::Bool(_) | Value::Number(_) | Value::String(_))
 }
 
-pub(crate) fn plain(value: &Value) -> Result<&Value, QueryFault>
+pub(crate) fn plain<'a>(
+    alloc: Global,
+    key: &str,
+    value: &'a Value,
+) -> Result<&'a Value, QueryFault>
     ensures { Gives fault_of (λ v. view v.now) result (spec.plain (view value.now)) }
 {
     if is_value(value) {
         Ok(value)
     } else {
-        Err(QueryFault::Parsing("a text, a number or a truth value is wanted"))
+        Err(bad_at(alloc, key, "a text, a number or a truth value is wanted"))
     }
 }
 
 /// A whole number from 0 up, and `absent` where there is none. A number with a point or an exponent is none.
-pub(crate) fn whole_number(absent: u64, value: Option<&Value>) -> Result<u64, QueryFault>
+pub(crate) fn whole_number(
+    alloc: Global,
+    key: &str,
+    absent: u64,
+    value: Option<&Value>,
+) -> Result<u64, QueryFault>
     ensures { Gives fault_of (λ n. n) result (spec.whole_number absent (option_map (λ v. view v.now) value.entry)) }
 {
     let Some(value) = value else {
@@ -94,7 +134,7 @@ pub(crate) fn whole_number(absent: u64, value: Option<&Value>) -> Result<u64, Qu
     };
     match value.as_u64() {
         Some(number) => Ok(number),
-        None => Err(QueryFault::Parsing("a whole number from 0 up is wanted")),
+        None => Err(bad_at(alloc, key, "a whole number from 0 up is wanted")),
     }
 }
 
@@ -142,12 +182,12 @@ fn is_bool_key(name: &str) -> bool
 
 /// Refuses an object with another key.
 #[tactic(auto, unfolding(crate::specs::Shape::named))]
-pub(crate) fn check_keys(keys: Keys, value: &Value) -> Result<(), QueryFault>
+pub(crate) fn check_keys(alloc: Global, keys: Keys, value: &Value) -> Result<(), QueryFault>
     ensures { Gives fault_of (λ u. u) result (spec.named (is_key keys) (view value.now)) }
 {
     for (name, _) in members_of(value)? {
         if !keys.have(name.as_str()) && !is_ignored(name.as_str()) {
-            return Err(QueryFault::Parsing("this key isn't known here"));
+            return Err(bad_at(alloc, name.as_str(), "this key isn't known here"));
         }
     }
     Ok(())
@@ -161,6 +201,7 @@ fn is_object(value: &Value) -> bool
 
 /// The value of a field's short form, or that of its long form.
 pub(crate) fn value_of<'a>(
+    alloc: Global,
     keys: Keys,
     name: &str,
     value: &'a Value,
@@ -168,16 +209,21 @@ pub(crate) fn value_of<'a>(
     ensures { Gives fault_of (λ v. view v.now) result (spec.value_of (is_key keys) name.now (view value.now)) }
 {
     if is_object(value) {
-        long_form(keys, name, value)
+        long_form(alloc, keys, name, value)
     } else {
-        plain(value)
+        plain(alloc, name, value)
     }
 }
 
 #[tactic(auto, unfolding(crate::specs::Shape::long_form))]
-fn long_form<'a>(keys: Keys, name: &str, value: &'a Value) -> Result<&'a Value, QueryFault>
+fn long_form<'a>(
+    alloc: Global,
+    keys: Keys,
+    name: &str,
+    value: &'a Value,
+) -> Result<&'a Value, QueryFault>
     ensures { Gives fault_of (λ v. view v.now) result (spec.long_form (is_key keys) name.now (view value.now)) }
 {
-    check_keys(keys, value)?;
-    plain(required(value.get(name))?)
+    check_keys(alloc, keys, value)?;
+    plain(alloc, name, required(alloc, name, value.get(name))?)
 }

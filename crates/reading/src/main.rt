@@ -3,7 +3,7 @@
 //! measures. Its words are `documents`, `words`, `queries`, `found`, `appended` or `reopened`, and `count` or `time`. The first line
 //! of standard input is a mapping; for `found` the second is a query.
 //!
-//! `openings` has no mapping: each line is a translog in hex, and what opening it gives is printed.
+//! `marks` reads nothing and marks ten million numbers in a tracker. `openings` has no mapping: each line is a translog in hex, and what opening it gives is printed.
 #![tactic(auto)]
 
 ghost use Rattle.std.specs.Prelude.{◌≡◌, IfOk, is_ok, count_by, sum_by, length, string_bytes};
@@ -11,9 +11,11 @@ ghost use Rattle.doc.specs.Document.{doc_of};
 ghost use Rattle.analysis.specs.Tokens.{tokens_of};
 
 mod appending;
+mod marking;
 mod openings;
 
 use crate::appending::{append_all, empty_log, records_of};
+use crate::marking::print_marks;
 use crate::openings::print_openings;
 use analysis::tokens;
 use anyhow::{Context, Result, bail};
@@ -112,7 +114,7 @@ fn task_named(name: &str) -> Result<Task> {
         "appended" => Ok(Task::Appended),
         "reopened" => Ok(Task::Reopened),
         _ => bail!(
-            "`documents`, `words`, `queries`, `found`, `appended`, `reopened` or `openings` is wanted"
+            "`documents`, `words`, `queries`, `found`, `appended`, `reopened`, `marks` or `openings` is wanted"
         ),
     }
 }
@@ -189,6 +191,9 @@ fn main(rt: HostRuntime) -> Result<()> {
     let alloc = rt.alloc();
     let arguments: Vec<String> = env::args(&rt)?.collect(alloc)?;
     let name = arguments.get(1).context("two words are wanted")?;
+    if name.as_str() == "marks" {
+        return print_marks(&rt);
+    }
     let lines = read_lines(alloc, BufReader::new(alloc, rt.reader())?)?;
     if name.as_str() == "openings" {
         return print_openings(&rt, &lines);
