@@ -14,6 +14,7 @@ ghost use Rattle.engine.specs.Staged.{IsStagedFrom, put_in};
 
 use crate::documents::documents_at;
 use crate::history::{Applied, Found, History};
+use crate::listed::Listed;
 use crate::snapshot::Snapshot;
 use crate::staged::{SnapshotChange, Staged};
 use doc::{DocId, Mapping};
@@ -239,6 +240,13 @@ impl Engine {
         ensures { IfOk result (λ v. v.items ≡ from_number (known global) (operations self.now.records)) }
     {
         self.history.above(alloc, global)
+    }
+
+    /// All records, as clauses see them.
+    pub fn listed(&self) -> Listed
+        ensures { result ≡ self.now.records }
+    {
+        Listed::of(&self.history)
     }
 
     /// The mapping that the documents are read under.

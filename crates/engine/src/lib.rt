@@ -5,6 +5,7 @@ mod block;
 mod documents;
 pub mod engine;
 mod history;
+pub mod listed;
 mod merging;
 mod operation_index;
 mod operations;
@@ -14,5 +15,6 @@ pub mod staged;
 
 pub use engine::{Engine, Last};
 pub use history::{Applied, Found};
+pub use listed::Listed;
 pub use snapshot::{Hit, Hits, Snapshot};
 pub use staged::{SnapshotChange, Staged};

@@ -1,6 +1,8 @@
 //! What is made ready of a change, before it is made.
 
+use crate::engine::Engine;
 use crate::history::History;
+use crate::listed::Listed;
 use crate::snapshot::Snapshot;
 use op::Record;
 use std::alloc::Global;
@@ -37,6 +39,7 @@ impl Model for Staged {
 impl Staged {
     ghost use Rattle.std.specs.Prelude.{◌≡◌};
     ghost use Rattle.std.specs.Arc.{arc_value};
+    ghost use Rattle.engine.specs.Staged.{records_of};
 
     /// What searches show after the change.
     pub fn snapshot(&self) -> &Arc<Snapshot, Global>
@@ -50,5 +53,15 @@ impl Staged {
         ensures { result ≡ self.now.point }
     {
         self.point as u64
+    }
+
+    /// All records after the change of an engine, as clauses see them.
+    pub fn listed(&self, engine: &Engine) -> Listed
+        ensures { result ≡ records_of engine.now.records self.now.records }
+    {
+        match &self.history {
+            Some(history) => Listed::of(history),
+            None => engine.listed(),
+        }
     }
 }

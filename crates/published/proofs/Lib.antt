@@ -1,0 +1,6 @@
+pub mod Orders
+pub mod Chains
+pub mod Adding
+pub mod Steps
+pub mod Searches
+pub mod Lines

@@ -1,0 +1,10 @@
+pub mod Listings
+pub mod Showing
+pub mod Beginning
+pub mod Chain
+pub mod Entry
+pub mod Rule
+pub mod Told
+pub mod Search
+pub mod Line
+pub mod Fresh

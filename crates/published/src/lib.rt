@@ -1,0 +1,19 @@
+//! What searches show while writes go on: lists that are published for readers who take no lock and wait for nobody.
+#![tactic(auto)]
+
+pub mod fresh;
+pub mod front;
+pub mod latest;
+pub mod listing;
+pub mod name;
+pub mod note;
+pub mod publisher;
+pub mod rule;
+pub mod searcher;
+pub mod showing;
+
+pub use name::{Name, Unnamed};
+pub use note::Note;
+pub use publisher::Publisher;
+pub use searcher::{SearchFault, Searcher};
+pub use showing::Showing;

@@ -1,0 +1,152 @@
+//! Readers of what a copy publishes. They take no lock and never wait.
+ghost use Rattle.std.specs.Prelude.{◌≡◌, ◌++◌, true, IfOk, IfErr, IsErrOf};
+ghost use Rattle.left_right.specs.Sides.{view};
+ghost use Rattle.engine.specs.Shown.{hits_view};
+ghost use Rattle.query.specs.View.{query_view};
+ghost use Rattle.published.specs.Entry.{listing_of};
+ghost use Rattle.published.specs.Listings.{GoesOn, GoesOnAll};
+ghost use Rattle.published.specs.Search.{answer_in, Finds, FindsIn, IsFloor, IsNoLess};
+ghost use Rattle.published.specs.Told.{listed, IsAt, IsOne, IsTold};
+ghost use Rattle.published.specs.declared.searcher.SearchFault.TheVariants.{Ended};
+
+use crate::front::Entry;
+use crate::latest::Latest;
+use crate::name::Name;
+use crate::note::Note;
+use crate::rule::{Known, Sees, Shows};
+use core::mem::replace_with;
+use engine::Hits;
+use left_right::reader::Reader;
+use query::{Page, Query};
+use std::alloc::Global;
+use std::marker::Model;
+
+/// Why a search has no hits.
+#[derive(Clone, Copy, Debug, PartialEq, Eq)]
+pub enum SearchFault {
+    NoMemory,
+    /// Nothing is published any more.
+    Ended,
+}
+
+pub(crate) type Line = Reader<Latest, Known, Shows>;
+
+/// Searches what is shown.
+fn hits_in(entry: &Entry, alloc: Global, query: &Query, page: Page) -> Result<Hits, SearchFault>
+    ensures found { IfOk result (λ h. hits_view h ≡ answer_in (listing_of entry.now) (query_view query.now) page) }
+    ensures refused { IfErr result (λ e. e ≡ SearchFault.NoMemory) }
+{
+    match entry.showing.snapshot.search(alloc, query, page) {
+        Ok(hits) => Ok(hits),
+        Err(_) => Err(SearchFault::NoMemory),
+    }
+}
+
+/// Searches what was taken, or what was told where that is later.
+fn hits_of<N: Name>(
+    taken: &Entry,
+    told: &Option<Note<N>>,
+    alloc: Global,
+    query: &Query,
+    page: Page,
+) -> Result<Hits, SearchFault>
+    requires one { IsOne (listing_of taken.now) told.now }
+    ensures found { IfOk result (λ h. FindsIn (listing_of taken.now) told.now (query_view query.now) page (hits_view h)) }
+    ensures refused { IfErr result (λ e. e ≡ SearchFault.NoMemory) }
+{
+    match told {
+        Some(note) => hits_in(note.later(taken), alloc, query, page),
+        None => hits_in(taken, alloc, query, page),
+    }
+}
+
+/// Searches what is published now.
+fn look<N: Name>(
+    reader: Line,
+    told: &Option<Note<N>>,
+    alloc: Global,
+    query: &Query,
+    page: Page,
+) -> (Line, Result<Hits, SearchFault>)
+    requires at { IsAt N.named N.cell (view reader.place) }
+    requires told { IsTold N.named N.cell told.now }
+    ensures at { IsAt N.named N.cell (view result.0.place) }
+    ensures found { IfOk result.1 (λ h. Finds (view reader.place ++ listed told.now) (view result.0.place ++ listed told.now) (query_view query.now) page (hits_view h)) }
+    ensures refused { IfErr result.1 (λ _. IsNoLess (view reader.place ++ listed told.now) (view result.0.place ++ listed told.now)) }
+    ensures ended { IsErrOf result.1 Ended → view result.0.place ≡ view reader.place }
+{
+    match reader.enter_as::<Sees>() {
+        Ok(reading) => {
+            let hits = hits_of(&*reading.get().entry, told, alloc, query, page);
+            (reading.leave(), hits)
+        }
+        Err(reader) => (reader, Err(SearchFault::Ended)),
+    }
+}
+
+/// The later of what was told, if anything, and a note.
+fn taken_in<N: Name>(told: Option<Note<N>>, note: Note<N>) -> Note<N>
+    requires named { N.named ≡ true }
+    requires told { IsTold N.named N.cell told }
+    ensures told { GoesOnAll result (listed told) }
+    ensures note { GoesOn result note }
+    ensures cell { result.cell ≡ N.cell }
+{
+    note.is_named();
+    match told {
+        Some(told) => told.longer(note),
+        None => note,
+    }
+}
+
+/// Reads what a cell publishes. Contracts see it as the lists that it knows: those that it goes on from.
+#[derive(Drop)]
+pub struct Searcher<N: Name> {
+    reader: Line,
+    told: Option<Note<N>>,
+}
+
+impl<N: Name> Model for Searcher<N> {
+    ghost use Rattle.std.specs.Prelude.{List, ◌++◌};
+    ghost use Rattle.left_right.specs.Sides.{view as known};
+    ghost use Rattle.published.specs.declared.listing.Listing.{Listing};
+    ghost use Rattle.published.specs.Told.{listed, IsAt, IsTold};
+
+    ghost Value = { List Listing };
+
+    ghost view = { λ s. known s.reader.place ++ listed s.told };
+
+    ghost invariant = { λ s. IsAt N.named N.cell (known s.reader.place) × IsTold N.named N.cell s.told };
+}
+
+impl<N: Name> Searcher<N> {
+    /// A searcher that was told nothing yet.
+    pub(crate) fn over(reader: Line) -> Searcher<N>
+        requires { IsAt N.named N.cell (view reader.place) }
+        ensures { result ≡ view reader.place }
+    {
+        Searcher { reader, told: None }
+    }
+
+    /// Takes in a note of this cell.
+    pub fn learn(&mut self, note: Note<N>)
+        requires named { N.named ≡ true }
+        ensures note { IsFloor note self.new }
+        ensures kept { IsNoLess self.old self.new }
+    {
+        let told = taken_in(self.told.take(), note);
+        self.told = Some(told);
+    }
+
+    /// Searches what is published now: no less than all that is known.
+    pub fn search(&mut self, alloc: Global, query: &Query, page: Page) -> Result<Hits, SearchFault>
+        ensures found { IfOk result (λ h. Finds self.old self.new (query_view query.now) page (hits_view h)) }
+        ensures refused { IfErr result (λ _. IsNoLess self.old self.new) }
+        ensures ended { IsErrOf result Ended → self.new ≡ self.old }
+    {
+        let told = &self.told;
+        replace_with(&mut self.reader, (), |reader, _| {
+            look(reader, told, alloc, query, page)
+        })
+    }
+}
