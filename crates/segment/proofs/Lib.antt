@@ -12,3 +12,4 @@ pub mod TermKinds
 pub mod Withins
 pub mod PostedLaws
 pub mod BuiltLaws
+pub mod SpanLaws

@@ -83,14 +83,14 @@ drop_last : (a b : Bool) → (a || b) ≡ true → b ≡ false → a ≡ true
 drop_last true b some none = refl
 drop_last false b some none = absurd (true≢false (sym some ∙ none))
 
-module _ {Y X : Type 0} where
-  -- a filter that lets the word through keeps whether it is there
-  any_filter : (w : List ℕ) (q : String Y → Bool) → ((k : String Y) → is_word w k ≡ true → q k ≡ true) → (es : List (String Y × X)) → list_any (is_word w) (keys_of (filter (λ e. q e.0) es)) ≡ list_any (is_word w) (keys_of es)
-  any_filter w q passes [] = refl
-  any_filter w q passes (e ∷ es) = same_first (is_word w e.0) (q e.0) _ _ _ (passes e.0) (any_filter w q passes es)
-      (λ is. ap (λ b. list_any (is_word w) (keys_of (cond b (e ∷ filter (λ e. q e.0) es) (filter (λ e. q e.0) es)))) is)
-      (λ is. ap (λ b. list_any (is_word w) (keys_of (cond b (e ∷ filter (λ e. q e.0) es) (filter (λ e. q e.0) es)))) is)
+-- a filter that lets a key through keeps whether it is there
+pub any_kept : {K X : Type 0} (f q : K → Bool) → ((k : K) → f k ≡ true → q k ≡ true) → (es : List (K × X)) → list_any f (keys_of (filter (λ e. q e.0) es)) ≡ list_any f (keys_of es)
+any_kept f q passes [] = refl
+any_kept f q passes (e ∷ es) = same_first (f e.0) (q e.0) _ _ _ (passes e.0) (any_kept f q passes es)
+    (λ is. ap (λ b. list_any f (keys_of (cond b (e ∷ filter (λ e. q e.0) es) (filter (λ e. q e.0) es)))) is)
+    (λ is. ap (λ b. list_any f (keys_of (cond b (e ∷ filter (λ e. q e.0) es) (filter (λ e. q e.0) es)))) is)
 
+module _ {Y X : Type 0} where
   seen_has : (w : List ℕ) (ws : List (List ℕ)) (es : List (String Y × X)) → has_word w ws ≡ true → list_any (is_word w) (keys_of es) ≡ true → list_any (λ e. has_word (string_bytes e.0) ws) es ≡ true
   seen_has w ws [] has some = some
   seen_has w ws (e ∷ es) has some = some_first (is_word w e.0) (list_any (is_word w) (keys_of es)) (has_word (string_bytes e.0) ws) some (λ is. subst (λ v. has_word v ws ≡ true) (word_is w e.0 is) has) _ (seen_has w ws es has)
@@ -119,7 +119,7 @@ module _ {Y X : Type 0} where
         let r = prefixed p ws has in
         let w = r.0 in
         let let_in = λ (k : String Y) (is : is_word w k ≡ true). passes k (subst (λ v. is_le (slice_cmp nat_cmp p v) ≡ true) (word_is w k is) (at_most p w r.1)) in
-        let there : list_any (is_word w) (keys_of (seen ++ rest)) ≡ true = ap (λ xs. list_any (is_word w) (keys_of xs)) (sym parted) ∙ any_filter w q let_in es ∙ listed w r.2 in
+        let there : list_any (is_word w) (keys_of (seen ++ rest)) ≡ true = ap (λ xs. list_any (is_word w) (keys_of xs)) (sym parted) ∙ any_kept (is_word w) q let_in es ∙ listed w r.2 in
         let split : list_any (is_word w) (keys_of (seen ++ rest)) ≡ (list_any (is_word w) (keys_of seen) || list_any (is_word w) (keys_of rest)) = ap (list_any (is_word w)) (map-append (λ (e : String Y × X). e.0) seen rest) ∙ list_any-append (is_word w) (keys_of seen) (keys_of rest) in
         seen_has w ws seen r.2 (drop_last _ _ (sym split ∙ there) (none w r.1))
 

@@ -19,11 +19,6 @@ use Rattle.segment.proofs.Runs.{zip-ext, by_docs}
 use Rattle.segment.proofs.Zips.{zip-test, zip-map}
 use Rattle.segment.proofs.TermKinds.{of_kind, text_made, long_made, by_kinds, truths}
 
--- a run without bounds is the whole dictionary
-pub all_pass : {E : Type 0} (es : List E) → filter (λ (e : E). true) es ≡ es
-all_pass [] = refl
-all_pass (e ∷ es) = ap (λ xs. e ∷ xs) (all_pass es)
-
 -- the documents of the entries so far are marked
 abbrev pub so_far : {E : Type 0} → (E → List ℕ → Bool) → List Bool → List (List ℕ) → List E → List Bool
 so_far hits old sources seen = zip_with (λ b s. b || list_any (λ e. hits e s) seen) old sources
@@ -64,23 +59,23 @@ module _ (m : MappingData) (old : List Bool) (sources : List (List ℕ)) (same :
     places-so_far seen test ps is = places-within m (so_far hits old sources seen) sources (whole-so_far seen) test ps is
 
   module _ (name : List ℕ) (test : Scalar → Bool) where
-    -- at the end of the dictionary, the documents with a text that passes
-    pub texts-end : {Y Z : Type 0} (es : List (String Y × Vec ℕ Z))
+    -- at the end of a span of the dictionary that has all texts that pass, the documents with one of these
+    pub texts-end : {Y Z : Type 0} (es : List (String Y × Vec ℕ Z)) (q : String Y → Bool) → ((k : String Y) → test (text (string_bytes k)) ≡ true → q k ≡ true)
         → ((w : List ℕ) → option_map_or (λ v. v.items) (lookup (is_word w) es) [] ≡ places (has_term m.fields name (text w)) (map (all_values m) sources))
-        → so_far (text_hit m name test) old sources es
+        → so_far (text_hit m name test) old sources (filter (λ e. q e.0) es)
         ≡ zip_with (λ b s. b || list_any (λ t. is_text t && test t) (terms_at m.fields (all_values m s) name)) old sources
-    texts-end es index =
-        by_docs m name old sources (λ d. list_any (λ e. test (text (string_bytes e.0)) && has (terms_at m.fields d name) (text (string_bytes e.0))) es) (λ d. list_any (λ t. is_text t && test t) (terms_at m.fields d name))
-        (map_same _ _ (map (all_values m) sources) (of_kind text string_bytes is_word word_is is_text text_made (λ w. refl) test (λ d. terms_at m.fields d name) (map (all_values m) sources) es index))
+    texts-end es q wide index =
+        by_docs m name old sources (λ d. list_any (λ e. test (text (string_bytes e.0)) && has (terms_at m.fields d name) (text (string_bytes e.0))) (filter (λ e. q e.0) es)) (λ d. list_any (λ t. is_text t && test t) (terms_at m.fields d name))
+        (map_same _ _ (map (all_values m) sources) (of_kind text string_bytes is_word word_is is_text text_made (λ w. refl) test (λ d. terms_at m.fields d name) (map (all_values m) sources) es index q wide))
 
-    -- and those with a number that passes
-    pub longs-end : {Z : Type 0} (es : List (ℤ × Vec ℕ Z))
+    -- and the same of numbers
+    pub longs-end : {Z : Type 0} (es : List (ℤ × Vec ℕ Z)) (q : ℤ → Bool) → ((z : ℤ) → test (long z) ≡ true → q z ≡ true)
         → ((z : ℤ) → option_map_or (λ v. v.items) (lookup (int_eq z) es) [] ≡ places (has_term m.fields name (long z)) (map (all_values m) sources))
-        → so_far (long_hit m name test) old sources es
+        → so_far (long_hit m name test) old sources (filter (λ e. q e.0) es)
         ≡ zip_with (λ b s. b || list_any (λ t. is_long t && test t) (terms_at m.fields (all_values m s) name)) old sources
-    longs-end es index =
-        by_docs m name old sources (λ d. list_any (λ e. test (long e.0) && has (terms_at m.fields d name) (long e.0)) es) (λ d. list_any (λ t. is_long t && test t) (terms_at m.fields d name))
-        (map_same _ _ (map (all_values m) sources) (of_kind long (λ z. z) int_eq (λ y z is. (Decides-int_eq y z).0 is) is_long long_made (λ z. refl) test (λ d. terms_at m.fields d name) (map (all_values m) sources) es index))
+    longs-end es q wide index =
+        by_docs m name old sources (λ d. list_any (λ e. test (long e.0) && has (terms_at m.fields d name) (long e.0)) (filter (λ e. q e.0) es)) (λ d. list_any (λ t. is_long t && test t) (terms_at m.fields d name))
+        (map_same _ _ (map (all_values m) sources) (of_kind long (λ z. z) int_eq (λ y z is. (Decides-int_eq y z).0 is) is_long long_made (λ z. refl) test (λ d. terms_at m.fields d name) (map (all_values m) sources) es index q wide))
 
     -- the three kinds one after another
     pub kinds-end :

@@ -2,3 +2,4 @@ pub mod Places
 pub mod Indexed
 pub mod Term
 pub mod Posted
+pub mod Spans

@@ -5,6 +5,7 @@ mod building;
 pub mod column;
 mod posting;
 pub mod segment;
+mod spans;
 mod term;
 
 pub use column::Column;

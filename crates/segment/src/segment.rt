@@ -13,7 +13,7 @@ ghost use Rattle.segment.specs.Indexed.{has_term, has_value, IsColumn, IsColumnO
 
 use crate::column::Column;
 use crate::term::Term;
-use crate::{building, term};
+use crate::{building, spans, term};
 use doc::{Doc, Mapping, Scalar, Source};
 use marks::Marks;
 use query::Bounds;
@@ -192,7 +192,7 @@ impl Segment {
         ensures whole { length marks.new ≡ length self.now.sources }
         ensures is { marks.new ≡ zip_with (λ b s. b || list_any (λ t. is_text t && is_within (bounds_view bounds.now) t) (terms_at self.now.mapping.fields (all_values self.now.mapping s) _name.now)) marks.old self.now.sources }
     {
-        for (word, places) in column.texts.range(..) {
+        for (word, places) in column.texts.range(spans::of_texts(bounds)) {
             let passes = term::is_within(bounds, Term::Text(word.as_str()));
             mark_if(marks, places, passes);
         }
@@ -205,7 +205,7 @@ impl Segment {
         ensures whole { length marks.new ≡ length self.now.sources }
         ensures is { marks.new ≡ zip_with (λ b s. b || list_any (λ t. is_long t && is_within (bounds_view bounds.now) t) (terms_at self.now.mapping.fields (all_values self.now.mapping s) _name.now)) marks.old self.now.sources }
     {
-        for (number, places) in column.longs.range(..) {
+        for (number, places) in column.longs.range(spans::of_longs(bounds)) {
             let passes = term::is_within(bounds, Term::Long(*number));
             mark_if(marks, places, passes);
         }

@@ -1,14 +1,12 @@
-use Rattle.std.proofs.Common.{◌∙◌, ◌<◌, ◌∷◌, ◌++◌, [], sym, ap, arith, length, take, if◌then◌else◌}
+use Rattle.std.proofs.Common.{◌≡◌, ◌∙◌, ap, length, take, subst, IfOk}
+use Rattle.std.proofs.lemmas.List.{take_all}
 use Rattle.marks.specs.Lists.{places}
-use Rattle.marks.proofs.Places.{places-more}
+use Rattle.marks.proofs.Runs.{length-places}
 use Rattle.marks.proofs.marks.Marks.places.Goals as goal
 
--- one place more
-pub loop-at-preserved : goal.loop-at-preserved
-loop-at-preserved c =
-    let at = c.loop-at.at in
-    let lt : at < length c.args.self.now = omega (arith, c.loop-at-test.true, c.len-at-end.ensures) in
-    c.in_ok-push_if.ensures
-    ∙ ap (λ ps. ps ++ (if c.get.result then at ∷ [] else [])) c.loop-at.invariant
-    ∙ ap (λ b. places (λ x. x) (take at c.args.self.now) ++ (if b then at ∷ [] else [])) c.get.ensures
-    ∙ sym (places-more c.args.self.now at lt)
+pub returns : goal.returns
+returns c =
+    let all = places (λ b. b) c.args.self.now in
+    subst (λ ps. IfOk c.first.result (λ v. v.items ≡ ps))
+    (ap (λ n. take n all) c.len.ensures ∙ take_all (length c.args.self.now) all (length-places 0 c.args.self.now))
+    c.first.ensures

@@ -1,11 +1,10 @@
 use Rattle.std.proofs.lemmas.Grind.{common_steps}
 use Rattle.std.proofs.lemmas.Int.{to_z-of_z}
-use Rattle.std.proofs.Common.{arith, append-nil, ◌≡◌, ◌<◌, if◌then◌else◌, ◌∙◌, ◌∷◌, [], ◌++◌, ◌&&◌, ap, sym, subst, All, length, map, ℕ, ℤ, Vec, Global}
-use Rattle.std.specs.BTreeMap.Range.{IsEntryInRange}
+use Rattle.std.proofs.Common.{arith, append-nil, ◌≡◌, ◌<◌, if◌then◌else◌, ◌∙◌, ◌∷◌, [], ◌++◌, ◌&&◌, ap, sym, subst, All, filter, length, map, ℕ, ℤ, Vec, Global}
+use Rattle.std.specs.BTreeMap.Range.{range_contains, IsEntryInRange}
 use Rattle.std.specs.Map.Iter.{deref_pair}
 use Rattle.std.specs.Option.{option_map_or}
 use Rattle.std.specs.Ordering.{int_cmp}
-use Rattle.std.specs.declared.ops.Bound.TheVariants.{Unbounded}
 use Rattle.std.proofs.lemmas.List.{map-append}
 use Rattle.std.proofs.lemmas.Map.Iter.{rest_so_far}
 use Rattle.doc.specs.Scalar.{long}
@@ -15,7 +14,7 @@ use Rattle.query.specs.View.{bounds_view}
 use Rattle.marks.specs.Lists.{places, marked}
 use Rattle.segment.proofs.Listed.{middle}
 use Rattle.segment.specs.Indexed.{has_term}
-use Rattle.segment.proofs.Withins.{so_far, long_hit, none-so_far, more-so_far, whole-so_far, places-so_far, longs-end, all_pass}
+use Rattle.segment.proofs.Withins.{so_far, long_hit, none-so_far, more-so_far, whole-so_far, places-so_far, longs-end}
 use Rattle.segment.proofs.segment.Segment.mark_longs.Goals as goal
 
 -- nothing more is marked yet
@@ -33,7 +32,7 @@ mark_if-requires c =
     let entry : ℤ × Vec ℕ Global = (k, c.in-Some.places.now) in
     let step : c.loop-number.number-iterator ≡ entry ∷ rest = c.in-Some.ensures.steps in
     let run_is : c.range-number-items.result ≡ seen ++ entry ∷ rest = sym c.into_iter-number-iterator.ensures.into_iter_gives ∙ rest_so_far deref_pair _ _ _ c.loop-number.yielded_by ∙ ap (λ xs. seen ++ xs) step in
-    let here = IsEntryInRange int_cmp Unbounded Unbounded c.args.column.now.longs in
+    let here = IsEntryInRange int_cmp c.of_longs.result.0 c.of_longs.result.1 c.args.column.now.longs in
     let found : here entry = middle here seen rest entry (subst (λ xs. All here xs) run_is (c.range-number-items.ensures.in_range tt).0) in
     let test = λ (d : Values). has_term m.fields c.args._name.now (long (k)) d in
     let items : c.deref.result.now ≡ places test docs = c.deref.ensures.value ∙ ap (λ o. option_map_or (λ v. v.items) o []) (sym found.1) ∙ c.requires.is.longs (k) in
@@ -52,7 +51,7 @@ loop-number-preserved c =
     let entry : ℤ × Vec ℕ Global = (k, c.in-Some.places.now) in
     let step : c.loop-number.number-iterator ≡ entry ∷ rest = c.in-Some.ensures.steps in
     let run_is : c.range-number-items.result ≡ seen ++ entry ∷ rest = sym c.into_iter-number-iterator.ensures.into_iter_gives ∙ rest_so_far deref_pair _ _ _ c.loop-number.yielded_by ∙ ap (λ xs. seen ++ xs) step in
-    let here = IsEntryInRange int_cmp Unbounded Unbounded c.args.column.now.longs in
+    let here = IsEntryInRange int_cmp c.of_longs.result.0 c.of_longs.result.1 c.args.column.now.longs in
     let found : here entry = middle here seen rest entry (subst (λ xs. All here xs) run_is (c.range-number-items.ensures.in_range tt).0) in
     let test = λ (d : Values). has_term m.fields c.args._name.now (long (k)) d in
     let items : c.deref.result.now ≡ places test docs = c.deref.ensures.value ∙ ap (λ o. option_map_or (λ v. v.items) o []) (sym found.1) ∙ c.requires.is.longs (k) in
@@ -72,9 +71,10 @@ returns-clause-is c =
     let asked = is_within (bounds_view c.args.bounds.now) in
     let hits = long_hit m c.args._name.now asked in
     let run_is : c.range-number-items.result ≡ map deref_pair c.loop-number.yielded ++ c.loop-number.number-iterator = sym c.into_iter-number-iterator.ensures.into_iter_gives ∙ rest_so_far deref_pair _ _ _ c.loop-number.yielded_by in
-    let whole : map deref_pair c.loop-number.yielded ≡ c.args.column.now.longs.entries = sym (append-nil (map deref_pair c.loop-number.yielded)) ∙ ap (λ xs. map deref_pair c.loop-number.yielded ++ xs) (sym c.in-None.ensures.steps.0) ∙ sym run_is ∙ c.range-number-items.ensures.between tt ∙ all_pass _ in
+    let q = λ (k : ℤ). range_contains int_cmp c.of_longs.result.0 c.of_longs.result.1 k in
+    let whole : map deref_pair c.loop-number.yielded ≡ filter (λ e. q e.0) c.args.column.now.longs.entries = sym (append-nil (map deref_pair c.loop-number.yielded)) ∙ ap (λ xs. map deref_pair c.loop-number.yielded ++ xs) (sym c.in-None.ensures.steps.0) ∙ sym run_is ∙ c.range-number-items.ensures.between tt in
     c.loop-number.invariant ∙ ap (so_far hits c.args.marks.now c.args.self.now.sources) whole
-    ∙ longs-end m c.args.marks.now c.args.self.now.sources c.requires.whole c.args._name.now asked c.args.column.now.longs.entries c.requires.is.longs
+    ∙ longs-end m c.args.marks.now c.args.self.now.sources c.requires.whole c.args._name.now asked c.args.column.now.longs.entries q c.of_longs.ensures.wide c.requires.is.longs
 
 pub returns-clause-whole : goal.returns-clause-whole
 returns-clause-whole c =

@@ -1,9 +1,9 @@
-use Rattle.std.proofs.Common.{append-nil, ◌≡◌, ◌<◌, if◌then◌else◌, ◌∙◌, ◌∷◌, [], ◌++◌, ◌&&◌, ap, sym, subst, All, length, map, ℕ, String, Vec, Global, string_bytes}
-use Rattle.std.specs.BTreeMap.Range.{IsEntryInRange}
+use Rattle.std.proofs.Common.{append-nil, ◌≡◌, ◌<◌, if◌then◌else◌, ◌∙◌, ◌∷◌, [], ◌++◌, ◌&&◌, ap, sym, subst, All, filter, length, map, ℕ, String, Vec, Global, string_bytes}
+use Rattle.std.specs.BTreeMap.Range.{range_contains, IsEntryInRange}
 use Rattle.std.specs.Map.Iter.{deref_pair}
 use Rattle.std.specs.Option.{option_map_or}
 use Rattle.std.specs.String.{string_cmp}
-use Rattle.std.specs.declared.ops.Bound.TheVariants.{Unbounded}
+use Rattle.std.specs.Range.Bound.{bound_map}
 use Rattle.std.proofs.lemmas.List.{map-append}
 use Rattle.std.proofs.lemmas.Map.Iter.{rest_so_far}
 use Rattle.doc.specs.Scalar.{text}
@@ -13,7 +13,7 @@ use Rattle.query.specs.View.{bounds_view}
 use Rattle.marks.specs.Lists.{places, marked}
 use Rattle.segment.proofs.Listed.{middle}
 use Rattle.segment.specs.Indexed.{has_term}
-use Rattle.segment.proofs.Withins.{so_far, text_hit, none-so_far, more-so_far, whole-so_far, places-so_far, texts-end, all_pass}
+use Rattle.segment.proofs.Withins.{so_far, text_hit, none-so_far, more-so_far, whole-so_far, places-so_far, texts-end}
 use Rattle.segment.proofs.segment.Segment.mark_texts.Goals as goal
 
 -- nothing more is marked yet
@@ -31,7 +31,7 @@ mark_if-requires c =
     let entry : String Global × Vec ℕ Global = (k, c.in-Some.places.now) in
     let step : c.loop-word.word-iterator ≡ entry ∷ rest = c.in-Some.ensures.steps in
     let run_is : c.range-word-items.result ≡ seen ++ entry ∷ rest = sym c.into_iter-word-iterator.ensures.into_iter_gives ∙ rest_so_far deref_pair _ _ _ c.loop-word.yielded_by ∙ ap (λ xs. seen ++ xs) step in
-    let here = IsEntryInRange string_cmp Unbounded Unbounded c.args.column.now.texts in
+    let here = IsEntryInRange string_cmp (bound_map (λ s. s.now) c.of_texts.result.0) (bound_map (λ s. s.now) c.of_texts.result.1) c.args.column.now.texts in
     let found : here entry = middle here seen rest entry (subst (λ xs. All here xs) run_is (c.range-word-items.ensures.in_range tt).0) in
     let test = λ (d : Values). has_term m.fields c.args._name.now (text (string_bytes k)) d in
     let items : c.deref.result.now ≡ places test docs = c.deref.ensures.value ∙ ap (λ o. option_map_or (λ v. v.items) o []) (sym found.1) ∙ c.requires.is.texts (string_bytes k) in
@@ -50,7 +50,7 @@ loop-word-preserved c =
     let entry : String Global × Vec ℕ Global = (k, c.in-Some.places.now) in
     let step : c.loop-word.word-iterator ≡ entry ∷ rest = c.in-Some.ensures.steps in
     let run_is : c.range-word-items.result ≡ seen ++ entry ∷ rest = sym c.into_iter-word-iterator.ensures.into_iter_gives ∙ rest_so_far deref_pair _ _ _ c.loop-word.yielded_by ∙ ap (λ xs. seen ++ xs) step in
-    let here = IsEntryInRange string_cmp Unbounded Unbounded c.args.column.now.texts in
+    let here = IsEntryInRange string_cmp (bound_map (λ s. s.now) c.of_texts.result.0) (bound_map (λ s. s.now) c.of_texts.result.1) c.args.column.now.texts in
     let found : here entry = middle here seen rest entry (subst (λ xs. All here xs) run_is (c.range-word-items.ensures.in_range tt).0) in
     let test = λ (d : Values). has_term m.fields c.args._name.now (text (string_bytes k)) d in
     let items : c.deref.result.now ≡ places test docs = c.deref.ensures.value ∙ ap (λ o. option_map_or (λ v. v.items) o []) (sym found.1) ∙ c.requires.is.texts (string_bytes k) in
@@ -70,9 +70,10 @@ returns-clause-is c =
     let asked = is_within (bounds_view c.args.bounds.now) in
     let hits = text_hit m c.args._name.now asked in
     let run_is : c.range-word-items.result ≡ map deref_pair c.loop-word.yielded ++ c.loop-word.word-iterator = sym c.into_iter-word-iterator.ensures.into_iter_gives ∙ rest_so_far deref_pair _ _ _ c.loop-word.yielded_by in
-    let whole : map deref_pair c.loop-word.yielded ≡ c.args.column.now.texts.entries = sym (append-nil (map deref_pair c.loop-word.yielded)) ∙ ap (λ xs. map deref_pair c.loop-word.yielded ++ xs) (sym c.in-None.ensures.steps.0) ∙ sym run_is ∙ c.range-word-items.ensures.between tt ∙ all_pass _ in
+    let q = λ (k : String Global). range_contains string_cmp (bound_map (λ s. s.now) c.of_texts.result.0) (bound_map (λ s. s.now) c.of_texts.result.1) k in
+    let whole : map deref_pair c.loop-word.yielded ≡ filter (λ e. q e.0) c.args.column.now.texts.entries = sym (append-nil (map deref_pair c.loop-word.yielded)) ∙ ap (λ xs. map deref_pair c.loop-word.yielded ++ xs) (sym c.in-None.ensures.steps.0) ∙ sym run_is ∙ c.range-word-items.ensures.between tt in
     c.loop-word.invariant ∙ ap (so_far hits c.args.marks.now c.args.self.now.sources) whole
-    ∙ texts-end m c.args.marks.now c.args.self.now.sources c.requires.whole c.args._name.now asked c.args.column.now.texts.entries c.requires.is.texts
+    ∙ texts-end m c.args.marks.now c.args.self.now.sources c.requires.whole c.args._name.now asked c.args.column.now.texts.entries q c.of_texts.ensures.wide c.requires.is.texts
 
 pub returns-clause-whole : goal.returns-clause-whole
 returns-clause-whole c =
