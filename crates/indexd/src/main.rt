@@ -3,6 +3,8 @@
 
 mod command;
 mod command_line;
+mod data_fault;
+mod data_folder;
 mod explaining;
 mod fault;
 mod index_name;

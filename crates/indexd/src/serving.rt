@@ -1,17 +1,21 @@
 //! Serving an index over HTTP on 127.0.0.1, one connection after another.
 
+use crate::data_fault::DataFault;
+use crate::data_folder::{MappingFile, open_index};
 use crate::index_name::is_index_name;
-use doc::DocFault;
-use front::{StreamFault, serve_stream};
+use doc::{DocFault, Mapping};
+use front::{Service, StreamFault, serve_stream};
 use serde_json::Value;
 use shard::Shard;
 use std::alloc::{AllocError, Global};
 use std::fmt::Display;
+use std::fs::File;
 use std::io::{BufReader, Read, Write};
 use std::net::{Net, Shutdown, TcpListener, TcpStream};
 use std::rt::Files;
 use std::time::Duration;
 use std::{fmt, fs, io};
+use translog::MemDevice;
 
 /// The greatest mapping file that is read, in bytes.
 const MAX_MAPPING: u64 = 1_048_576;
@@ -27,8 +31,10 @@ const LINGER: u64 = 500;
 pub(crate) struct Settings<'a> {
     pub(crate) port: u16,
     pub(crate) index: &'a str,
-    /// The file of the mapping; with none the mapping is empty.
+    /// The file of the mapping; with none it is the one that is kept, or for a new index empty.
     pub(crate) mapping: Option<&'a str>,
+    /// The folder that the index is kept in; with none it is in memory.
+    pub(crate) data: Option<&'a str>,
     /// After how many connections the server ends; with none it goes on.
     pub(crate) connections: Option<u64>,
 }
@@ -41,6 +47,7 @@ pub(crate) enum ServeFault {
     TooLarge,
     NotJson(serde_json::Error),
     Mapping(DocFault),
+    Data(DataFault),
     Port(u16, io::Error),
     Output(io::Error),
     Connection(io::Error),
@@ -58,6 +65,7 @@ impl Display for ServeFault {
             ServeFault::TooLarge => write!(f, "the mapping file has more than 1,048,576 bytes"),
             ServeFault::NotJson(error) => write!(f, "the mapping file isn't JSON: {error}"),
             ServeFault::Mapping(fault) => write!(f, "the mapping file is no mapping: {fault}"),
+            ServeFault::Data(fault) => write!(f, "the data folder: {fault}"),
             ServeFault::Port(port, error) => write!(
                 f,
                 "port {port} can't be had: {error}; give another one by --port"
@@ -80,7 +88,7 @@ impl From<AllocError> for ServeFault {
 /// Serves an index until the last connection that is wanted has ended. Where it listens is printed first.
 pub(crate) fn serve<R, O>(rt: &R, settings: Settings<'_>, output: &mut O) -> Result<(), ServeFault>
 where
-    R: Files + AllocGlobal + Net<Listener = TcpListener, Stream = TcpStream>,
+    R: Files<File = File> + AllocGlobal + Net<Listener = TcpListener, Stream = TcpStream>,
     O: Write,
 {
     let alloc = rt.alloc();
@@ -89,18 +97,60 @@ where
     }
     let mapping = mapping_of(rt, settings.mapping)?;
     let name = String::from_str(alloc, settings.index)?;
-    let mut shard = match Shard::new(alloc, name, &mapping) {
-        Ok(shard) => shard,
-        Err(DocFault::NoMemory) => return Err(ServeFault::NoMemory),
-        Err(fault) => return Err(ServeFault::Mapping(fault)),
+    let Some(folder) = settings.data else {
+        let mut shard = in_memory(alloc, name, mapping.as_ref())?;
+        return listen(rt, settings, &mut shard, output);
     };
+    let mut kept = match open_index(rt, folder, name, mapping.as_ref()) {
+        Ok(kept) => kept,
+        Err(DataFault::NoMemory) => return Err(ServeFault::NoMemory),
+        Err(fault) => return Err(ServeFault::Data(fault)),
+    };
+    listen(rt, settings, &mut kept.shard, output)
+}
+
+/// A new index in memory.
+fn in_memory(
+    alloc: Global,
+    name: String,
+    mapping: Option<&MappingFile>,
+) -> Result<Shard<MemDevice>, ServeFault> {
+    let begun = match mapping {
+        Some(mapping) => Shard::new(alloc, name, &mapping.value),
+        None => {
+            let empty = json_of(alloc, "{}")?;
+            Shard::new(alloc, name, &empty)
+        }
+    };
+    begun.map_err(refused)
+}
+
+fn refused(fault: DocFault) -> ServeFault {
+    match fault {
+        DocFault::NoMemory => ServeFault::NoMemory,
+        fault => ServeFault::Mapping(fault),
+    }
+}
+
+/// Takes the port, and serves the connections that come to it.
+fn listen<R, O, S>(
+    rt: &R,
+    settings: Settings<'_>,
+    service: &mut S,
+    output: &mut O,
+) -> Result<(), ServeFault>
+where
+    R: AllocGlobal + Net<Listener = TcpListener, Stream = TcpStream>,
+    O: Write,
+    S: Service,
+{
     let port = settings.port;
     let listener = match TcpListener::bind(rt, ("127.0.0.1", port)) {
         Ok(listener) => listener,
         Err(error) => return Err(ServeFault::Port(port, error)),
     };
     announce(output, port).map_err(ServeFault::Output)?;
-    serve_all(alloc, &listener, &mut shard, settings.connections)
+    serve_all(rt.alloc(), &listener, service, settings.connections)
 }
 
 fn announce<O: Write>(output: &mut O, port: u16) -> io::Result<()> {
@@ -108,14 +158,21 @@ fn announce<O: Write>(output: &mut O, port: u16) -> io::Result<()> {
     output.flush()
 }
 
-/// The JSON value of a mapping file.
-fn mapping_of<R: Files + AllocGlobal>(rt: &R, file: Option<&str>) -> Result<Value, ServeFault> {
+/// The mapping of a file, where one is named; it is one that an index may have.
+fn mapping_of<R: Files + AllocGlobal>(
+    rt: &R,
+    file: Option<&str>,
+) -> Result<Option<MappingFile>, ServeFault> {
     let alloc = rt.alloc();
     let Some(file) = file else {
-        return json_of(alloc, "{}");
+        return Ok(None);
     };
     let text = text_of(rt, file)?;
-    json_of(alloc, text.as_str())
+    let value = json_of(alloc, text.as_str())?;
+    match Mapping::from_value(alloc, &value) {
+        Ok(_) => Ok(Some(MappingFile { text, value })),
+        Err(fault) => Err(refused(fault)),
+    }
 }
 
 fn json_of(alloc: Global, text: &str) -> Result<Value, ServeFault> {
@@ -143,10 +200,10 @@ fn text_of<R: Files + AllocGlobal>(rt: &R, file: &str) -> Result<String, ServeFa
 }
 
 /// Serves connections, one after another. A fault on one ends that connection alone; where none can be had any more the server ends.
-fn serve_all(
+fn serve_all<S: Service>(
     alloc: Global,
     listener: &TcpListener,
-    shard: &mut Shard,
+    service: &mut S,
     connections: Option<u64>,
 ) -> Result<(), ServeFault> {
     let mut served: u64 = 0;
@@ -154,7 +211,7 @@ fn serve_all(
     for stream in listener.incoming() {
         match stream {
             Ok(stream) => {
-                let _ = serve_one(alloc, &stream, shard);
+                let _ = serve_one(alloc, &stream, service);
                 served = served.saturating_add(1);
                 refused = 0;
             }
@@ -173,12 +230,16 @@ fn serve_all(
 }
 
 /// Serves one connection: pages go to it as they are spelt, and requests come through a buffer.
-fn serve_one(alloc: Global, stream: &TcpStream, shard: &mut Shard) -> Result<u64, StreamFault> {
+fn serve_one<S: Service>(
+    alloc: Global,
+    stream: &TcpStream,
+    service: &mut S,
+) -> Result<u64, StreamFault> {
     let Ok(mut input) = BufReader::new(alloc, stream) else {
         return Err(StreamFault::NoMemory);
     };
     let mut output = stream;
-    let served = serve_stream(alloc, &mut input, &mut output, shard);
+    let served = serve_stream(alloc, &mut input, &mut output, service);
     close(stream);
     served
 }
