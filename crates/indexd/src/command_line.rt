@@ -37,6 +37,19 @@ Exit status: 0; 1 where the script can't be read, the output can't be written
 or memory is wanting; 2 for a bad command line.
 README.md beside the program says more, and what is proved.";
 
+/// What stands behind the options of `serve` in `--help`.
+const KEPT: &str =
+    "With --data DIR each write is on the disk before it is confirmed, and a start finds all
+that was confirmed: after the end of the server, a kill, a full disk. DIR is made
+where it is missing, and holds mapping.json, master.log and copy-1.rsx. One server
+at a time has it.
+
+Example:
+  ./indexd serve --port 9200 --index books --mapping books.json --data books.data
+
+Exit status: 0; 1 where the index can't be begun or opened, or the port can't be
+had; 2 for a bad command line.";
+
 /// The script that is to be played, and whether refusals are explained.
 #[derive(Clone, Copy)]
 pub(crate) struct Played<'a> {
@@ -78,6 +91,7 @@ fn settings_of<'a>(options: &ArgMatches<'a>) -> Settings<'a> {
         port: options.get_one::<u16>("port").unwrap_or(0),
         index: options.get_str("index").unwrap_or("index"),
         mapping: options.get_str("mapping"),
+        data: options.get_str("data"),
         connections: options.get_one::<u64>("connections"),
     }
 }
@@ -122,9 +136,15 @@ fn serve_command<'a>(alloc: Global) -> Result<Command<'a>, AllocError> {
     let mapping = option(
         alloc,
         "mapping",
-        "The file of the mapping; an empty mapping where none is given",
+        "The file of the mapping; where none is given, the one that is kept, or an empty one",
     )
     .value_name("FILE");
+    let data = option(
+        alloc,
+        "data",
+        "The folder that the index is kept in; where none is given, it is in memory and ends with the server",
+    )
+    .value_name("DIR");
     let copies = option(alloc, "copies", "How many copies the index has: 1")
         .value_name("N")
         .value_parser(clap::value_parser!(u64).range(1..=1));
@@ -136,10 +156,12 @@ fn serve_command<'a>(alloc: Global) -> Result<Command<'a>, AllocError> {
     .value_name("N")
     .value_parser(clap::value_parser!(u64).range(1..=1_000_000));
     Command::new(alloc, "serve")
-        .about("Serves a new index over HTTP, as Elasticsearch's requests ask it")
+        .about("Serves an index over HTTP, as Elasticsearch's requests ask it")
+        .after_help(KEPT)
         .arg(port)?
         .arg(index)?
         .arg(mapping)?
+        .arg(data)?
         .arg(copies)?
         .arg(connections)
 }

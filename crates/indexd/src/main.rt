@@ -4,6 +4,8 @@
 mod command;
 mod command_line;
 mod connections;
+mod data_fault;
+mod data_folder;
 mod desk;
 mod explaining;
 mod fault;

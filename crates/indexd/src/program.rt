@@ -12,6 +12,7 @@ use crate::telling::{Listener, Teller, Wanted};
 use crate::writing::Flushing;
 use clap::error::ErrorKind;
 use std::alloc::Global;
+use std::fs::File;
 use std::io::{BufRead, BufReader, Write};
 use std::net::{Net, TcpListener, TcpStream};
 use std::rt::Files;
@@ -50,7 +51,7 @@ pub fn program<R, I: BufRead, O: Write, E: Write>(
     errors: &mut E,
 ) -> u8
 where
-    R: Files + Clock + AllocGlobal + Net<Listener = TcpListener, Stream = TcpStream> + Threads + Wait + Sync,
+    R: Files<File = File> + Clock + AllocGlobal + Net<Listener = TcpListener, Stream = TcpStream> + Threads + Wait + Sync,
     ensures { result < 3 }
 {
     match task_of(rt.alloc(), words) {
@@ -68,7 +69,7 @@ fn run_server<R, O: Write, E: Write>(
     errors: &mut E,
 ) -> u8
 where
-    R: Files + AllocGlobal + Net<Listener = TcpListener, Stream = TcpStream> + Threads + Wait + Sync,
+    R: Files<File = File> + AllocGlobal + Net<Listener = TcpListener, Stream = TcpStream> + Threads + Wait + Sync,
     ensures { result < 2 }
 {
     match serve(rt, settings, output) {

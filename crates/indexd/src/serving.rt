@@ -1,18 +1,23 @@
 //! Serving an index over HTTP on 127.0.0.1.
 
 use crate::connections::serve_connections;
+use crate::data_fault::DataFault;
+use crate::data_folder::{KeptIndex, MappingFile, open_index};
 use crate::index_name::is_index_name;
-use doc::DocFault;
+use doc::{DocFault, Mapping};
+use front::Service;
 use serde_json::Value;
 use shard::Shard;
 use std::alloc::{AllocError, Global};
 use std::fmt::Display;
+use std::fs::File;
 use std::io::{Read, Write};
 use std::net::{Net, TcpListener, TcpStream};
 use std::rt::Files;
 use std::sync::Wait;
 use std::thread::Threads;
 use std::{fmt, fs, io};
+use translog::MemDevice;
 
 /// The greatest mapping file that is read, in bytes.
 const MAX_MAPPING: u64 = 1_048_576;
@@ -22,8 +27,10 @@ const MAX_MAPPING: u64 = 1_048_576;
 pub(crate) struct Settings<'a> {
     pub(crate) port: u16,
     pub(crate) index: &'a str,
-    /// The file of the mapping; with none the mapping is empty.
+    /// The file of the mapping; with none it is the one that is kept, or for a new index empty.
     pub(crate) mapping: Option<&'a str>,
+    /// The folder that the index is kept in; with none it is in memory.
+    pub(crate) data: Option<&'a str>,
     /// After how many connections the server ends; with none it goes on.
     pub(crate) connections: Option<u64>,
 }
@@ -36,6 +43,7 @@ pub(crate) enum ServeFault {
     TooLarge,
     NotJson(serde_json::Error),
     Mapping(DocFault),
+    Data(DataFault),
     Port(u16, io::Error),
     Output(io::Error),
     Connection(io::Error),
@@ -53,6 +61,7 @@ impl Display for ServeFault {
             ServeFault::TooLarge => write!(f, "the mapping file has more than 1,048,576 bytes"),
             ServeFault::NotJson(error) => write!(f, "the mapping file isn't JSON: {error}"),
             ServeFault::Mapping(fault) => write!(f, "the mapping file is no mapping: {fault}"),
+            ServeFault::Data(fault) => write!(f, "the data folder: {fault}"),
             ServeFault::Port(port, error) => write!(
                 f,
                 "port {port} can't be had: {error}; give another one by --port"
@@ -75,7 +84,7 @@ impl From<AllocError> for ServeFault {
 /// Serves an index until the last connection that is wanted has ended. Where it listens is printed first.
 pub(crate) fn serve<R, O>(rt: &R, settings: Settings<'_>, output: &mut O) -> Result<(), ServeFault>
 where
-    R: Files + AllocGlobal + Net<Listener = TcpListener, Stream = TcpStream> + Threads + Wait + Sync,
+    R: Files<File = File> + AllocGlobal + Net<Listener = TcpListener, Stream = TcpStream> + Threads + Wait + Sync,
     O: Write,
 {
     let alloc = rt.alloc();
@@ -84,18 +93,62 @@ where
     }
     let mapping = mapping_of(rt, settings.mapping)?;
     let name = String::from_str(alloc, settings.index)?;
-    let shard = match Shard::new(alloc, name, &mapping) {
-        Ok(shard) => shard,
-        Err(DocFault::NoMemory) => return Err(ServeFault::NoMemory),
-        Err(fault) => return Err(ServeFault::Mapping(fault)),
+    let Some(folder) = settings.data else {
+        let shard = in_memory(alloc, name, mapping.as_ref())?;
+        return listen(rt, settings, shard, output);
     };
+    let KeptIndex { shard, lock } = match open_index(rt, folder, name, mapping.as_ref()) {
+        Ok(kept) => kept,
+        Err(DataFault::NoMemory) => return Err(ServeFault::NoMemory),
+        Err(fault) => return Err(ServeFault::Data(fault)),
+    };
+    let ended = listen(rt, settings, shard, output);
+    drop(lock);
+    ended
+}
+
+/// A new index in memory.
+fn in_memory(
+    alloc: Global,
+    name: String,
+    mapping: Option<&MappingFile>,
+) -> Result<Shard<MemDevice>, ServeFault> {
+    let begun = match mapping {
+        Some(mapping) => Shard::new(alloc, name, &mapping.value),
+        None => {
+            let empty = json_of(alloc, "{}")?;
+            Shard::new(alloc, name, &empty)
+        }
+    };
+    begun.map_err(refused)
+}
+
+fn refused(fault: DocFault) -> ServeFault {
+    match fault {
+        DocFault::NoMemory => ServeFault::NoMemory,
+        fault => ServeFault::Mapping(fault),
+    }
+}
+
+/// Takes the port, and serves the connections that come to it.
+fn listen<R, O, S>(
+    rt: &R,
+    settings: Settings<'_>,
+    service: S,
+    output: &mut O,
+) -> Result<(), ServeFault>
+where
+    R: AllocGlobal + Net<Listener = TcpListener, Stream = TcpStream> + Threads + Wait + Sync,
+    O: Write,
+    S: Service + Send + Drop,
+{
     let port = settings.port;
     let listener = match TcpListener::bind(rt, ("127.0.0.1", port)) {
         Ok(listener) => listener,
         Err(error) => return Err(ServeFault::Port(port, error)),
     };
     announce(output, port).map_err(ServeFault::Output)?;
-    match serve_connections(rt, alloc, &listener, shard, settings.connections) {
+    match serve_connections(rt, rt.alloc(), &listener, service, settings.connections) {
         Ok(()) => Ok(()),
         Err(error) => if error.kind() == io::ErrorKind::OutOfMemory {
             Err(ServeFault::NoMemory)
@@ -110,14 +163,21 @@ fn announce<O: Write>(output: &mut O, port: u16) -> io::Result<()> {
     output.flush()
 }
 
-/// The JSON value of a mapping file.
-fn mapping_of<R: Files + AllocGlobal>(rt: &R, file: Option<&str>) -> Result<Value, ServeFault> {
+/// The mapping of a file, where one is named; it is one that an index may have.
+fn mapping_of<R: Files + AllocGlobal>(
+    rt: &R,
+    file: Option<&str>,
+) -> Result<Option<MappingFile>, ServeFault> {
     let alloc = rt.alloc();
     let Some(file) = file else {
-        return json_of(alloc, "{}");
+        return Ok(None);
     };
     let text = text_of(rt, file)?;
-    json_of(alloc, text.as_str())
+    let value = json_of(alloc, text.as_str())?;
+    match Mapping::from_value(alloc, &value) {
+        Ok(_) => Ok(Some(MappingFile { text, value })),
+        Err(fault) => Err(refused(fault)),
+    }
 }
 
 fn json_of(alloc: Global, text: &str) -> Result<Value, ServeFault> {

@@ -21,7 +21,7 @@ use Rattle.replica.specs.declared.output.Answer.TheVariants.{Wrote, Taken, Stale
 use Rattle.replica.specs.declared.output.Outcome as kept_outcome
 use Rattle.replica.specs.declared.output.Outcome.TheVariants as outcome
 use Rattle.replica.specs.Copy.{Copy, begun}
-use Rattle.replica.specs.Logged.{Logged}
+use Rattle.replica.specs.Logged.{Logged, IsFailed}
 use Rattle.replica.specs.Step.{Step, copy_step, members_of}
 use Rattle.front.specs.declared.command.Change.{Change}
 use Rattle.front.specs.declared.command.Change.TheVariants as change
@@ -137,9 +137,22 @@ is_failure (refused NoMemory) = true
 is_failure (refused Log) = true
 is_failure r = false
 
+-- the log failed in the step of a write; nothing else comes to it
+pub record HasFailed (s : Logged) (w : Write) (t : Logged) : Type 0 where
+  pub fault : CopyFault
+  pub failed : IsFailed s t (copy_step s.copy (input_of w)) fault
+
+abbrev pub HasFailedIn : Command → Logged → Logged → Type 0
+HasFailedIn (write w) s t = HasFailed s w t
+HasFailedIn (get id) s t = ⊥
+HasFailedIn (search q page) s t = ⊥
+HasFailedIn (count q) s t = ⊥
+HasFailedIn refresh s t = ⊥
+
 -- the reply to a command, and the copy after it
 pub record IsAnswered (s : Logged) (c : Command) (r : Reply) (t : Logged) : Type 0 where
-  pub closed : s.closed ≡ true → r ≡ refused Closed
+  pub closed : s.closed ≡ true → (r ≡ refused Closed) × (t ≡ s)
   pub exact : s.closed ≡ false → is_failure r ≡ false → (t.copy, r) ≡ told s.copy (asked s.copy c)
   pub memory : s.closed ≡ false → r ≡ refused NoMemory → IsPartOf c s.copy t.copy
   pub stays : s.closed ≡ false → r ≢ refused Log → t.closed ≡ false
+  pub failed : s.closed ≡ false → r ≡ refused Log → HasFailedIn c s t

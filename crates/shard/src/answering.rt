@@ -1,11 +1,12 @@
 //! What a copy answers the commands of requests.
-ghost use Rattle.std.specs.Prelude.{◌≡◌, false, map, IfOk, IfErr, OnOk, option_map};
+ghost use Rattle.std.specs.Prelude.{◌≡◌, true, false, map, IfOk, IfErr, OnOk, option_map};
 ghost use Rattle.doc.specs.Outcome.{Gives};
 ghost use Rattle.engine.specs.Shown.{hit_view};
 ghost use Rattle.front.specs.CommandView.{command_view};
 ghost use Rattle.front.specs.ReplyView.{reply_view};
 ghost use Rattle.query.specs.View.{query_view};
 ghost use Rattle.replica.specs.Fault.{fault_of, is_log};
+ghost use Rattle.replica.specs.Logged.{uses_log};
 ghost use Rattle.shard.specs.Answering as spec;
 
 use engine::Hit as Found;
@@ -14,21 +15,32 @@ use front::reply::{Found as Document, Hit, Outcome, Refusal, Reply, Wrote};
 use query::{Page, Query, SearchBody};
 use replica::{Answer, Copy, CopyFault, Input, OpType, Output};
 use std::alloc::{AllocError, Global};
-use translog::MemDevice;
+use translog::LogDevice;
 
-/// The one copy of an index; its log is in memory.
-type OneCopy = Copy<MemDevice>;
+/// Does a command, and tells the copy's refusal as a reply.
+pub(crate) fn reply_to<D: LogDevice>(alloc: Global, copy: &mut Copy<D>, command: Command) -> Reply
+    ensures { spec.IsAnswered copy.old (command_view command) (reply_view result) copy.new }
+{
+    if copy.snapshot().is_none() {
+        return Reply::Refused(Refusal::Closed);
+    }
+    match answer(alloc, copy, command) {
+        Ok(reply) => reply,
+        Err(fault) => Reply::Refused(refusal_of(&fault)),
+    }
+}
 
 /// Does a command. After want of memory nothing has changed, or the write stands whose refresh was refused.
-pub(crate) fn answer(
+pub(crate) fn answer<D: LogDevice>(
     alloc: Global,
-    copy: &mut OneCopy,
+    copy: &mut Copy<D>,
     command: Command,
 ) -> Result<Reply, CopyFault>
     requires { copy.old.closed ≡ false }
     ensures gives { Gives fault_of (λ r. (copy.new.copy, reply_view r)) result (spec.asked copy.old.copy (command_view command)) }
     ensures open { OnOk result (copy.new.closed ≡ false) }
     ensures part { IfErr result (λ e. is_log e ≡ false → (copy.new.closed ≡ false) × spec.IsPartOf (command_view command) copy.old.copy copy.new.copy) }
+    ensures failed { IfErr result (λ e. is_log e ≡ true → spec.HasFailedIn (command_view command) copy.old copy.new) }
 {
     match command {
         Command::Write(write) => do_write(alloc, copy, write),
@@ -40,22 +52,28 @@ pub(crate) fn answer(
 }
 
 /// Does a step of the copy.
-fn take(alloc: Global, copy: &mut OneCopy, input: Input) -> Result<Reply, CopyFault>
-    requires { copy.old.closed ≡ false }
+fn take<D: LogDevice>(alloc: Global, copy: &mut Copy<D>, input: Input) -> Result<Reply, CopyFault>
+    requires open { copy.old.closed ≡ false }
+    requires no_log { uses_log input ≡ false }
     ensures gives { Gives fault_of (λ r. (copy.new.copy, reply_view r)) result (spec.taken copy.old.copy input) }
     ensures open { OnOk result (copy.new.closed ≡ false) }
-    ensures part { IfErr result (λ e. is_log e ≡ false → (copy.new.closed ≡ false) × (copy.new.copy ≡ copy.old.copy)) }
+    ensures part { IfErr result (λ e. (is_log e ≡ false) × (copy.new.closed ≡ false) × (copy.new.copy ≡ copy.old.copy)) }
 {
     let output = copy.step(alloc, input)?;
     Ok(reply_of(output))
 }
 
 /// Does a write, and then the refresh that is wanted.
-fn do_write(alloc: Global, copy: &mut OneCopy, write: Write) -> Result<Reply, CopyFault>
+fn do_write<D: LogDevice>(
+    alloc: Global,
+    copy: &mut Copy<D>,
+    write: Write,
+) -> Result<Reply, CopyFault>
     requires { copy.old.closed ≡ false }
     ensures gives { Gives fault_of (λ r. (copy.new.copy, reply_view r)) result (spec.written copy.old.copy write) }
     ensures open { OnOk result (copy.new.closed ≡ false) }
     ensures part { IfErr result (λ e. is_log e ≡ false → (copy.new.closed ≡ false) × spec.IsPartOf (command_view (Command.Write write)) copy.old.copy copy.new.copy) }
+    ensures failed { IfErr result (λ e. is_log e ≡ true → spec.HasFailed copy.old write copy.new) }
 {
     let refresh = write.refresh;
     let output = copy.step(alloc, input_of(write))?;
@@ -163,10 +181,15 @@ pub(crate) fn refusal_of(fault: &CopyFault) -> Refusal
 }
 
 #[tactic(auto, using(crate::proofs::Found::each_in_turn))]
-fn search(alloc: Global, copy: &OneCopy, body: &SearchBody) -> Result<Reply, CopyFault>
+fn search<D: LogDevice>(
+    alloc: Global,
+    copy: &Copy<D>,
+    body: &SearchBody,
+) -> Result<Reply, CopyFault>
     requires { copy.now.closed ≡ false }
     ensures gives { Gives fault_of (λ r. (copy.now.copy, reply_view r)) result
         (spec.asked copy.now.copy (command_view (Command.Search body.now))) }
+    ensures no_log { IfErr result (λ e. is_log e ≡ false) }
 {
     let Some(snapshot) = copy.snapshot() else {
         return Err(CopyFault::Closed);
@@ -195,10 +218,11 @@ fn hit_of(alloc: Global, found: &Found) -> Result<Hit, AllocError>
     })
 }
 
-fn count(alloc: Global, copy: &OneCopy, query: &Query) -> Result<Reply, CopyFault>
+fn count<D: LogDevice>(alloc: Global, copy: &Copy<D>, query: &Query) -> Result<Reply, CopyFault>
     requires { copy.now.closed ≡ false }
     ensures gives { Gives fault_of (λ r. (copy.now.copy, reply_view r)) result
         (spec.asked copy.now.copy (command_view (Command.Count query.now))) }
+    ensures no_log { IfErr result (λ e. is_log e ≡ false) }
 {
     let Some(snapshot) = copy.snapshot() else {
         return Err(CopyFault::Closed);

@@ -2,6 +2,7 @@
 #![tactic(auto)]
 
 mod answering;
+mod ready;
 pub mod shard;
 
 pub use shard::Shard;

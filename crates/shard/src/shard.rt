@@ -1,60 +1,97 @@
-//! An index of one copy, whose log is in memory.
-ghost use Rattle.std.specs.Prelude.{◌≡◌, false, IfOk, string_bytes};
+//! An index of one copy and its master, over devices of one kind.
+ghost use Rattle.std.specs.Prelude.{◌≡◌, ◌&&◌, true, false, not, IfOk, string_bytes};
 ghost use Rattle.serde_json.specs.View.{view};
 ghost use Rattle.doc.specs.Fault.{fault_of};
 ghost use Rattle.doc.specs.Outcome.{Gives};
 ghost use Rattle.shard.specs.Answering.{begun_under};
+ghost use Rattle.shard.specs.Ready as spec;
+ghost use Rattle.shard.specs.Ready.{IsReady};
 
-use crate::answering::{answer, refusal_of};
+use crate::answering::reply_to;
+use crate::ready::{is_primary, is_write, make_ready};
 use doc::{DocFault, Mapping};
-use front::reply::Refusal;
 use front::{Command, Reply, Service};
+use master::Master;
 use replica::Copy;
 use serde_json::Value;
-use std::alloc::Global;
-use translog::MemDevice;
+use std::alloc::{AllocError, Global};
+use translog::{LogDevice, MemDevice};
 
-/// An index of a name and a mapping over its one copy, whose log is in memory.
+/// An index of a name and a mapping over its one copy, and the master that makes the copy its primary again after it was opened anew.
 #[derive(Drop)]
-pub struct Shard {
+pub struct Shard<D: LogDevice> {
     alloc: Global,
     name: String,
     mapping: Mapping,
-    copy: Copy<MemDevice>,
+    master: Master<D>,
+    copy: Copy<D>,
 }
 
-impl Shard {
-    /// A new index under the mapping that a JSON value is, or the mapping's fault. An index name has 1 to 255 bytes, no capital letter of ASCII,
-    /// and is judged by the caller.
-    pub fn new(alloc: Global, name: String, mapping: &Value) -> Result<Shard, DocFault>
+impl Shard<MemDevice> {
+    /// A new index in memory under the mapping that a JSON value is, or the mapping's fault. An index name has 1 to 255 bytes, no capital letter of
+    /// ASCII, and is judged by the caller.
+    pub fn new(alloc: Global, name: String, mapping: &Value) -> Result<Shard<MemDevice>, DocFault>
         ensures gives { Gives fault_of (λ s. (s.mapping, s.copy.copy)) result (begun_under (view mapping.now)) }
         ensures open { IfOk result (λ s. s.copy.closed ≡ false) }
         ensures name { IfOk result (λ s. string_bytes s.name ≡ string_bytes name) }
     {
-        let kept = Mapping::from_value(alloc, mapping)?;
         let mapping = Mapping::from_value(alloc, mapping)?;
-        let device = MemDevice::new(Vec::new(alloc));
-        match Copy::begin(alloc, 1, 1, kept, device) {
-            Ok(copy) => Ok(Shard {
-                alloc,
-                name,
-                mapping,
-                copy,
-            }),
+        let Ok(copy) = Copy::begin(alloc, 1, 1, mapping, MemDevice::new(Vec::new(alloc))) else {
+            return Err(DocFault::NoMemory);
+        };
+        let Ok(master) = Master::begin(alloc, 1, MemDevice::new(Vec::new(alloc))) else {
+            return Err(DocFault::NoMemory);
+        };
+        match Shard::over(alloc, name, master, copy) {
+            Ok(shard) => Ok(shard),
             Err(_) => Err(DocFault::NoMemory),
         }
     }
 }
 
-impl Service for Shard {
+impl<D: LogDevice> Shard<D> {
+    /// The index of a copy and a master that are there.
+    pub fn over(
+        alloc: Global,
+        name: String,
+        master: Master<D>,
+        copy: Copy<D>,
+    ) -> Result<Shard<D>, AllocError>
+        ensures copy { IfOk result (λ s. s.copy ≡ copy) }
+        ensures mapping { IfOk result (λ s. s.mapping ≡ copy.copy.mapping) }
+        ensures name { IfOk result (λ s. string_bytes s.name ≡ string_bytes name) }
+    {
+        let mapping = copy.mapping().copy(alloc)?;
+        Ok(Shard {
+            alloc,
+            name,
+            mapping,
+            master,
+            copy,
+        })
+    }
+
+    /// Makes the copy ready for writes, and tells whether it is: open, and the primary.
+    pub fn lead(&mut self) -> bool
+        ensures ready { IsReady true self.old.copy self.new.copy }
+        ensures leads { result ≡ (not self.new.copy.closed && spec.is_primary self.new.copy.copy.role) }
+        ensures name { string_bytes self.new.name ≡ string_bytes self.old.name }
+        ensures mapping { self.new.mapping ≡ self.old.mapping }
+    {
+        make_ready(self.alloc, &mut self.copy, &mut self.master, true);
+        self.copy.snapshot().is_some() && is_primary(self.copy.role())
+    }
+}
+
+impl<D: LogDevice> Service for Shard<D> {
     ghost use Rattle.std.specs.Prelude.{string_bytes};
-    ghost use Rattle.shard.specs.Answering.{IsAnswered};
+    ghost use Rattle.shard.specs.Ready.{IsServed};
 
     ghost name = { λ s. string_bytes s.name };
 
     ghost fields = { λ s. s.mapping };
 
-    ghost answers = { λ s c r t. IsAnswered s.copy c r t.copy };
+    ghost answers = { λ s c r t. IsServed s.copy c r t.copy };
 
     fn index(&self) -> &str {
         self.name.as_str()
@@ -65,12 +102,8 @@ impl Service for Shard {
     }
 
     fn call(&mut self, command: Command) -> Reply {
-        if self.copy.snapshot().is_none() {
-            return Reply::Refused(Refusal::Closed);
-        }
-        match answer(self.alloc, &mut self.copy, command) {
-            Ok(reply) => reply,
-            Err(fault) => Reply::Refused(refusal_of(&fault)),
-        }
+        let writes = is_write(&command);
+        make_ready(self.alloc, &mut self.copy, &mut self.master, writes);
+        reply_to(self.alloc, &mut self.copy, command)
     }
 }
