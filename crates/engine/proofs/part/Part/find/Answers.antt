@@ -1,4 +1,4 @@
-use Rattle.std.proofs.Common.{◌<◌, ◌∙◌, ap, sym, arith, length, take, filter}
+use Rattle.std.proofs.Common.{◌<◌, ◌∙◌, ap, arith, length, take, filter}
 use Rattle.std.proofs.lemmas.List.Elements.{All-take}
 use Rattle.std.specs.Arc.{arc_value}
 use Rattle.query.specs.View.{query_view}
