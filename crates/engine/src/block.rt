@@ -1,5 +1,5 @@
 //! Documents with their segment.
-ghost use Rattle.std.specs.Prelude.{◌≡◌, ◌<◌, ◌^◌, ◌&&◌, ◌||◌, Bool, All, Some, [], true, false, map, length, slice_get, slice_index_or, IfOk, IfErr};
+ghost use Rattle.std.specs.Prelude.{◌≡◌, ◌<◌, ◌^◌, ◌&&◌, ◌||◌, Bool, All, Some, [], true, false, map, take, length, slice_get, slice_index_or, IfOk, IfErr};
 ghost use Rattle.std.specs.List.{AllByRecursion};
 ghost use Rattle.std.specs.declared.cmp.Ordering.TheVariants.{Equal};
 ghost use Rattle.std.specs.Arc.{arc_value};
@@ -17,7 +17,7 @@ use crate::documents::Entry;
 use doc::{Doc, DocFault, DocId, Mapping, Source};
 use marks::Marks;
 use query::Query;
-use search::find;
+use search::{FoundPlaces, find};
 use segment::Segment;
 use std::alloc::{AllocError, Global};
 use std::cmp::Ordering;
@@ -80,17 +80,19 @@ impl Block {
         self.segment.len()
     }
 
-    /// The places of the live documents that the query means, rising.
+    /// The live documents that the query means: how many there are, and the places of the first of them, rising, no more than wanted.
     pub(crate) fn find(
         &self,
         alloc: Global,
         live: &Marks,
         query: &Query,
-    ) -> Result<Vec<u32>, AllocError>
+        wanted: usize,
+    ) -> Result<FoundPlaces, AllocError>
         requires { length live.now ≡ length self.now.documents }
-        ensures { IfOk result (λ v. v.items ≡ places (λ b. b) (zip_with (λ m l. m && l) (map (is_found self.now.mapping (query_view query.now)) self.now.documents) live.now)) }
+        ensures total { IfOk result (λ f. f.total ≡ length (places (λ b. b) (zip_with (λ m l. m && l) (map (is_found self.now.mapping (query_view query.now)) self.now.documents) live.now))) }
+        ensures first { IfOk result (λ f. f.first.items ≡ take wanted (places (λ b. b) (zip_with (λ m l. m && l) (map (is_found self.now.mapping (query_view query.now)) self.now.documents) live.now))) }
     {
-        find(alloc, &self.segment, live, query)
+        find(alloc, &self.segment, live, query, wanted)
     }
 
     /// The documents at some places.

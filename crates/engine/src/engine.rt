@@ -131,10 +131,13 @@ impl Engine {
         }
     }
 
-    /// What searches show of all records: what they show with the ids that changed, unless more than ids changed.
+    /// What searches show of all records: what they show where nothing came, with the ids that changed, or made anew where more than ids changed.
     fn refreshed(&self, alloc: Global) -> Result<Arc<Snapshot, Global>, AllocError>
         ensures { IfOk result (λ s. arc_value s ≡ record { mapping = self.now.mapping; documents = documents (operations self.now.records) }) }
     {
+        if self.history.len() == self.point {
+            return Ok(Arc::try_clone(&self.snapshot)?);
+        }
         let Some(ids) = self.history.ids_since(alloc, self.point)? else {
             return snapshot_of(alloc, &self.mapping, &self.history);
         };

@@ -30,6 +30,22 @@ pub(crate) fn merge<'a>(
     Ok(all)
 }
 
+/// The same of lists that aren't needed any more: where the first has none, the second stands as it is.
+pub(crate) fn merge_owned<'a>(
+    alloc: Global,
+    left: Vec<Entry<'a>>,
+    right: Vec<Entry<'a>>,
+) -> Result<Vec<Entry<'a>>, AllocError>
+    requires left { is_sorted id_cmp (map entry_view left.items) ≡ true }
+    requires right { is_sorted id_cmp (map entry_view right.items) ≡ true }
+    ensures { IfOk result (λ v. map entry_view v.items ≡ merged (map entry_view left.entry.items) (map entry_view right.entry.items)) }
+{
+    if left.is_empty() {
+        return Ok(right);
+    }
+    merge(alloc, &left, &right)
+}
+
 /// The first document of two lists, and how many of each it stands for.
 #[derive(Clone, Copy)]
 struct Taken<'a> {

@@ -88,10 +88,12 @@ impl Part {
         ensures first { IfOk result (λ s. map entry_view s.first.items ≡ take wanted (filter (is_found self.now.mapping (query_view query.now)) self.now.documents)) }
     {
         let _few = self.block.len();
-        let found = self.block.find(alloc, &self.live, query)?;
-        let total = found.len() as u64;
-        let first = self.block.entries_at(alloc, at_most(&found, wanted))?;
-        Ok(Share { total, first })
+        let found = self.block.find(alloc, &self.live, query, wanted)?;
+        let first = self.block.entries_at(alloc, &found.first)?;
+        Ok(Share {
+            total: found.total as u64,
+            first,
+        })
     }
 
     /// The part without the documents that have one of the ids.
@@ -107,12 +109,4 @@ impl Part {
         let block = Arc::try_clone(&self.block)?;
         Ok(Part { block, live })
     }
-}
-
-/// The first places, no more than wanted.
-fn at_most(places: &[u32], wanted: usize) -> &[u32]
-    ensures { result.now ≡ take wanted places.now }
-{
-    let count = places.len().min(wanted);
-    &places[..count]
 }

@@ -11,7 +11,7 @@ ghost use Rattle.engine.specs.Parts.{documents_of_parts, has_id, is_among, merge
 ghost use Rattle.engine.specs.Shown.{hit_view, hits_view};
 
 use crate::documents::{Entry, documents_of};
-use crate::merging::merge;
+use crate::merging::{merge, merge_owned};
 use crate::part::{Part, Share};
 use doc::{DocId, Mapping, Source};
 use op::Op;
@@ -123,7 +123,7 @@ fn find<'a>(
     let mut first = Vec::new(alloc);
     for part in parts {
         let share = part.find(alloc, query, wanted)?;
-        first = merge(alloc, &first, &share.first)?;
+        first = merge_owned(alloc, first, share.first)?;
         first.truncate(wanted);
         total += share.total;
     }

@@ -1,5 +1,5 @@
 -- The clauses of a `bool` together; counts at each place.
-use Rattle.std.proofs.Common.{◌≡◌, ◌<◌, ◌≤◌, ℕ, zero, suc, ◌+◌, Bool, true, false, ◌&&◌, List, [], ◌∷◌, length, map, refl, ap, ◌∙◌, arith, get_or, All, nat_le}
+use Rattle.std.proofs.Common.{◌≡◌, ◌<◌, ◌≤◌, ℕ, zero, suc, ◌+◌, Bool, true, false, ◌&&◌, List, [], ◌∷◌, length, map, refl, sym, ap, ◌∙◌, arith, get_or, All, nat_le}
 use Rattle.std.proofs.lemmas.Bool.Decides.{nat_tests}
 use Rattle.doc.specs.Mapping.{MappingData}
 use Rattle.doc.specs.Document.{all_values}
@@ -62,3 +62,10 @@ pub and-zero : {A : Type 0} (f : A → ℕ) (bs : List Bool) (xs : List A) → l
 and-zero f [] xs same = refl
 and-zero f (b ∷ bs) [] same = absurd (omega (arith, same))
 and-zero f (b ∷ bs) (x ∷ xs) same = ap (λ c. c ∷ zip_with (λ b x. b && nat_le 0 (f x)) bs xs) (and_le b (f x)) ∙ ap (λ cs. b ∷ cs) (and-zero f bs xs (omega (arith, same)))
+
+-- a test that all pass leaves the marks as they are
+pub all_live : {A : Type 0} (test : A → Bool) → ((x : A) → test x ≡ true) → (xs : List A) (bs : List Bool) → length bs ≡ length xs → bs ≡ zip_with (λ a b. a && b) (map test xs) bs
+all_live test every [] [] same = refl
+all_live test every [] (b ∷ bs) same = absurd (omega (arith, same))
+all_live test every (x ∷ xs) [] same = absurd (omega (arith, same))
+all_live test every (x ∷ xs) (b ∷ bs) same = ap (λ c. (c && b) ∷ bs) (sym (every x)) ∙ ap (λ cs. (test x && b) ∷ cs) (all_live test every xs bs (omega (arith, same)))

@@ -1,5 +1,5 @@
 -- One turn of each loop over queries or values.
-use Rattle.std.proofs.Common.{◌≡◌, ◌<◌, ◌≤◌, ℕ, ◌+◌, zero, suc, Bool, not, ◌&&◌, ◌||◌, List, [], ◌∷◌, length, map, refl, sym, ap, ◌∙◌, arith, drop, get_or, if◌then◌else◌, drop-cons}
+use Rattle.std.proofs.Common.{◌≡◌, ◌<◌, ◌≤◌, ℕ, ◌+◌, zero, suc, Bool, true, false, nat_le, not, ◌&&◌, ◌||◌, List, [], ◌∷◌, length, map, refl, sym, ap, ◌∙◌, arith, drop, get_or, if◌then◌else◌, drop-cons}
 use Rattle.std.specs.List.{list_any, list_all}
 use Rattle.doc.specs.Mapping.{MappingData}
 use Rattle.doc.specs.Document.{all_values}
@@ -10,6 +10,9 @@ use Rattle.query.specs.Meaning as spec
 use Rattle.query.specs.View.{query_view}
 use Rattle.query.specs.declared.query.Query.{Query}
 use Rattle.marks.specs.Lists.{zip_with}
+use Rattle.std.proofs.lemmas.Bool.Decides.{nat_tests}
+use Rattle.segment.proofs.Runs.{zip-ext}
+use Rattle.segment.proofs.Zips.{zip-test}
 use Rattle.segment.proofs.Joins.{and-more, minus-more, or-more, count-more}
 
 pub next : {A : Type 0} (xs : List A) (i : ℕ) (x : A) → x ≡ get_or xs i x → i < length xs → drop i xs ≡ x ∷ drop (i + 1) xs
@@ -41,6 +44,21 @@ module _ (m : MappingData) (xs : List (List ℕ)) (qs : List Query) (i : ℕ) (q
       ap (λ bs. zip_with (λ n s. n + spec.matching m.fields (all_values m s) (queries_of (map query_view (drop (i + 1) qs)))) bs xs) (made ∙ ap (zip_with (λ n b. if b then n + 1 else n) old) found)
       ∙ count-more (λ s. spec.means m s (query_view q)) (λ s. spec.matching m.fields (all_values m s) (queries_of (map query_view (drop (i + 1) qs)))) old xs
       ∙ ap (λ ps. zip_with (λ n s. n + spec.matching m.fields (all_values m s) (queries_of (map query_view ps))) old xs) (sym (next qs i q is lt))
+
+one_more : (p : Bool) (n : ℕ) → (p || nat_le 1 n) ≡ nat_le 1 ((if p then 1 else 0) + n)
+one_more true n = grind (arith, nat_tests)
+one_more false n = grind (arith, nat_tests)
+
+module _ (m : MappingData) (xs : List (List ℕ)) (qs : List Query) (i : ℕ) (q : Query) (is : q ≡ get_or qs i q) (lt : i < length qs) where
+  pub one-turn : (old new sel : List Bool) → sel ≡ map (λ s. spec.means m s (query_view q)) xs → new ≡ zip_with (λ a b. a || b) old sel
+      → zip_with (λ b s. b || nat_le 1 (spec.matching m.fields (all_values m s) (queries_of (map query_view (drop (i + 1) qs))))) new xs ≡ zip_with (λ b s. b || nat_le 1 (spec.matching m.fields (all_values m s) (queries_of (map query_view (drop i qs))))) old xs
+  one-turn old new sel found made =
+      let means = λ (s : List ℕ). spec.means m s (query_view q) in
+      let rest = λ (s : List ℕ). spec.matching m.fields (all_values m s) (queries_of (map query_view (drop (i + 1) qs))) in
+      ap (λ bs. zip_with (λ b s. b || nat_le 1 (rest s)) bs xs) (made ∙ ap (zip_with (λ a b. a || b) old) found ∙ zip-test (λ a b. a || b) means old xs)
+      ∙ or-more means (λ s. nat_le 1 (rest s)) old xs
+      ∙ zip-ext (λ s. means s || nat_le 1 (rest s)) (λ s. nat_le 1 ((if means s then 1 else 0) + rest s)) (λ s. one_more (means s) (rest s)) old xs
+      ∙ ap (λ ps. zip_with (λ b s. b || nat_le 1 (spec.matching m.fields (all_values m s) (queries_of (map query_view ps)))) old xs) (sym (next qs i q is lt))
 
 module _ (m : MappingData) (xs : List (List ℕ)) (name : List ℕ) (vs : List Scalar) (i : ℕ) (v : Scalar) (is : v ≡ get_or vs i v) (lt : i < length vs) where
   pub any-turn : (old new : List Bool) → new ≡ zip_with (λ b s. b || spec.has (spec.terms m s name) (scalar_view v)) old xs

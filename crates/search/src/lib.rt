@@ -5,5 +5,5 @@ mod counts;
 pub mod finding;
 pub mod selecting;
 
-pub use finding::find;
+pub use finding::{FoundPlaces, find};
 pub use selecting::select;

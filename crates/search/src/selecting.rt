@@ -49,6 +49,10 @@ pub fn select(alloc: Global, segment: &Segment, query: &Query) -> Result<Marks, 
                 count(should),
                 *minimum_should_match,
             );
+            if wanted == 1 {
+                keep_any(alloc, segment, should, &mut marks)?;
+                return Ok(marks);
+            }
             keep_enough(alloc, segment, should, wanted, &mut marks)?;
             Ok(marks)
         }
@@ -88,6 +92,26 @@ fn drop_any(
     for query in queries {
         marks.subtract(&select(alloc, segment, query)?);
     }
+    Ok(())
+}
+
+/// Keeps the marks of the documents that one of the queries means, or more.
+#[cycle(select)]
+fn keep_any(
+    alloc: Global,
+    segment: &Segment,
+    queries: &[Query],
+    marks: &mut Marks,
+) -> Result<(), AllocError>
+    requires { length marks.old ≡ length segment.now.sources }
+    ensures whole { OnOk result (length marks.new ≡ length segment.now.sources) }
+    ensures is { OnOk result (marks.new ≡ zip_with (λ b s. b && nat_le 1 (spec.matching segment.now.mapping.fields (all_values segment.now.mapping s) (queries_of (map query_view queries.now)))) marks.old segment.now.sources) }
+{
+    let mut found = none(alloc, segment)?;
+    for query in queries {
+        found.unite(&select(alloc, segment, query)?);
+    }
+    marks.intersect(&found);
     Ok(())
 }
 

@@ -13,18 +13,18 @@ use Rattle.engine.proofs.SnapshotLaws.{mapping-at, documents-at}
 use Rattle.engine.proofs.snapshot.find.Goals as goal
 
 -- what was found so far is in order
-pub merge-requires-clause-left : goal.merge-requires-clause-left
-merge-requires-clause-left c =
+pub merge_owned-requires-clause-left : goal.merge_owned-requires-clause-left
+merge_owned-requires-clause-left c =
     let g = is_found c.args._mapping.now (query_view c.args.query.now) in
     let ps = documents_of_parts c.args.parts.now in
     let i = c.loop-part.part-index in
     let p = c.part-item.result in
     let lt : i < length ps = omega (arith, c.loop-part-test.true, length-map c.args.parts.now (λ (p : SnapshotData). p.documents)) in
-    subst (λ (ds : Documents). is_sorted id_cmp ds ≡ true) (sym (ap (map entry_view) c.deref.ensures.value ∙ c.loop-part.invariant.first)) (found-in_order g ps i p.documents c.requires.apart lt c.args.wanted)
+    subst (λ (ds : Documents). is_sorted id_cmp ds ≡ true) (sym c.loop-part.invariant.first) (found-in_order g ps i p.documents c.requires.apart lt c.args.wanted)
 
 -- and what the part has
-pub merge-requires-clause-right : goal.merge-requires-clause-right
-merge-requires-clause-right c =
+pub merge_owned-requires-clause-right : goal.merge_owned-requires-clause-right
+merge_owned-requires-clause-right c =
     let q = query_view c.args.query.now in
     let g = is_found c.args._mapping.now q in
     let ps = documents_of_parts c.args.parts.now in
@@ -34,7 +34,7 @@ merge-requires-clause-right c =
     let at = documents-at c.args.parts.now i p c.loop-part-test.true c.part-item.is in
     let under = mapping-at c.args._mapping.now c.args.parts.now i p c.requires.mappings c.loop-part-test.true c.part-item.is in
     let share = c.in_ok-share.ensures.first ∙ ap (λ (m : MappingData). take c.args.wanted (filter (is_found m q) p.documents)) under ∙ ap (λ (ds : Documents). take c.args.wanted (filter g ds)) (sym at) in
-    subst (λ (ds : Documents). is_sorted id_cmp ds ≡ true) (sym (ap (map entry_view) c.deref-in-loop-part.ensures.value ∙ share)) (share-in_order g ps i p.documents c.requires.apart lt c.args.wanted)
+    subst (λ (ds : Documents). is_sorted id_cmp ds ≡ true) (sym share) (share-in_order g ps i p.documents c.requires.apart lt c.args.wanted)
 
 pub overflow_add-total : goal.overflow_add-total
 overflow_add-total c = omega (arith, c.loop-part.invariant.few, c.in_ok-share.ensures.few, c.loop-part-test.true, c.requires.few)
@@ -54,12 +54,10 @@ loop-part-preserved c =
     let under = mapping-at c.args._mapping.now c.args.parts.now i p c.requires.mappings c.loop-part-test.true c.part-item.is in
     let total = c.in_ok-share.ensures.total ∙ ap (λ (m : MappingData). length (filter (is_found m q) p.documents)) under ∙ ap (λ (ds : Documents). length (filter g ds)) (sym at) in
     let share = c.in_ok-share.ensures.first ∙ ap (λ (m : MappingData). take wanted (filter (is_found m q) p.documents)) under ∙ ap (λ (ds : Documents). take wanted (filter g ds)) (sym at) in
-    let left = ap (map entry_view) c.deref.ensures.value ∙ c.loop-part.invariant.first in
-    let right = ap (map entry_view) c.deref-in-loop-part.ensures.value ∙ share in
     record {
       total = ap (λ n. n + c.in_ok-share.share.total) c.loop-part.invariant.total ∙ ap (λ n. length so_far + n) total ∙ sym (counted-more g ps i p.documents c.requires.apart lt);
       few = omega (arith, c.loop-part.invariant.few, c.in_ok-share.ensures.few);
       first = ap (map entry_view) c.truncate.ensures.items ∙ sym (take-map entry_view wanted c.in_ok-first.first.items)
-          ∙ ap (take wanted) (c.in_ok-first.ensures ∙ ap (λ (ds : Documents). merged ds (map entry_view c.deref-in-loop-part.result.now)) left ∙ ap (merged (take wanted so_far)) right)
+          ∙ ap (take wanted) (c.in_ok-first.ensures ∙ ap (λ (ds : Documents). merged ds (map entry_view c.in_ok-share.share.first.items)) c.loop-part.invariant.first ∙ ap (merged (take wanted so_far)) share)
           ∙ limited-more g ps i p.documents c.requires.apart lt wanted;
     }

@@ -1,4 +1,4 @@
-use Rattle.std.proofs.Common.{◌≡◌, ◌∙◌, ap, sym, map, replicate, length, List, ℕ, ◌&&◌, subst, IfOk, All, ◌≤◌, ◌+◌, nat_le, string_bytes}
+use Rattle.std.proofs.Common.{◌≡◌, ◌∙◌, ap, sym, map, replicate, length, List, ℕ, ◌&&◌, ◌||◌, Bool, false, subst, IfOk, All, ◌≤◌, ◌+◌, nat_le, string_bytes}
 use Rattle.std.proofs.lemmas.Simd.{map-map}
 use Rattle.search.proofs.Bools.{zeros-few, together, plus-zero, and-zero}
 use Rattle.segment.proofs.Zips.{zip-test}
@@ -11,8 +11,8 @@ use Rattle.query.specs.Query.{queries_of, count_of, exists, nothing, match_all, 
 use Rattle.query.specs.View.{query_view, bounds_view}
 use Rattle.marks.specs.Lists.{zip_with}
 use Rattle.segment.specs.Indexed.{has_value}
-use Rattle.segment.proofs.Joins.{const, zip-self, and-end, count-end, length-zip, few-more}
-use Rattle.search.proofs.Turns.{done, keep-turn, drop-turn, count-turn}
+use Rattle.segment.proofs.Joins.{const, zip-self, and-end, or-end, count-end, length-zip, few-more}
+use Rattle.search.proofs.Turns.{done, keep-turn, drop-turn, one-turn, count-turn}
 use Rattle.search.proofs.QueryViews.{view-all, view-nothing, view-exists, view-term, view-bool, view-terms, view-match, view-prefix, view-range}
 use Rattle.query.specs.Query as Q
 use Rattle.query.specs.declared.query.Query.{Query}
@@ -41,6 +41,37 @@ drop_any-returns-clause-is t c = let m = c.args.segment.now.mapping in
     sym (and-end c.loop-query.marks c.args.segment.now.sources c.loop-query.invariant.whole)
     ∙ ap (λ qs. zip_with (λ b s. b && spec.none_matches m.fields (all_values m s) (queries_of (map query_view qs))) c.loop-query.marks c.args.segment.now.sources) (sym (done c.args.queries.now c.loop-query.query-index c.loop-query-test.false))
     ∙ c.loop-query.invariant.left
+
+pub keep_any-loop-query-init : goal.keep_any-loop-query-init
+keep_any-loop-query-init t c =
+    let m = c.args.segment.now.mapping in
+    let xs = c.args.segment.now.sources in
+    let op = λ (b : Bool) (s : List ℕ). b || nat_le 1 (spec.matching m.fields (all_values m s) (queries_of (map query_view c.args.queries.now))) in
+    record {
+      whole = ap length c.in_ok-found.ensures ∙ length-map xs _;
+      left = ap (λ bs. zip_with op bs xs) c.in_ok-found.ensures ∙ zip-self op (λ (s : List ℕ). false) xs;
+    }
+
+pub keep_any-loop-query-preserved : goal.keep_any-loop-query-preserved
+keep_any-loop-query-preserved t c = record {
+  whole = ap length c.unite.ensures ∙ length-zip _ c.loop-query.found c.in_ok-select.field-0 (c.loop-query.invariant.whole ∙ sym (ap length c.in_ok-select.ensures ∙ length-map c.args.segment.now.sources _)) ∙ ap length c.in_ok-select.ensures ∙ length-map c.args.segment.now.sources _;
+  left = one-turn c.args.segment.now.mapping c.args.segment.now.sources c.args.queries.now c.loop-query.query-index c.query-item.result c.query-item.is c.loop-query-test.true c.loop-query.found c.unite.new.self c.in_ok-select.field-0 c.in_ok-select.ensures c.unite.ensures ∙ c.loop-query.invariant.left;
+}
+
+pub keep_any-returns-clause-is : goal.keep_any-returns-clause-is
+keep_any-returns-clause-is t c =
+    let m = c.args.segment.now.mapping in
+    let xs = c.args.segment.now.sources in
+    let found = sym (or-end c.loop-query.found xs c.loop-query.invariant.whole)
+    ∙ ap (λ qs. zip_with (λ b s. b || nat_le 1 (spec.matching m.fields (all_values m s) (queries_of (map query_view qs)))) c.loop-query.found xs) (sym (done c.args.queries.now c.loop-query.query-index c.loop-query-test.false))
+    ∙ c.loop-query.invariant.left in
+    c.intersect.ensures ∙ ap (zip_with (λ a b. a && b) c.args.marks.now) found
+    ∙ zip-test (λ a b. a && b) (λ s. nat_le 1 (spec.matching m.fields (all_values m s) (queries_of (map query_view c.args.queries.now)))) c.args.marks.now xs
+
+pub keep_any-returns-clause-whole : goal.keep_any-returns-clause-whole
+keep_any-returns-clause-whole t c =
+    let whole = c.loop-query.invariant.whole in
+    ap length c.intersect.ensures ∙ length-zip _ c.args.marks.now c.loop-query.found (c.requires ∙ sym whole) ∙ whole
 
 pub keep_enough-loop-query-init : goal.keep_enough-loop-query-init
 keep_enough-loop-query-init t c =
@@ -156,5 +187,30 @@ select-returns-in_ok-keep_enough-in-Bool t c =
     (c.in_ok-keep_all-in-Bool-2.ensures.is ∙ ap (λ v. zip_with (λ b s. b && spec.all_match m.fields (all_values m s) (Qs v)) c.keep_all.new.marks xs) c.deref-in-Bool-2.ensures.value)
     (c.in_ok-drop_any-in-Bool.ensures.is ∙ ap (λ v. zip_with (λ b s. b && spec.none_matches m.fields (all_values m s) (Qs v)) c.keep_all-in-Bool.new.marks xs) c.deref-in-Bool-3.ensures.value)
     (c.in_ok-keep_enough-in-Bool.ensures.is ∙ ap (λ v. zip_with (λ b s. b && nat_le c.wanted-wanted.result (spec.matching m.fields (all_values m s) (Qs v))) c.drop_any.new.marks xs) c.deref-in-Bool-7.ensures.value)
+    w
+    ∙ ap (λ q. map (λ s. spec.means m s q) xs) (sym is)
+
+pub select-returns-then-wanted-eq1 : goal.select-returns-then-wanted-eq1
+select-returns-then-wanted-eq1 t c =
+    let m = c.args.segment.now.mapping in
+    let xs = c.args.segment.now.sources in
+    let Qs = λ (v : List Query). queries_of (map query_view v) in
+    let f = c.in-Bool.filter.items in
+    let mu = c.in-Bool.must.items in
+    let mn = c.in-Bool.must_not.items in
+    let sh = c.in-Bool.should.items in
+    let is = ap query_view c.in-Bool.is ∙ view-bool c.in-Bool.filter c.in-Bool.must c.in-Bool.must_not c.in-Bool.should c.in-Bool.minimum_should_match in
+    let w1 = c.count.ensures ∙ ap (λ v. count_of (Qs v)) c.deref-in-Bool-4.ensures.value in
+    let w2 = c.count-in-Bool.ensures ∙ ap (λ v. count_of (Qs v)) c.deref-in-Bool-5.ensures.value in
+    let w3 = c.count-in-Bool-2.ensures ∙ ap (λ v. count_of (Qs v)) c.deref-in-Bool-6.ensures.value in
+    let w = c.wanted-wanted.ensures ∙ ap (λ n. spec.wanted n c.count-in-Bool.result c.count-in-Bool-2.result c.in-Bool.minimum_should_match) w1
+    ∙ ap (λ n. spec.wanted (count_of (Qs f)) n c.count-in-Bool-2.result c.in-Bool.minimum_should_match) w2
+    ∙ ap (λ n. spec.wanted (count_of (Qs f)) (count_of (Qs mu)) n c.in-Bool.minimum_should_match) w3 in
+    together m xs (Qs f) (Qs mu) (Qs mn) (Qs sh) c.wanted-wanted.result c.in-Bool.minimum_should_match c.in_ok-marks-in-Bool.marks c.keep_all.new.marks c.keep_all-in-Bool.new.marks c.drop_any.new.marks c.keep_any.new.marks
+    c.in_ok-marks-in-Bool.ensures
+    (c.in_ok-keep_all-in-Bool.ensures.is ∙ ap (λ v. zip_with (λ b s. b && spec.all_match m.fields (all_values m s) (Qs v)) c.in_ok-marks-in-Bool.marks xs) c.deref-in-Bool.ensures.value)
+    (c.in_ok-keep_all-in-Bool-2.ensures.is ∙ ap (λ v. zip_with (λ b s. b && spec.all_match m.fields (all_values m s) (Qs v)) c.keep_all.new.marks xs) c.deref-in-Bool-2.ensures.value)
+    (c.in_ok-drop_any-in-Bool.ensures.is ∙ ap (λ v. zip_with (λ b s. b && spec.none_matches m.fields (all_values m s) (Qs v)) c.keep_all-in-Bool.new.marks xs) c.deref-in-Bool-3.ensures.value)
+    (c.in_ok-keep_any-in-Bool.ensures.is ∙ ap (λ n. zip_with (λ b s. b && nat_le n (spec.matching m.fields (all_values m s) (Qs c.deref-then-wanted-eq1.result.now))) c.drop_any.new.marks xs) (sym c.if-wanted-eq1.true) ∙ ap (λ v. zip_with (λ b s. b && nat_le c.wanted-wanted.result (spec.matching m.fields (all_values m s) (Qs v))) c.drop_any.new.marks xs) c.deref-then-wanted-eq1.ensures.value)
     w
     ∙ ap (λ q. map (λ s. spec.means m s q) xs) (sym is)

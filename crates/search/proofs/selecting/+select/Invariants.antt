@@ -1,4 +1,4 @@
-use Rattle.std.proofs.Common.{◌≡◌, ◌+◌, ◌≤◌, ◌&&◌, map, drop, length, All}
+use Rattle.std.proofs.Common.{◌≡◌, ◌+◌, ◌≤◌, ◌&&◌, ◌||◌, map, drop, length, nat_le, All}
 use Rattle.doc.specs.Document.{all_values}
 use Rattle.query.specs.Query.{queries_of}
 use Rattle.query.specs.Meaning as spec
@@ -18,6 +18,13 @@ abbrev pub invariant-drop_any-loop-query : goal.invariant-drop_any-loop-query
 invariant-drop_any-loop-query l = record {
   whole : length l.marks ≡ length l.segment.sources;
   left : zip_with (λ b s. b && spec.none_matches l.segment.mapping.fields (all_values l.segment.mapping s) (queries_of (map query_view (drop l.query-index l.queries)))) l.marks l.segment.sources ≡ zip_with (λ b s. b && spec.none_matches l.segment.mapping.fields (all_values l.segment.mapping s) (queries_of (map query_view l.queries))) l.initial.marks l.segment.sources;
+}
+
+-- those found, or those that a query that is left means
+abbrev pub invariant-keep_any-loop-query : goal.invariant-keep_any-loop-query
+invariant-keep_any-loop-query l = record {
+  whole : length l.found ≡ length l.segment.sources;
+  left : zip_with (λ b s. b || nat_le 1 (spec.matching l.segment.mapping.fields (all_values l.segment.mapping s) (queries_of (map query_view (drop l.query-index l.queries))))) l.found l.segment.sources ≡ map (λ s. nat_le 1 (spec.matching l.segment.mapping.fields (all_values l.segment.mapping s) (queries_of (map query_view l.queries)))) l.segment.sources;
 }
 
 -- those found, and those among the queries that are left

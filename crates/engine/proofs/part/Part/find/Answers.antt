@@ -1,4 +1,4 @@
-use Rattle.std.proofs.Common.{◌<◌, ◌∙◌, ap, sym, arith, length, take, filter}
+use Rattle.std.proofs.Common.{◌<◌, ◌∙◌, ap, arith, length, take, filter}
 use Rattle.std.proofs.lemmas.List.Elements.{All-take}
 use Rattle.std.specs.Arc.{arc_value}
 use Rattle.query.specs.View.{query_view}
@@ -12,16 +12,16 @@ pub entries_at-requires : goal.entries_at-requires
 entries_at-requires c =
     let block = arc_value c.self.inside.block in
     let g = is_found block.mapping (query_view c.args.query.now) in
-    let found = rw c.deref-2.ensures at c.in_ok-found.ensures in
-    rw (c.at_most.ensures, c.deref-4.ensures.value, c.deref-3.ensures, found)
+    let found = rw c.deref-2.ensures at c.in_ok-found.ensures.first in
+    rw (c.deref-4.ensures.value, c.deref-3.ensures, found)
     (All-take (λ p. p < length block.documents) c.args.wanted _ (share-within g block.documents c.self.inside.live c.self.invariant.whole))
 
 pub returns-clause-total : goal.returns-clause-total
 returns-clause-total c =
     let block = arc_value c.self.inside.block in
     let q = query_view c.args.query.now in
-    let found = rw c.deref-2.ensures at c.in_ok-found.ensures in
-    c.len-total.ensures ∙ sym c.deref-4.ensures.len ∙ ap length (c.deref-4.ensures.value ∙ found)
+    let found = rw c.deref-2.ensures at c.in_ok-found.ensures.total in
+    found
     ∙ share-total (is_found block.mapping q) block.documents c.self.inside.live c.self.invariant.whole
     ∙ ap (λ (s : SnapshotData). length (filter (is_found s.mapping q) s.documents)) c.self.view_is
 
@@ -29,16 +29,15 @@ pub returns-clause-few : goal.returns-clause-few
 returns-clause-few c =
     let block = arc_value c.self.inside.block in
     let g = is_found block.mapping (query_view c.args.query.now) in
-    let found = rw c.deref-2.ensures at c.in_ok-found.ensures in
-    let total = c.len-total.ensures ∙ sym c.deref-4.ensures.len ∙ ap length (c.deref-4.ensures.value ∙ found) in
+    let found = rw c.deref-2.ensures at c.in_ok-found.ensures.total in
     let len = rw c.deref.ensures at c.len-few.ensures.is in
-    omega (arith, total, len, c.len-few.ensures.few, share-few g block.documents c.self.inside.live c.self.invariant.whole)
+    omega (arith, found, len, c.len-few.ensures.few, share-few g block.documents c.self.inside.live c.self.invariant.whole)
 
 pub returns-clause-first : goal.returns-clause-first
 returns-clause-first c =
     let block = arc_value c.self.inside.block in
     let q = query_view c.args.query.now in
-    let found = rw c.deref-2.ensures at c.in_ok-found.ensures in
+    let found = rw c.deref-2.ensures at c.in_ok-found.ensures.first in
     share-first (is_found block.mapping q) block.documents c.self.inside.live c.self.invariant.whole entry_view c.args.wanted c.in_ok-first.first.items
-    (rw (c.at_most.ensures, c.deref-4.ensures.value, c.deref-3.ensures, found) at c.in_ok-first.ensures)
+    (rw (c.deref-4.ensures.value, c.deref-3.ensures, found) at c.in_ok-first.ensures)
     ∙ ap (λ (s : SnapshotData). take c.args.wanted (filter (is_found s.mapping q) s.documents)) c.self.view_is
