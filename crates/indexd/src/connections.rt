@@ -3,14 +3,13 @@
 use crate::desk::Desk;
 use front::{Service, StreamFault, serve_stream};
 use std::alloc::Global;
-use std::io;
 use std::io::{BufReader, Read};
 use std::net::{Shutdown, TcpListener, TcpStream};
 use std::sync::atomic::{AtomicU64, Ordering};
 use std::sync::{Mutex, Wait};
-use std::thread;
 use std::thread::Threads;
 use std::time::Duration;
+use std::{io, thread};
 
 /// How many connections are served at once.
 const AT_ONCE: usize = 4;
@@ -38,15 +37,20 @@ pub(crate) fn serve_connections<R: Threads + Wait + Sync, S: Service + Send + Dr
     let held = Mutex::new(service);
     let begun = AtomicU64::new(0);
     let most = connections.unwrap_or(u64::MAX);
-    let ends = thread::map_indices(rt, alloc, AT_ONCE, &|_| {
-        let mut desk = Desk {
-            rt,
-            name: name.as_str(),
-            mapping: &mapping,
-            service: &held,
-        };
-        serve_in_turn(alloc, listener, &mut desk, &begun, most)
-    })?;
+    let ends = thread::map_indices(
+        rt,
+        alloc,
+        AT_ONCE,
+        &|_| {
+            let mut desk = Desk {
+                rt,
+                name: name.as_str(),
+                mapping: &mapping,
+                service: &held,
+            };
+            serve_in_turn(alloc, listener, &mut desk, &begun, most)
+        },
+    )?;
     for end in ends {
         end?;
     }

@@ -2,9 +2,9 @@
 ghost use Rattle.std.specs.Prelude.{◌≡◌};
 
 use doc::Mapping;
+use front::Service;
 use front::command::Command;
 use front::reply::Reply;
-use front::Service;
 use std::sync::{Mutex, Wait};
 
 /// A service behind a lock, as one connection has it. Its replies are those of the service, in whatever state it is when the lock is taken.

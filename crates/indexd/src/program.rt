@@ -51,7 +51,13 @@ pub fn program<R, I: BufRead, O: Write, E: Write>(
     errors: &mut E,
 ) -> u8
 where
-    R: Files<File = File> + Clock + AllocGlobal + Net<Listener = TcpListener, Stream = TcpStream> + Threads + Wait + Sync,
+    R: Files<File = File>
+        + Clock
+        + AllocGlobal
+        + Net<Listener = TcpListener, Stream = TcpStream>
+        + Threads
+        + Wait
+        + Sync,
     ensures { result < 3 }
 {
     match task_of(rt.alloc(), words) {
@@ -69,7 +75,12 @@ fn run_server<R, O: Write, E: Write>(
     errors: &mut E,
 ) -> u8
 where
-    R: Files<File = File> + AllocGlobal + Net<Listener = TcpListener, Stream = TcpStream> + Threads + Wait + Sync,
+    R: Files<File = File>
+        + AllocGlobal
+        + Net<Listener = TcpListener, Stream = TcpStream>
+        + Threads
+        + Wait
+        + Sync,
     ensures { result < 2 }
 {
     match serve(rt, settings, output) {

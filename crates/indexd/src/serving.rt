@@ -84,7 +84,12 @@ impl From<AllocError> for ServeFault {
 /// Serves an index until the last connection that is wanted has ended. Where it listens is printed first.
 pub(crate) fn serve<R, O>(rt: &R, settings: Settings<'_>, output: &mut O) -> Result<(), ServeFault>
 where
-    R: Files<File = File> + AllocGlobal + Net<Listener = TcpListener, Stream = TcpStream> + Threads + Wait + Sync,
+    R: Files<File = File>
+        + AllocGlobal
+        + Net<Listener = TcpListener, Stream = TcpStream>
+        + Threads
+        + Wait
+        + Sync,
     O: Write,
 {
     let alloc = rt.alloc();

@@ -102,13 +102,7 @@ impl<'a, C: Clock, E: Write> Teller<'a, C, E> {
         }
     }
 
-    fn explain(
-        &mut self,
-        alloc: Global,
-        refusal: &Refusal,
-        line: &[u8],
-        index: Option<&World>,
-    ) {
+    fn explain(&mut self, alloc: Global, refusal: &Refusal, line: &[u8], index: Option<&World>) {
         self.erase();
         let (file, number, name) = (self.file, self.lines, refusal.name());
         let _ = match reason(alloc, refusal, line, index) {

@@ -64,11 +64,7 @@ fn check_count_keys(alloc: Global, members: &Map<String, Value>) -> Result<(), Q
 {
     for (name, _) in members {
         if name.as_str() != "query" {
-            return Err(bad_at(
-                alloc,
-                name.as_str(),
-                "this key isn't known in a count body",
-            ));
+            return Err(bad_at(alloc, name.as_str(), "this key isn't known in a count body"));
         }
     }
     Ok(())

@@ -157,11 +157,7 @@ fn parts_in<'a>(
         Some(value) => match value {
             Value::Array(items) => Ok(items),
             Value::Object(_) => Ok(slice::from_ref(value)),
-            _ => Err(bad_at(
-                alloc,
-                key,
-                "a query or an array of queries is wanted",
-            )),
+            _ => Err(bad_at(alloc, key, "a query or an array of queries is wanted")),
         },
     }
 }

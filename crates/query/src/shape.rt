@@ -73,11 +73,7 @@ pub(crate) fn required<'a>(
     }
 }
 
-pub(crate) fn text_in<'a>(
-    alloc: Global,
-    key: &str,
-    value: &'a Value,
-) -> Result<&'a str, QueryFault>
+pub(crate) fn text_in<'a>(alloc: Global, key: &str, value: &'a Value) -> Result<&'a str, QueryFault>
     ensures { Gives fault_of (λ s. s.now) result (spec.text_in (view value.now)) }
 {
     match value {
@@ -106,11 +102,7 @@ pub(crate) fn is_value(value: &Value) -> bool
     matches!(value, Value::Bool(_) | Value::Number(_) | Value::String(_))
 }
 
-pub(crate) fn plain<'a>(
-    alloc: Global,
-    key: &str,
-    value: &'a Value,
-) -> Result<&'a Value, QueryFault>
+pub(crate) fn plain<'a>(alloc: Global, key: &str, value: &'a Value) -> Result<&'a Value, QueryFault>
     ensures { Gives fault_of (λ v. view v.now) result (spec.plain (view value.now)) }
 {
     if is_value(value) {
