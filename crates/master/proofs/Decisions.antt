@@ -133,11 +133,11 @@ module _ (bytes : List ℕ) (m : State) (request : Request) (d : Decided) (log :
   kept_whole k le = ap (λ l. kept_state (bytes ++ l)) (take_all k (frame_for (entry_for request)) (omega (arith, le))) ∙ kept_log (bytes ++ frame_for (entry_for request)) d.state entry_more
 
   -- a front of its frame leaves what was kept, or all of it what the request leaves
-  pub front_kept : (new : List ℕ) → AddsFront bytes (frame_for (entry_for request)) new → (kept_state new ≡ kept_state bytes) ⊎ ((e : Decided) × (master_step m request ≡ Ok e) × (kept_state new ≡ Ok e.state))
+  pub front_kept : (new : List ℕ) → AddsFront bytes (frame_for (entry_for request)) new → (kept_state new ≡ kept_state bytes) ⊎ (kept_state new ≡ Ok d.state)
   front_kept new added =
       elim (cases_lt added.0 (4 + length (spelled (entry_for request)))) [
         | inl lt ↦ inl (ap kept_state added.1 ∙ torn_log lt ∙ sym (kept_log bytes m log))
-        | inr le ↦ inr (d, is, ap kept_state added.1 ∙ kept_whole added.0 le)
+        | inr le ↦ inr (ap kept_state added.1 ∙ kept_whole added.0 le)
       ]
     where
       torn_log : added.0 < 4 + length (spelled (entry_for request)) → kept_state (bytes ++ take added.0 (frame_for (entry_for request))) ≡ Ok m
@@ -166,15 +166,18 @@ module _ (l : Logged) (front : List ℕ) (request : Request) (d : Decided) (mast
     pub grows : IsLogOf (l.log ++ frame_for (entry_for request)) d.state
     grows = entry_more l.log l.state request d (master.log now_open) is reads (spelled_small (entry_for request))
 
-    pub fails : (new : List ℕ) (failures room : ℕ) → AddsFront l.log (frame_for (entry_for request)) new → failures ≡ count_after true l.failures
+    pub fails : (new : List ℕ) (failures room : ℕ) → d.decision.repeated ≡ false → AddsFront l.log (frame_for (entry_for request)) new → failures ≡ count_after true l.failures
         → IsRefused (Log Device) l (record { state = l.state; closed = true; log = new; failures = failures; room = room }) (master_step l.state request)
-    fails new failures room added counts = (
+    fails new failures room once added counts = (
       refl,
       inr (
         now_open,
         record {
           closed = refl;
           state = refl;
+          decided = d;
+          is = is;
+          once = once;
           log = front_kept l.log l.state request d (master.log now_open) is reads (spelled_small (entry_for request)) new added;
           counts = counts;
         },

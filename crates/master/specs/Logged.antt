@@ -63,11 +63,14 @@ pub record IsDone (old new : Logged) (request : Request) (decision : Decision) (
   pub log : new.log ≡ log_after old.log request decision.repeated
   pub failures : new.failures ≡ old.failures
 
--- the log failed: the master is closed, and its log gives the state of before, or that of the decision
+-- the log failed where it was to keep a decision: the master is closed, and its log gives the state of before, or that of the decision
 pub record IsClosed (old new : Logged) (step : MasterStep) : Type 0 where
   pub closed : new.closed ≡ true
   pub state : new.state ≡ old.state
-  pub log : (kept_state new.log ≡ kept_state old.log) ⊎ ((d : Decided) × (step ≡ Ok d) × (kept_state new.log ≡ Ok d.state))
+  pub decided : Decided
+  pub is : step ≡ Ok decided
+  pub once : decided.decision.repeated ≡ false
+  pub log : (kept_state new.log ≡ kept_state old.log) ⊎ (kept_state new.log ≡ Ok decided.state)
   pub counts : new.failures ≡ count_after true old.failures
 
 -- nothing has changed

@@ -29,7 +29,7 @@ returns-in-Err-clause-refused g c =
     let now = c.append.new.self.device in
     let added : AddsFront l.log (frame_for (entry_for c.args.request)) (g.D.LogDevice.bytes now) = rw (c.prepared.ensures.held, frame) at c.in-Err.ensures.err in
     let counts : g.D.LogDevice.failures now ≡ count_after true l.failures = c.in-Err.ensures.counts ∙ ap (count_after true) c.prepared.ensures.failures in
-    let refused = fails l c.self.inside.frames.header c.args.request d c.self.invariant c.if-self.false c.in_ok-decided.ensures.step reads (g.D.LogDevice.bytes now) (g.D.LogDevice.failures now) (g.D.LogDevice.room now) added counts in
+    let refused = fails l c.self.inside.frames.header c.args.request d c.self.invariant c.if-self.false c.in_ok-decided.ensures.step reads (g.D.LogDevice.bytes now) (g.D.LogDevice.failures now) (g.D.LogDevice.room now) (sym (c.is_repeated.ensures) ∙ c.if-is_repeated.false) added counts in
     let new : Logged = record { state = c.self.inside.state; closed = true; log = g.D.LogDevice.bytes now; failures = g.D.LogDevice.failures now; room = g.D.LogDevice.room now } in
     subst (λ (x : Logged). IsRefused (Log c.in-Err.fault) x new (master_step x.state c.args.request)) c.self.view_is (rw c.in-Err.ensures.cause refused)
 
