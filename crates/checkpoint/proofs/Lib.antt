@@ -1,3 +1,5 @@
 pub mod Bits
 pub mod Sets
+pub mod Spans
 pub mod Windows
+pub mod WordBits

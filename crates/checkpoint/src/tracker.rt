@@ -1,12 +1,13 @@
 //! Which sequence numbers a copy has.
-ghost use Rattle.std.specs.Prelude.{◌≡◌, ◌<◌, ◌+◌, ◌≤◌, ◌^◌, ◌↔◌, IsOk, OnOk, OnErr, length, map, nat_eq};
+ghost use Rattle.std.specs.Prelude.{◌≡◌, ◌<◌, ◌+◌, ◌*◌, ◌≤◌, ◌^◌, ◌↔◌, ℕ, IsOk, OnOk, OnErr, length, map, nat_eq};
 ghost use Rattle.std.specs.Cmp.Lexicographic.{pointwise};
 ghost use Rattle.op.specs.Checkpoint.{known, checkpoint_of};
 ghost use Rattle.op.specs.Ids.{has, with};
 ghost use Rattle.checkpoint.specs.Numbers.{up_to, with_below, marked, run, least};
+ghost use Rattle.checkpoint.specs.Span.{is_set};
 
 use crate::fault::BeyondWindow;
-use crate::window;
+use crate::{blocks, window};
 use op::checkpoint;
 use std::marker::Model;
 
@@ -61,6 +62,20 @@ impl Tracker {
             return true;
         }
         number - self.count < WINDOW && window::is_marked(&self.words, number)
+    }
+
+    /// The bits of a block of 64 numbers.
+    pub(crate) fn block(&self, block: u64) -> u64
+        requires { block < 2 ^ 58 }
+        ensures { (i : ℕ) → i < 64 → is_set result i ≡ has self.now (block * 64 + i) }
+    {
+        let start = block * 64;
+        if start >= self.count + WINDOW {
+            return 0;
+        }
+        let near = blocks::low_bits(self.count + WINDOW - start);
+        let all = blocks::low_bits(self.count.saturating_sub(start));
+        (self.words[(block % 16) as usize] & near) | all
     }
 
     /// Adds a number. It is refused where it is more than 1,024 above the checkpoint; then nothing changes.

@@ -6,22 +6,24 @@ ghost use Rattle.op.specs.Ids.{has};
 ghost use Rattle.checkpoint.specs.Numbers.{run};
 ghost use Rattle.replica.specs.Acks.{acks_of};
 
-use checkpoint::Tracker;
+use checkpoint::{Span, Tracker};
 use std::alloc::{AllocError, Global};
 use std::marker::Model;
 
-/// Sequence numbers in ascending order.
+/// Sequence numbers, one behind another. Those that lie near the least take a few words, however many they are; the list behind them has
+/// what doesn't lie there, which is nothing where they rise within a window.
 #[derive(Drop)]
 pub struct Numbers {
-    items: Vec<u64>,
+    near: Span,
+    far: Vec<u64>,
 }
 
 impl Model for Numbers {
-    ghost use Rattle.std.specs.Prelude.{List, ℕ};
+    ghost use Rattle.std.specs.Prelude.{List, ℕ, ◌++◌};
 
     ghost Value = { List ℕ };
 
-    ghost view = { λ a. a.items.items };
+    ghost view = { λ a. a.near ++ a.far.items };
 }
 
 impl Numbers {
@@ -30,39 +32,54 @@ impl Numbers {
         ensures { result ≡ [] }
     {
         Numbers {
-            items: Vec::new(alloc),
+            near: Span::empty(),
+            far: Vec::new(alloc),
         }
     }
 
-    /// The numbers of a `Vec`.
-    pub fn from_vec(items: Vec<u64>) -> Numbers
-        ensures { result ≡ items.items }
+    /// The numbers of a span, and those of a list behind them.
+    pub(crate) fn of(near: Span, far: Vec<u64>) -> Numbers
+        ensures { result ≡ near ++ far.items }
     {
-        Numbers { items }
+        Numbers { near, far }
+    }
+
+    /// The span, and the list behind it.
+    pub(crate) fn parts(&self) -> (&Span, &[u64])
+        ensures { result.0.now ++ result.1.now ≡ self.now }
+    {
+        (&self.near, self.far.as_slice())
     }
 
     /// These and one more behind them.
     pub fn then(&self, alloc: Global, number: u64) -> Result<Numbers, AllocError>
         ensures { IfOk result (λ a. a ≡ self.now ++ number ∷ []) }
     {
-        let mut items = Vec::from_slice(alloc, self.items.as_slice())?;
-        items.push(number)?;
-        Ok(Numbers { items })
+        if self.far.is_empty() {
+            if let Some(near) = self.near.then(number) {
+                return Ok(Numbers::of(near, Vec::new(alloc)));
+            }
+        }
+        let mut far = Vec::from_slice(alloc, self.far.as_slice())?;
+        far.push(number)?;
+        Ok(Numbers::of(self.near.copy(), far))
     }
 
     /// Equal numbers.
     pub fn copy(&self, alloc: Global) -> Result<Numbers, AllocError>
         ensures { IfOk result (λ a. a ≡ self.now) }
     {
-        Ok(Numbers {
-            items: Vec::from_slice(alloc, self.items.as_slice())?,
-        })
+        let far = Vec::from_slice(alloc, self.far.as_slice())?;
+        Ok(Numbers::of(self.near.copy(), far))
     }
 
-    pub fn as_slice(&self) -> &[u64]
-        ensures { result.now ≡ self.now }
+    /// Their list.
+    pub fn to_vec(&self, alloc: Global) -> Result<Vec<u64>, AllocError>
+        ensures { IfOk result (λ v. v.items ≡ self.now) }
     {
-        self.items.as_slice()
+        let mut items = self.near.to_vec(alloc)?;
+        items.extend_from_slice(self.far.as_slice())?;
+        Ok(items)
     }
 }
 

@@ -86,8 +86,9 @@ impl State {
     ) -> Result<Operations, AllocError>
         ensures { IfOk result (λ a. a ≡ filter_map (op_among (operations self.now) (option_copied latest.entry)) settled.now) }
     {
+        let numbers = settled.to_vec(alloc)?;
         let mut items = Vec::new(alloc);
-        for number in settled.as_slice() {
+        for number in numbers.as_slice() {
             if let Some(op) = self.op_among(latest, *number) {
                 items.push(op.copy(alloc)?)?;
             }

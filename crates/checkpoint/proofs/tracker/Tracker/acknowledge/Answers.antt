@@ -1,8 +1,7 @@
-use Rattle.std.proofs.Common.{◌≡◌, ◌<◌, ◌≤◌, ◌+◌, ◌-◌, List, ℕ, sym, ap, ◌∙◌, arith}
+use Rattle.std.proofs.Common.{◌≡◌, ◌<◌, ◌+◌, ◌-◌, ℕ, sym, ap, ◌∙◌, arith}
 use Rattle.std.specs.Prelude.{IsOk, OnOk, Result, Ok, Err}
 use Rattle.std.proofs.lemmas.Int.{to_z-of_z}
 use Rattle.op.specs.Ids.{with}
-use Rattle.op.specs.Checkpoint.{known}
 use Rattle.op.proofs.CheckpointLaws.{known-checkpoint_of}
 use Rattle.checkpoint.specs.Numbers.{run, with_below, marked}
 use Rattle.checkpoint.proofs.Sets.{run-with_below, marked-some}
