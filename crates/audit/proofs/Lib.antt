@@ -7,5 +7,8 @@ mod Audits
 mod Links
 mod Parts
 mod Judging
+mod Overruling
+mod Cutting
+mod Passing
 mod Glue
 mod Rows

@@ -91,7 +91,8 @@ cut : (c : Copy) (r : Step) → torn c r false ≡ restarted c
 cut c (Ok s) = refl
 cut c (Err e) = refl
 
-reopens : (c : Copy) (input : Input) (other : List Record) (kept : Bool) → other ≡ (left_by c (copy_step c input)).records → (is_restart input || keeps_record c (copy_step c input)) ≡ true →
+-- a step that failed, with the restart after it, leaves the copy that the journal says
+pub reopens : (c : Copy) (input : Input) (other : List Record) (kept : Bool) → other ≡ (left_by c (copy_step c input)).records → (is_restart input || keeps_record c (copy_step c input)) ≡ true →
     copy_after c (torn_move (is_restart input) input kept) ≡ reopened c (if kept then other else c.records)
 reopens c Restarting other true is keeps = restarts c ∙ ap (λ (rs : List Record). reopened c rs) (sym (is ∙ ap (λ (d : Copy). d.records) (restarts c)))
 reopens c Restarting other false is keeps = restarts c

@@ -6,4 +6,7 @@ pub mod Audit
 pub mod Merge
 pub mod Causes
 pub mod Judge
+pub mod Ruled
+pub mod Following
+pub mod Passing
 pub mod Rows

@@ -3,6 +3,7 @@
 use crate::opening::Opening;
 use master::{Decision, MasterFault, Request, State};
 use replica::{CopyFault, Input, Output};
+use std::alloc::{AllocError, AllocFailed};
 use std::marker::Model;
 use thiserror::Error;
 
@@ -102,4 +103,26 @@ pub enum AuditFault {
     Differs(u64, u64),
     #[error("out of memory")]
     NoMemory,
+}
+
+impl From<AllocError> for AuditFault {
+    ghost use Rattle.std.specs.Prelude.{◌≡◌};
+    ghost use Rattle.audit.specs.declared.journal.AuditFault.TheVariants.{NoMemory};
+
+    ghost from_gives = { λ _ e. e ≡ NoMemory };
+
+    fn from(_refused: AllocError) -> AuditFault {
+        AuditFault::NoMemory
+    }
+}
+
+impl<T: Drop> From<AllocFailed<T>> for AuditFault {
+    ghost use Rattle.std.specs.Prelude.{◌≡◌};
+    ghost use Rattle.audit.specs.declared.journal.AuditFault.TheVariants.{NoMemory};
+
+    ghost from_gives = { λ _ e. e ≡ NoMemory };
+
+    fn from(_refused: AllocFailed<T>) -> AuditFault {
+        AuditFault::NoMemory
+    }
 }
