@@ -1,0 +1,4 @@
+pub mod Replays
+pub mod Halves
+pub mod Calls
+pub mod Receipts

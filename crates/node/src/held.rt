@@ -1,0 +1,132 @@
+//! A copy with its journal.
+ghost use Rattle.std.specs.Prelude.{◌≡◌, [], false, IfOk, IfErr, IfSome, IfNone, IsOk};
+ghost use Rattle.audit.specs.Journal.{IsLegal, open_at};
+ghost use Rattle.audit.specs.declared.journal.Journal.TheVariants.{OfCopy};
+ghost use Rattle.node.specs.Stands.{IsDenied, IsStray, LastStands};
+ghost use Rattle.node.specs.Held.{IsCall, IsHeld, IsLastOf, IsRefusal};
+
+use crate::fault::NodeFault;
+use crate::pass::{Pass, Receipt};
+use crate::standing::stands_at;
+use crate::telling::{Inputs, Spot, tell};
+use audit::{Deed, Deeds, Journal, Opening};
+use replica::{Copy, Input};
+use std::alloc::Global;
+use std::marker::Model;
+use translog::LogDevice;
+
+/// A copy with its journal. Contracts see the journal, which is legal.
+#[derive(Drop)]
+pub struct Held<D: LogDevice> {
+    node: u32,
+    opening: Opening,
+    deeds: Vec<Deed>,
+    copy: Copy<D>,
+}
+
+impl<D: LogDevice> Model for Held<D> {
+    ghost use Rattle.std.specs.Prelude.{◌≡◌};
+    ghost use Rattle.node.specs.Held.{JournalData, IsHeld};
+
+    ghost Value = { JournalData };
+
+    ghost view = { λ h. record { opening = h.opening; deeds = h.deeds.items } };
+
+    ghost invariant = { λ h. (h.node ≡ h.opening.id) × IsHeld (record { opening = h.opening; deeds = h.deeds.items }) h.copy };
+}
+
+impl<D: LogDevice> Held<D> {
+    /// A copy that has made no step since its opening.
+    pub fn new(alloc: Global, opening: Opening, copy: Copy<D>) -> Held<D>
+        requires copy { copy.copy ≡ opening }
+        requires open { copy.closed ≡ false }
+        ensures { result ≡ record { opening = opening; deeds = [] } }
+    {
+        Held {
+            node: copy.id(),
+            opening,
+            deeds: Vec::new(alloc),
+            copy,
+        }
+    }
+
+    /// The copy is what its journal says.
+    pub fn copy(&self) -> &Copy<D>
+        ensures { IsHeld self.now result.now }
+    {
+        &self.copy
+    }
+
+    /// One call of the copy, which is one entry of its journal and a receipt of the pass, also where the copy refuses.
+    /// A pass whose last receipt isn't in the journal at its place is refused.
+    pub fn call(
+        &mut self,
+        alloc: Global,
+        pass: &mut Pass,
+        input: Input,
+    ) -> Result<Receipt, NodeFault>
+        ensures ok { IfOk result (λ r. IsCall self.old self.new pass.old pass.new input r × IsOk r.deed.answer) }
+        ensures stood { IfOk result (λ r. LastStands self.old pass.old) }
+        ensures err { IfErr result (λ e. IsDenied self.old self.new pass.old pass.new input e) }
+        ensures last { IfOk result (IsLastOf self.new) }
+    {
+        if let Some(place) = self.stray_of(pass) {
+            return Err(NodeFault::Stray(place));
+        }
+        self.add(alloc, pass, input)
+    }
+
+    /// The place of the pass's last receipt, where that doesn't stand there.
+    fn stray_of(&self, pass: &Pass) -> Option<u64>
+        ensures stray { IfSome result (IsStray self.now pass.now) }
+        ensures stands { IfNone result (LastStands self.now pass.now) }
+    {
+        match pass.receipts.last() {
+            Some(receipt) => {
+                if receipt.node == self.node
+                    && stands_at(&self.deeds, receipt.place, &receipt.deed)
+                {
+                    None
+                } else {
+                    Some(receipt.place)
+                }
+            }
+            None => None,
+        }
+    }
+
+    /// The call, whatever the pass has.
+    fn add(&mut self, alloc: Global, pass: &mut Pass, input: Input) -> Result<Receipt, NodeFault>
+        ensures ok { IfOk result (λ r. IsCall self.old self.new pass.old pass.new input r × IsOk r.deed.answer) }
+        ensures err { IfErr result (λ e. IsRefusal self.old self.new pass.old pass.new input e) }
+        ensures last { IfOk result (IsLastOf self.new) }
+    {
+        self.deeds.reserve(1)?;
+        pass.receipts.reserve(1)?;
+        let inputs = Inputs::of(alloc, input)?;
+        let spot = Spot {
+            node: self.node,
+            place: self.deeds.len() as u64,
+            pass: pass.number,
+        };
+        self.copy.is_logged();
+        let told = tell(&mut self.copy, alloc, spot, inputs)?;
+        self.deeds.push_reserved(told.own);
+        pass.receipts.push_reserved(told.kept);
+        told.given
+    }
+
+    /// The journal, for which the copy is given up.
+    pub fn into_journal(self) -> Journal
+        ensures same { result ≡ OfCopy self.opening self.deeds }
+        ensures legal { IsLegal (open_at self.opening) 0 self.deeds }
+    {
+        let Held {
+            node: _,
+            opening,
+            deeds,
+            copy: _copy,
+        } = self;
+        Journal::OfCopy(opening, Deeds::from_vec(deeds))
+    }
+}

@@ -1,0 +1,15 @@
+//! One copy that threads share, with its journal.
+#![tactic(auto)]
+
+mod acting;
+pub mod fault;
+pub mod gathering;
+pub mod held;
+pub mod pass;
+mod standing;
+mod telling;
+
+pub use fault::NodeFault;
+pub use gathering::{Stray, gathered};
+pub use held::Held;
+pub use pass::{Pass, Receipt};

@@ -1,0 +1,57 @@
+//! What a caller has seen.
+ghost use Rattle.std.specs.Prelude.{◌≡◌};
+
+use audit::Deed;
+use std::alloc::Global;
+use std::marker::Model;
+
+/// What a call leaves with its caller: the node and the place of its entry, and the entry.
+#[derive(Drop)]
+pub struct Receipt {
+    pub node: u32,
+    pub place: u64,
+    pub deed: Deed,
+}
+
+/// The receipts of one caller, oldest first. Contracts see its number and them.
+#[derive(Drop)]
+pub struct Pass {
+    pub(crate) number: u64,
+    pub(crate) receipts: Vec<Receipt>,
+}
+
+impl Model for Pass {
+    ghost use Rattle.node.specs.Passes.{PassData};
+
+    ghost Value = { PassData };
+
+    ghost view = { λ p. record { number = p.number; receipts = p.receipts.items } };
+}
+
+impl Pass {
+    ghost use Rattle.std.specs.Prelude.{[]};
+
+    /// A pass that has made no call.
+    pub fn new(alloc: Global, number: u64) -> Pass
+        ensures { result ≡ record { number = number; receipts = [] } }
+    {
+        Pass {
+            number,
+            receipts: Vec::new(alloc),
+        }
+    }
+
+    /// The number that its entries bear.
+    pub fn number(&self) -> u64
+        ensures { result ≡ self.now.number }
+    {
+        self.number
+    }
+
+    /// Its receipts, oldest first.
+    pub fn receipts(&self) -> &[Receipt]
+        ensures { result.now ≡ self.now.receipts }
+    {
+        self.receipts.as_slice()
+    }
+}

@@ -1,0 +1,110 @@
+//! A step of a copy, as an entry of its journal and as receipts.
+ghost use Rattle.std.specs.Prelude.{◌≡◌, IfOk, OnErr};
+ghost use Rattle.node.specs.Replay.{IsIdle, IsStep};
+ghost use Rattle.node.specs.Telling.{receipt, given_of, IsTold, IsTelling};
+
+use crate::acting::{Answers, act};
+use crate::fault::NodeFault;
+use crate::pass::Receipt;
+use audit::Deed;
+use replica::{Copy, Input};
+use std::alloc::{AllocError, Global};
+use translog::LogDevice;
+
+/// An input four times: for the step, the journal, the pass and the caller.
+#[derive(Drop)]
+pub(crate) struct Inputs {
+    asked: Input,
+    own: Input,
+    kept: Input,
+    given: Input,
+}
+
+impl Inputs {
+    pub(crate) fn of(alloc: Global, input: Input) -> Result<Inputs, AllocError>
+        ensures { IfOk result (λ i. (i.asked ≡ input) × (i.own ≡ input) × (i.kept ≡ input) × (i.given ≡ input)) }
+    {
+        let own = input.copy(alloc)?;
+        let kept = input.copy(alloc)?;
+        let given = input.copy(alloc)?;
+        Ok(Inputs {
+            asked: input,
+            own,
+            kept,
+            given,
+        })
+    }
+}
+
+/// The entry, and what the pass and the caller get.
+#[derive(Drop)]
+pub(crate) struct Told {
+    pub(crate) own: Deed,
+    pub(crate) kept: Receipt,
+    pub(crate) given: Result<Receipt, NodeFault>,
+}
+
+/// Where an entry comes to stand.
+#[derive(Clone, Copy)]
+pub(crate) struct Spot {
+    pub(crate) node: u32,
+    pub(crate) place: u64,
+    pub(crate) pass: u64,
+}
+
+/// The entry and its receipts.
+fn spelt(spot: Spot, own: Input, kept: Input, given: Input, answers: Answers) -> Told
+    requires same { (kept ≡ own) × (given ≡ own) × (answers.kept ≡ answers.own) × (answers.given ≡ answers.own) }
+    ensures { IsTold spot own answers.own result }
+{
+    let Spot { node, place, pass } = spot;
+    Told {
+        own: Deed {
+            pass,
+            input: own,
+            answer: answers.own,
+        },
+        kept: Receipt {
+            node,
+            place,
+            deed: Deed {
+                pass,
+                input: kept,
+                answer: answers.kept,
+            },
+        },
+        given: match answers.given {
+            Ok(output) => Ok(Receipt {
+                node,
+                place,
+                deed: Deed {
+                    pass,
+                    input: given,
+                    answer: Ok(output),
+                },
+            }),
+            Err(fault) => Err(NodeFault::Copy(fault)),
+        },
+    }
+}
+
+/// One step of the copy, told.
+pub(crate) fn tell<D: LogDevice>(
+    copy: &mut Copy<D>,
+    alloc: Global,
+    spot: Spot,
+    inputs: Inputs,
+) -> Result<Told, AllocError>
+    requires same { (inputs.own ≡ inputs.asked) × (inputs.kept ≡ inputs.asked) × (inputs.given ≡ inputs.asked) }
+    ensures told { IfOk result (λ t. IsTelling copy.old copy.new spot inputs.asked t) }
+    ensures err { OnErr result (IsIdle copy.old copy.new) }
+{
+    let Inputs {
+        asked,
+        own,
+        kept,
+        given,
+    } = inputs;
+    let answers = act(copy, alloc, asked)?;
+    Ok(spelt(spot, own, kept, given, answers))
+}
