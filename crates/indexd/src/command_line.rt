@@ -1,5 +1,6 @@
 //! The words of the command line, and what `--help` says.
 
+use crate::dumping::Dumped;
 use crate::serving::Settings;
 use clap::{Arg, ArgAction, ArgMatches, Command};
 use std::alloc::{AllocError, Global};
@@ -50,6 +51,18 @@ Example:
 Exit status: 0; 1 where the index can't be begun or opened, or the port can't be
 had; 2 for a bad command line.";
 
+/// What stands behind the options of `dump` in `--help`.
+const MOVED: &str =
+    "Each document is two lines, as _bulk of Elasticsearch takes them: its id, and its source
+on one line. So an index moves to another folder, or to Elasticsearch:
+  ./indexd dump --data books.data --mapping >books.json
+  ./indexd dump --data books.data >books.bulk
+serve takes a body of 1,048,576 bytes at most: split -l cuts a long one, at an even
+number of lines.
+
+Exit status: 0; 1 where the folder can't be read, another process serves it, or
+the output can't be written; 2 for a bad command line.";
+
 /// The script that is to be played, and whether refusals are explained.
 #[derive(Clone, Copy)]
 pub(crate) struct Played<'a> {
@@ -64,6 +77,8 @@ pub(crate) enum Task<'a> {
     Replay(Played<'a>),
     /// To serve an index.
     Serve(Settings<'a>),
+    /// To write what a folder keeps.
+    Dump(Dumped<'a>),
 }
 
 /// What the command line asks for, or what is wrong with it.
@@ -71,6 +86,7 @@ pub(crate) fn task_of<'a>(alloc: Global, words: &'a [String]) -> Result<Task<'a>
     let matches = command(alloc)?.try_get_matches_from(words)?;
     match matches.subcommand() {
         Some(("serve", options)) => Ok(Task::Serve(settings_of(options))),
+        Some(("dump", options)) => Ok(Task::Dump(dumped_of(options))),
         Some((_, options)) => Ok(Task::Replay(played_of(options))),
         None => Ok(Task::Replay(Played {
             file: "-",
@@ -96,6 +112,13 @@ fn settings_of<'a>(options: &ArgMatches<'a>) -> Settings<'a> {
     }
 }
 
+fn dumped_of<'a>(options: &ArgMatches<'a>) -> Dumped<'a> {
+    Dumped {
+        data: options.get_str("data").unwrap_or("."),
+        mapping: options.get_flag("mapping"),
+    }
+}
+
 fn command<'a>(alloc: Global) -> Result<Command<'a>, AllocError> {
     Command::new(alloc, "indexd")
         .version("0.1.0")
@@ -103,7 +126,8 @@ fn command<'a>(alloc: Global) -> Result<Command<'a>, AllocError> {
         .after_help(LINES)
         .subcommand_required(true)
         .subcommand(replay_command(alloc)?)?
-        .subcommand(serve_command(alloc)?)
+        .subcommand(serve_command(alloc)?)?
+        .subcommand(dump_command(alloc)?)
 }
 
 fn replay_command<'a>(alloc: Global) -> Result<Command<'a>, AllocError> {
@@ -164,6 +188,25 @@ fn serve_command<'a>(alloc: Global) -> Result<Command<'a>, AllocError> {
         .arg(data)?
         .arg(copies)?
         .arg(connections)
+}
+
+fn dump_command<'a>(alloc: Global) -> Result<Command<'a>, AllocError> {
+    let data = option(
+        alloc,
+        "data",
+        "The folder that the index is kept in; nothing of it is changed",
+    )
+    .required(true)
+    .value_name("DIR");
+    let mapping = Arg::new(alloc, "mapping")
+        .long("mapping")
+        .action(ArgAction::SetTrue)
+        .help("Writes the mapping, on one line, and no documents");
+    Command::new(alloc, "dump")
+        .about("Writes the documents of a folder as the lines of a bulk request")
+        .after_help(MOVED)
+        .arg(data)?
+        .arg(mapping)
 }
 
 /// An option with a value.

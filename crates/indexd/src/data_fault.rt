@@ -10,6 +10,7 @@ use translog::LogFault;
 #[derive(Debug, Drop)]
 pub(crate) enum DataFault {
     Folder(io::Error),
+    NoIndex,
     InUse,
     File(&'static str, io::Error),
     Missing(&'static str),
@@ -35,6 +36,7 @@ impl Display for DataFault {
     fn fmt<W: fmt::Write>(&self, f: &mut fmt::Formatter<W>) -> fmt::Result {
         match self {
             DataFault::Folder(error) => write!(f, "it can't be made: {error}"),
+            DataFault::NoIndex => write!(f, "there is no index in it: it has no mapping.json"),
             DataFault::InUse => write!(f, "another process serves it: end that one first"),
             DataFault::File(name, error) => write!(f, "{name}: {error}"),
             DataFault::Missing(name) => {

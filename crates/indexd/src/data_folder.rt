@@ -1,8 +1,11 @@
 //! The folder that an index is kept in: its mapping, the log of its master, and that of its copy.
+ghost use Rattle.std.specs.Prelude.{All, IfOk};
+ghost use Rattle.op.specs.Records.{IsRecord};
 
 use crate::data_fault::{DataFault, Difference};
 use doc::{DocFault, Mapping};
 use master::Master;
+use op::Record;
 use replica::{Birth, Copy, CopyFault};
 use serde_json::Value;
 use shard::Shard;
@@ -11,7 +14,7 @@ use std::fs;
 use std::fs::{File, OpenFile, OpenOptions, TryLockError};
 use std::io::{Read, Write};
 use std::rt::Files;
-use translog::{FileDevice, Refused};
+use translog::{FileDevice, LogFault, Refused, Translog};
 
 /// The file that is locked while the folder is served.
 const LOCK: &str = "lock";
@@ -55,6 +58,45 @@ pub(crate) fn open_index<R: Files<File = File> + AllocGlobal>(
     let mapping = folder.mapping(given)?;
     let shard = folder.shard(name, mapping)?;
     Ok(KeptIndex { shard, lock })
+}
+
+/// What a folder keeps of an index, as it was read: nothing of it was changed. No other process serves the folder while this is held.
+#[derive(Drop)]
+pub(crate) struct KeptRecords {
+    pub(crate) text: String,
+    pub(crate) mapping: Mapping,
+    pub(crate) records: Vec<Record>,
+    pub(crate) lock: File,
+}
+
+/// Reads the index of a folder; a torn end of the copy's log is passed over.
+pub(crate) fn read_index<R: Files<File = File> + AllocGlobal>(
+    rt: &R,
+    path: &str,
+) -> Result<KeptRecords, DataFault>
+    ensures { IfOk result (λ k. All IsRecord k.records.items) }
+{
+    let folder = Folder { rt, path };
+    if !folder.has(MAPPING)? {
+        return Err(DataFault::NoIndex);
+    }
+    let lock = folder.lock()?;
+    let text = folder.text(MAPPING)?;
+    let mapping = mapping_of(rt.alloc(), text.as_str())?;
+    if !folder.has(COPY)? {
+        return Err(DataFault::Missing(COPY));
+    }
+    let mut log = Translog::over(folder.device(COPY)?);
+    match log.read(rt.alloc()) {
+        Ok((records, _torn)) => Ok(KeptRecords {
+            text,
+            mapping,
+            records,
+            lock,
+        }),
+        Err(LogFault::NoMemory) => Err(DataFault::NoMemory),
+        Err(fault) => Err(DataFault::Copy(CopyFault::Log(fault))),
+    }
 }
 
 /// A folder, and what reads and writes its files.

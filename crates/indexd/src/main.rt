@@ -7,6 +7,7 @@ mod connections;
 mod data_fault;
 mod data_folder;
 mod desk;
+mod dumping;
 mod explaining;
 mod fault;
 mod index_name;

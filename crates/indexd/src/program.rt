@@ -4,6 +4,7 @@ ghost use Rattle.std.specs.Io.KnownBytes.{Appends};
 ghost use Rattle.indexd.specs.Output.{lines};
 
 use crate::command_line::{Played, Task, task_of};
+use crate::dumping::{Dumped, dump};
 use crate::fault::ReplayFault;
 use crate::names::shown;
 use crate::playing::replay_telling;
@@ -63,6 +64,7 @@ where
     match task_of(rt.alloc(), words) {
         Ok(Task::Replay(played)) => run(rt, played, terminals, input, output, errors),
         Ok(Task::Serve(settings)) => run_server(rt, settings, output, errors),
+        Ok(Task::Dump(dumped)) => run_dump(rt, dumped, output, errors),
         Err(error) => explain(&error, output, errors),
     }
 }
@@ -84,6 +86,24 @@ where
     ensures { result < 2 }
 {
     match serve(rt, settings, output) {
+        Ok(()) => 0,
+        Err(fault) => {
+            let _ = writeln!(errors, "indexd: {fault}");
+            1
+        }
+    }
+}
+
+/// Writes what a folder keeps, and answers the exit status: 0, or 1 with one line on `errors`.
+fn run_dump<R: Files<File = File> + AllocGlobal, O: Write, E: Write>(
+    rt: &R,
+    dumped: Dumped<'_>,
+    output: &mut O,
+    errors: &mut E,
+) -> u8
+    ensures { result < 2 }
+{
+    match dump(rt, dumped, output) {
         Ok(()) => 0,
         Err(fault) => {
             let _ = writeln!(errors, "indexd: {fault}");
