@@ -1,0 +1,30 @@
+-- A journal of the master with one more entry.
+use Rattle.std.proofs.Common.{◌≡◌, ℕ, Bool, true, false, List, [], ◌∷◌, ◌++◌, Option, Some, None, Result, Ok, Err, refl, sym, ap, subst, ◌∙◌}
+use Rattle.audit.specs.declared.journal.Ruling.{Ruling}
+use Rattle.audit.specs.Audit.{begins_open}
+use Rattle.audit.specs.Rulings.{Ruler, AreLegal, IsLegalRuling, MayRule, next_ruler, ruled_at, ruler_after}
+use Rattle.master.specs.declared.fault.MasterFault.{MasterFault}
+use Rattle.master.specs.declared.fault.MasterFault.TheVariants.{OldTerm, NotInSync, IsPrimary, Gone, Log, NoMemory, Full}
+use Rattle.master.specs.declared.state.Decision.{Decision}
+use Rattle.master.specs.declared.state.Request.{Request}
+use Rattle.master.specs.declared.state.State.{State}
+use Rattle.master.specs.Decide.{MasterStep, decision_of, master_step}
+use Rattle.master.specs.Fault.{fault_of}
+use Rattle.master.specs.Logged.{Logged, IsDone, IsRefused}
+use Rattle.doc.specs.Outcome.{Gives}
+use Rattle.cluster.specs.Ruled.{RuledData, IsRuled, IsRuling, IsUnasked, IsUnruled, Rules, ruling}
+
+pub legal_push : (s : Ruler) (rs : List Ruling) (r : Ruling) → AreLegal s rs → IsLegalRuling (ruler_after s rs) r → AreLegal s (rs ++ r ∷ [])
+legal_push s [] r legal last = (last, tt)
+legal_push s (x ∷ rs) r legal last = (legal.0, legal_push (next_ruler s x) rs r legal.1 last)
+
+pub after_push : (s : Ruler) (rs : List Ruling) (r : Ruling) → ruler_after s (rs ++ r ∷ []) ≡ next_ruler (ruler_after s rs) r
+after_push s [] r = refl
+after_push s (x ∷ rs) r = after_push (next_ruler s x) rs r
+
+-- one more entry that the master may make
+pub ruled_more : (old : RuledData) (master : Logged) (pass : ℕ) (request : Request) (answer : Result Decision MasterFault) → IsRuled old → Rules old.master master request answer → IsRuled (record { opening = old.opening; rulings = old.rulings ++ ruling pass request answer ∷ []; master = master })
+ruled_more old master pass request answer is rules = record {
+  legal = legal_push (begins_open old.opening) old.rulings (ruling pass request answer) is.legal (subst (λ (s : Ruler). IsLegalRuling s (ruling pass request answer)) (sym is.after) rules.legal);
+  after = after_push (begins_open old.opening) old.rulings (ruling pass request answer) ∙ ap (λ (s : Ruler). next_ruler s (ruling pass request answer)) is.after ∙ rules.left;
+}

@@ -1,0 +1,124 @@
+-- Receipts that answer what was asked.
+use Rattle.std.specs.Prelude.{◌≡◌, ℕ, Bool, true, false, List, slice_get, Option, Some, None, Result, Ok, Err}
+use Rattle.op.specs.declared.operation.Op.{Op}
+use Rattle.replica.specs.declared.fault.CopyFault.{CopyFault}
+use Rattle.replica.specs.declared.fault.CopyFault.TheVariants.{NotPrimary, VersionConflict, WindowFull, OldTerm, NotSynced, BeyondWindow, Mismatch, Closed, Log, NoMemory as OutOfMemory, WrongAddress, Exhausted}
+use Rattle.replica.specs.declared.input.Input.{Input}
+use Rattle.replica.specs.declared.input.Input.TheVariants.{Write as Client}
+use Rattle.replica.specs.declared.input.Write.{Write}
+use Rattle.replica.specs.declared.output.Answer.{Answer}
+use Rattle.replica.specs.declared.output.Answer.TheVariants.{Wrote, Taken, Stale, Repeated, Reported, Found, Missing, Point}
+use Rattle.replica.specs.declared.output.Output.{Output}
+use Rattle.replica.specs.declared.output.Written.{Written}
+use Rattle.node.specs.declared.pass.Receipt.{Receipt}
+use Rattle.cluster.specs.declared.confirmed.Confirmed.{Confirmed}
+use Rattle.cluster.specs.declared.fault.ClusterFault.{ClusterFault}
+use Rattle.cluster.specs.declared.fault.ClusterFault.TheVariants.{NoPrimary, Lost, NoMemory, NoSeat, Copy, Master, Stray, Running}
+
+-- the entry is of this node, and was asked this
+pub record IsAnswerTo (node : ℕ) (asked : Input) (r : Receipt) : Type 0 where
+  pub node_is : r.node ≡ node
+  pub input_is : r.deed.input ≡ asked
+
+-- what a write was kept as
+abbrev pub written_as : Answer → Option Written
+written_as (Wrote w) = Some w
+written_as Taken = None
+written_as Stale = None
+written_as Repeated = None
+written_as Reported = None
+written_as (Found d) = None
+written_as Missing = None
+written_as (Point n) = None
+
+abbrev pub wrote : Result Output CopyFault → Option Written
+wrote (Ok output) = written_as output.answer
+wrote (Err e) = None
+
+-- one of the operations has this number and term
+pub record IsAcknowledged (ops : List Op) (seq term : ℕ) : Type 0 where
+  pub place : ℕ
+  pub op : Op
+  pub there : slice_get ops place ≡ Some op
+  pub seq_is : op.seq ≡ seq
+  pub term_is : op.term ≡ term
+
+abbrev pub AcknowledgedBy : Result Output CopyFault → Written → Type 0
+AcknowledgedBy (Ok output) w = IsAcknowledged output.acknowledged w.seq w.term
+AcknowledgedBy (Err e) w = ⊥
+
+-- the entry acknowledges the write
+abbrev pub Acknowledges : Receipt → Written → Type 0
+Acknowledges r w = AcknowledgedBy r.deed.answer w
+
+-- a write with an entry of its own, and one that acknowledges it
+pub record IsConfirmed (write : Write) (c : Confirmed) : Type 0 where
+  pub written : Written
+  pub asked : c.write.deed.input ≡ Client write
+  pub kept : wrote c.write.deed.answer ≡ Some written
+  pub acknowledged : Acknowledges c.acknowledgement written
+
+-- the copy isn't the primary, or is closed
+abbrev pub is_no_primary : Result Output CopyFault → Bool
+is_no_primary (Ok output) = false
+is_no_primary (Err NotPrimary) = true
+is_no_primary (Err Closed) = true
+is_no_primary (Err VersionConflict) = false
+is_no_primary (Err WindowFull) = false
+is_no_primary (Err OldTerm) = false
+is_no_primary (Err NotSynced) = false
+is_no_primary (Err BeyondWindow) = false
+is_no_primary (Err Mismatch) = false
+is_no_primary (Err (Log f)) = false
+is_no_primary (Err OutOfMemory) = false
+is_no_primary (Err WrongAddress) = false
+is_no_primary (Err Exhausted) = false
+
+-- the refusal holds no entry
+abbrev pub IsBare : ClusterFault → Type 0
+IsBare (NoPrimary r) = ⊥
+IsBare (Lost r last) = ⊥
+IsBare NoMemory = Unit {0}
+IsBare NoSeat = Unit {0}
+IsBare (Copy f) = Unit {0}
+IsBare (Master f) = Unit {0}
+IsBare Running = Unit {0}
+IsBare (Stray place) = Unit {0}
+
+-- the refusal that an entry shows: that its copy isn't the primary, or another one, which holds no entry
+abbrev pub IsRefusalBy : Receipt → ClusterFault → Type 0
+IsRefusalBy receipt (NoPrimary r) = (r ≡ receipt) × (is_no_primary receipt.deed.answer ≡ true)
+IsRefusalBy receipt (Lost r last) = ⊥
+IsRefusalBy receipt NoMemory = Unit {0}
+IsRefusalBy receipt NoSeat = Unit {0}
+IsRefusalBy receipt (Copy f) = Unit {0}
+IsRefusalBy receipt (Master f) = Unit {0}
+IsRefusalBy receipt Running = Unit {0}
+IsRefusalBy receipt (Stray place) = Unit {0}
+
+-- a write that its copy kept wasn't acknowledged: the refusal holds its entry, or none
+abbrev pub IsEndOf : Receipt → ClusterFault → Type 0
+IsEndOf receipt (NoPrimary r) = ⊥
+IsEndOf receipt (Lost r last) = r ≡ receipt
+IsEndOf receipt NoMemory = Unit {0}
+IsEndOf receipt NoSeat = Unit {0}
+IsEndOf receipt (Copy f) = Unit {0}
+IsEndOf receipt (Master f) = Unit {0}
+IsEndOf receipt Running = Unit {0}
+IsEndOf receipt (Stray place) = Unit {0}
+
+-- a write that was kept, and is perhaps lost
+pub record IsLost (write : Write) (r : Receipt) : Type 0 where
+  pub asked : r.deed.input ≡ Client write
+  pub kept : (w : Written) × (wrote r.deed.answer ≡ Some w)
+
+-- what a refused write shows: that no copy is the primary, or that the write was kept
+abbrev pub IsWriteRefused : Write → ClusterFault → Type 0
+IsWriteRefused write (NoPrimary r) = (r.deed.input ≡ Client write) × (is_no_primary r.deed.answer ≡ true)
+IsWriteRefused write (Lost r last) = IsLost write r
+IsWriteRefused write NoMemory = Unit {0}
+IsWriteRefused write NoSeat = Unit {0}
+IsWriteRefused write (Copy f) = Unit {0}
+IsWriteRefused write (Master f) = Unit {0}
+IsWriteRefused write Running = Unit {0}
+IsWriteRefused write (Stray place) = Unit {0}

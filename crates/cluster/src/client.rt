@@ -1,0 +1,210 @@
+//! What callers ask the copies of a cluster by.
+ghost use Rattle.std.specs.Prelude.{◌≡◌, IfOk, IfErr};
+ghost use Rattle.cluster.specs.Confirmed.{Acknowledges, IsAnswerTo, IsBare, IsConfirmed, IsEndOf, IsRefusalBy, IsWriteRefused};
+
+use crate::checks::{
+    acknowledges, is_answer_to, is_no_primary, is_of_write, refusal_in, written_in,
+};
+use crate::confirmed::Confirmed;
+use crate::fault::ClusterFault;
+use crate::post::{Answered, Ending, Post};
+use crate::shared::Shared;
+use crate::shown::Shown;
+use crossbeam_channel::{Receiver, bounded};
+use master::{Decision, MasterFault, Request, State};
+use node::Receipt;
+use replica::{Input, Write, Written};
+use std::alloc::Global;
+use std::sync::{Arc, Wait};
+use translog::LogDevice;
+
+/// Asks the copies of a cluster, from any thread. A cluster gives it out, and ends what it asks.
+#[derive(Drop)]
+pub struct Client<D: LogDevice> {
+    pub(crate) alloc: Global,
+    pub(crate) shared: Arc<Shared<D>, Global>,
+}
+
+impl<D: LogDevice> Client<D> {
+    /// Has the primary do a write, and waits until every member has it.
+    pub fn write<R: Wait>(&self, rt: &R, write: Write) -> Result<Confirmed, ClusterFault>
+        ensures confirmed { IfOk result (IsConfirmed write) }
+        ensures refused { IfErr result (IsWriteRefused write) }
+    {
+        let primary = self.shared.primary(rt);
+        let asked = write.copy(self.alloc)?;
+        let begun = self.begin(rt, primary, asked)?;
+        confirmed(rt, begun, primary, &write)
+    }
+
+    /// Hands a write to a copy, and waits for its entry.
+    fn begin<R: Wait>(&self, rt: &R, copy: u32, write: Write) -> Result<Begun, ClusterFault>
+        ensures { IfErr result IsBare }
+    {
+        let (first, answers) = bounded(self.alloc, 1)?;
+        let (second, endings) = bounded(self.alloc, 1)?;
+        self.send(rt, copy, Post::Write(write, first, second))?;
+        let receipt = received(rt, &answers)?;
+        Ok(Begun { receipt, endings })
+    }
+
+    /// Has a copy do a get or a refresh, and waits for its entry.
+    pub fn call<R: Wait>(&self, rt: &R, copy: u32, input: Input) -> Result<Receipt, ClusterFault>
+        ensures { IfOk result (IsAnswerTo copy input) }
+    {
+        let asked = input.copy(self.alloc)?;
+        let receipt = self.entry(rt, copy, asked)?;
+        answered(receipt, copy, &input)
+    }
+
+    /// Hands an input to a copy, and waits for its entry.
+    fn entry<R: Wait>(&self, rt: &R, copy: u32, input: Input) -> Result<Receipt, ClusterFault>
+        ensures { IfErr result IsBare }
+    {
+        let (to, answers) = bounded(self.alloc, 1)?;
+        self.send(rt, copy, Post::Ask(input, to))?;
+        received(rt, &answers)
+    }
+
+    /// Hands a post to the worker of a copy.
+    fn send<R: Wait>(&self, rt: &R, copy: u32, post: Post) -> Result<(), ClusterFault>
+        ensures { IfErr result IsBare }
+    {
+        if self.shared.hand(rt, copy, post) {
+            Ok(())
+        } else {
+            Err(ClusterFault::Master(MasterFault::NotInSync))
+        }
+    }
+
+    /// What searches of a copy are to see now.
+    pub fn shown<R: Wait>(&self, rt: &R, copy: u32) -> Result<Shown, ClusterFault> {
+        let (to, answers) = bounded(self.alloc, 1)?;
+        if !self.shared.hand(rt, copy, Post::Show(to)) {
+            return Err(ClusterFault::Master(MasterFault::NotInSync));
+        }
+        let Ok(answer) = answers.recv(rt) else {
+            return Err(ClusterFault::NoMemory);
+        };
+        Ok(answer?)
+    }
+
+    /// Refreshes each copy, and tells how many are. One that is closed or gone is passed over.
+    pub fn refresh<R: Wait>(&self, rt: &R) -> Result<u64, ClusterFault> {
+        let next = self.state(rt)?.next;
+        let mut refreshed: u64 = 0;
+        for copy in 1..next {
+            let Ok(copy) = u32::try_from(copy) else {
+                break;
+            };
+            match self.call(rt, copy, Input::Refresh) {
+                Ok(_receipt) => refreshed = refreshed.saturating_add(1),
+                Err(ClusterFault::NoMemory) => return Err(ClusterFault::NoMemory),
+                Err(_fault) => {}
+            }
+        }
+        Ok(refreshed)
+    }
+
+    /// Has the master make a copy the primary.
+    pub fn promote<R: Wait>(&self, rt: &R, copy: u32) -> Result<Decision, ClusterFault> {
+        Ok(self.shared.ask(rt, self.alloc, 0, Request::Promote(copy))?)
+    }
+
+    /// The primary, as the master knows it.
+    pub fn primary<R: Wait>(&self, rt: &R) -> u32 {
+        self.shared.primary(rt)
+    }
+
+    /// What the master knows.
+    pub fn state<R: Wait>(&self, rt: &R) -> Result<State, ClusterFault> {
+        Ok(self.shared.state(rt, self.alloc)?)
+    }
+}
+
+/// A write that its copy has answered, and where it is told how the write ended.
+#[derive(Drop)]
+struct Begun {
+    receipt: Receipt,
+    endings: Receiver<Ending, Global>,
+}
+
+/// The entry that a worker answers with.
+fn received<R: Wait>(rt: &R, answers: &Receiver<Answered, Global>) -> Result<Receipt, ClusterFault>
+    ensures { IfErr result IsBare }
+{
+    match answers.recv(rt) {
+        Ok(Ok(receipt)) => Ok(receipt),
+        Ok(Err(fault)) => Err(ClusterFault::from(fault)),
+        Err(_) => Err(ClusterFault::NoMemory),
+    }
+}
+
+/// The entry, where it is the one that was asked for, and not a refusal.
+fn answered(receipt: Receipt, copy: u32, input: &Input) -> Result<Receipt, ClusterFault>
+    ensures { IfOk result (IsAnswerTo copy input.now) }
+{
+    if !is_answer_to(&receipt, copy, input) {
+        return Err(ClusterFault::Stray(receipt.place));
+    }
+    match refusal_in(&receipt) {
+        Some(fault) => Err(ClusterFault::Copy(fault)),
+        None => Ok(receipt),
+    }
+}
+
+/// Waits until a write is confirmed, or its copy leads no more.
+fn confirmed<R: Wait>(
+    rt: &R,
+    begun: Begun,
+    copy: u32,
+    write: &Write,
+) -> Result<Confirmed, ClusterFault>
+    ensures confirmed { IfOk result (IsConfirmed write.now) }
+    ensures refused { IfErr result (IsWriteRefused write.now) }
+{
+    let Begun { receipt, endings } = begun;
+    if !is_of_write(&receipt, copy, write) {
+        return Err(ClusterFault::Stray(receipt.place));
+    }
+    let Some(written) = written_in(&receipt) else {
+        return Err(refusal_of(receipt));
+    };
+    match endings.recv(rt) {
+        Ok(ending) => ended(receipt, written, ending),
+        Err(_) => Err(ClusterFault::NoMemory),
+    }
+}
+
+/// Why a write that its copy answered isn't kept.
+fn refusal_of(receipt: Receipt) -> ClusterFault
+    ensures { IsRefusalBy receipt result }
+{
+    if is_no_primary(&receipt) {
+        return ClusterFault::NoPrimary(receipt);
+    }
+    match refusal_in(&receipt) {
+        Some(fault) => ClusterFault::Copy(fault),
+        None => ClusterFault::Stray(receipt.place),
+    }
+}
+
+/// How a write that was kept ended.
+fn ended(receipt: Receipt, written: Written, ending: Ending) -> Result<Confirmed, ClusterFault>
+    ensures kept { IfOk result (λ c. (c.write ≡ receipt) × Acknowledges c.acknowledgement written) }
+    ensures lost { IfErr result (IsEndOf receipt) }
+{
+    match ending {
+        Ending::Acknowledged(last) => {
+            if acknowledges(&last, written) {
+                Ok(Confirmed {
+                    write: receipt,
+                    acknowledgement: last,
+                })
+            } else {
+                Err(ClusterFault::Stray(last.place))
+            }
+        }
+        Ending::Lost(last) => Err(ClusterFault::Lost(receipt, last)),
+    }
+}

@@ -1,0 +1,26 @@
+//! Copies that run beside one another, each on a thread of its own, and the master that tells them who leads.
+#![tactic(auto)]
+
+mod checks;
+pub mod client;
+pub mod cluster;
+pub mod confirmed;
+mod copies;
+pub mod devices;
+pub mod fault;
+pub mod gate;
+mod left;
+mod post;
+pub mod ruled;
+mod shared;
+pub mod shown;
+mod worker;
+
+pub use client::Client;
+pub use cluster::Cluster;
+pub use confirmed::Confirmed;
+pub use devices::{Devices, InMemory};
+pub use fault::ClusterFault;
+pub use gate::{Gate, Open};
+pub use ruled::Ruled;
+pub use shown::Shown;

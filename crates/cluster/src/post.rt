@@ -1,0 +1,42 @@
+//! What a worker is sent.
+
+use crate::shown::Shown;
+use crossbeam_channel::Sender;
+use node::{NodeFault, Receipt};
+use op::Msg;
+use replica::{Input, Write};
+use std::alloc::Global;
+
+/// The entry that a call made, also where the copy refused it; or why there is none.
+pub(crate) type Answered = Result<Receipt, NodeFault>;
+
+/// How the waiting for a write's acknowledgement ended.
+#[derive(Drop)]
+pub(crate) enum Ending {
+    /// By an entry that acknowledges it.
+    Acknowledged(Receipt),
+    /// By an entry after which the copy is the primary of that term no more.
+    Lost(Receipt),
+}
+
+/// What a worker is sent.
+#[derive(Drop)]
+pub(crate) enum Post {
+    Ask(Input, Sender<Answered, Global>),
+    /// A write: its own entry is answered first, and how it ended when it has.
+    Write(Write, Sender<Answered, Global>, Sender<Ending, Global>),
+    /// A message, and how often it was refused for a while.
+    Hand(Msg, u32),
+    /// A copy that the primary is to report.
+    Report(u32),
+    /// To hand out what the copy shows.
+    Show(Sender<Result<Shown, NodeFault>, Global>),
+    Stop,
+}
+
+/// Where the posts of a copy go.
+#[derive(Drop)]
+pub(crate) struct Route {
+    pub(crate) copy: u32,
+    pub(crate) to: Sender<Post, Global>,
+}
