@@ -12,6 +12,7 @@ use Rattle.engine.specs.Answer.{answer, found}
 use Rattle.replica.specs.declared.fault.CopyFault.{CopyFault}
 use Rattle.replica.specs.declared.fault.CopyFault.TheVariants as fault
 use Rattle.replica.specs.declared.input.Condition as kept
+use Rattle.replica.specs.declared.input.Write as kept_write
 use Rattle.replica.specs.declared.input.Input.{Input}
 use Rattle.replica.specs.declared.input.Input.TheVariants as input
 use Rattle.replica.specs.declared.input.OpType.{OpType}
@@ -48,8 +49,11 @@ kind_of (change.Index d) condition = kind.Index d.source (option_map condition_o
 kind_of (change.Create d) condition = kind.Create d.source
 kind_of change.Delete condition = kind.Delete (option_map condition_of condition)
 
+abbrev pub write_of : Write → kept_write.Write
+write_of w = record { id = w.id; kind = kind_of w.change w.condition }
+
 abbrev pub input_of : Write → Input
-input_of w = input.Write (record { id = w.id; kind = kind_of w.change w.condition })
+input_of w = input.Write (write_of w)
 
 abbrev pub replied_outcome : kept_outcome.Outcome → Outcome
 replied_outcome outcome.Created = Created

@@ -87,6 +87,13 @@ fn do_write<D: LogDevice>(
 fn input_of(write: Write) -> Input
     ensures { result ≡ spec.input_of write }
 {
+    Input::Write(write_of(write))
+}
+
+/// The write, as a copy takes it.
+pub(crate) fn write_of(write: Write) -> replica::Write
+    ensures { result ≡ spec.write_of write }
+{
     let Write {
         id,
         change,
@@ -94,7 +101,7 @@ fn input_of(write: Write) -> Input
         refresh: _,
     } = write;
     let kind = kind_of(change, condition);
-    Input::Write(replica::Write { id, kind })
+    replica::Write { id, kind }
 }
 
 fn kind_of(change: Change, condition: Option<Condition>) -> OpType
@@ -117,7 +124,7 @@ fn condition_of(condition: Option<Condition>) -> Option<replica::Condition>
 }
 
 /// The reply that tells what a step answers.
-fn reply_of(output: Output) -> Reply
+pub(crate) fn reply_of(output: Output) -> Reply
     ensures { reply_view result ≡ spec.reply_of output.members output.answer }
 {
     let Output {
@@ -199,7 +206,7 @@ fn search<D: LogDevice>(
     Ok(Reply::Hits(found.total, hits))
 }
 
-fn hits_of(alloc: Global, found: &[Found]) -> Result<Vec<Hit>, AllocError>
+pub(crate) fn hits_of(alloc: Global, found: &[Found]) -> Result<Vec<Hit>, AllocError>
     ensures { IfOk result (λ hits. hits.items ≡ map (λ h. spec.hit_of (hit_view h)) found.now) }
 {
     let mut hits = Vec::new(alloc);

@@ -1,8 +1,10 @@
-//! An index of one copy, as a service that answers the requests of HTTP.
+//! An index as a service that answers the requests of HTTP: one of one copy, and one of several copies on threads of their own.
 #![tactic(auto)]
 
 mod answering;
+pub mod group;
 mod ready;
 pub mod shard;
 
+pub use group::Group;
 pub use shard::Shard;
