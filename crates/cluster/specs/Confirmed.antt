@@ -13,7 +13,7 @@ use Rattle.replica.specs.declared.output.Written.{Written}
 use Rattle.node.specs.declared.pass.Receipt.{Receipt}
 use Rattle.cluster.specs.declared.confirmed.Confirmed.{Confirmed}
 use Rattle.cluster.specs.declared.fault.ClusterFault.{ClusterFault}
-use Rattle.cluster.specs.declared.fault.ClusterFault.TheVariants.{NoPrimary, Lost, NoMemory, NoSeat, Copy, Master, Stray, Running}
+use Rattle.cluster.specs.declared.fault.ClusterFault.TheVariants.{NoPrimary, Lost, NoMemory, NoSeat, Copy, Master, Stray, Running, Unopened}
 
 -- the entry is of this node, and was asked this
 pub record IsAnswerTo (node : ℕ) (asked : Input) (r : Receipt) : Type 0 where
@@ -84,6 +84,7 @@ IsBare (Copy f) = Unit {0}
 IsBare (Master f) = Unit {0}
 IsBare Running = Unit {0}
 IsBare (Stray place) = Unit {0}
+IsBare (Unopened tried) = Unit {0}
 
 -- the refusal that an entry shows: that its copy isn't the primary, or another one, which holds no entry
 abbrev pub IsRefusalBy : Receipt → ClusterFault → Type 0
@@ -95,6 +96,7 @@ IsRefusalBy receipt (Copy f) = Unit {0}
 IsRefusalBy receipt (Master f) = Unit {0}
 IsRefusalBy receipt Running = Unit {0}
 IsRefusalBy receipt (Stray place) = Unit {0}
+IsRefusalBy receipt (Unopened tried) = Unit {0}
 
 -- a write that its copy kept wasn't acknowledged: the refusal holds its entry, or none
 abbrev pub IsEndOf : Receipt → ClusterFault → Type 0
@@ -106,6 +108,7 @@ IsEndOf receipt (Copy f) = Unit {0}
 IsEndOf receipt (Master f) = Unit {0}
 IsEndOf receipt Running = Unit {0}
 IsEndOf receipt (Stray place) = Unit {0}
+IsEndOf receipt (Unopened tried) = Unit {0}
 
 -- a write that was kept, and is perhaps lost
 pub record IsLost (write : Write) (r : Receipt) : Type 0 where
@@ -122,3 +125,4 @@ IsWriteRefused write (Copy f) = Unit {0}
 IsWriteRefused write (Master f) = Unit {0}
 IsWriteRefused write Running = Unit {0}
 IsWriteRefused write (Stray place) = Unit {0}
+IsWriteRefused write (Unopened tried) = Unit {0}

@@ -1,8 +1,10 @@
--- What a cluster says of a refusal of a node and of the master.
+-- What a cluster says of a refusal of a node, of a copy and of the master.
 use Rattle.master.specs.declared.fault.MasterFault.{MasterFault}
 use Rattle.master.specs.declared.fault.MasterFault.TheVariants as master
 use Rattle.node.specs.declared.fault.NodeFault.{NodeFault}
 use Rattle.node.specs.declared.fault.NodeFault.TheVariants as node
+use Rattle.replica.specs.declared.fault.CopyFault.{CopyFault}
+use Rattle.replica.specs.declared.fault.CopyFault.TheVariants as copy
 use Rattle.cluster.specs.declared.fault.ClusterFault.{ClusterFault}
 use Rattle.cluster.specs.declared.fault.ClusterFault.TheVariants.{NoMemory, NoSeat, Copy, Master, Stray}
 
@@ -20,3 +22,17 @@ of_node node.NoMemory = NoMemory
 of_node node.NoSeat = NoSeat
 of_node (node.Copy f) = Copy f
 of_node (node.Stray place) = Stray place
+
+abbrev pub of_copy : CopyFault → ClusterFault
+of_copy copy.NoMemory = NoMemory
+of_copy copy.NotPrimary = Copy copy.NotPrimary
+of_copy copy.VersionConflict = Copy copy.VersionConflict
+of_copy copy.WindowFull = Copy copy.WindowFull
+of_copy copy.OldTerm = Copy copy.OldTerm
+of_copy copy.NotSynced = Copy copy.NotSynced
+of_copy copy.BeyondWindow = Copy copy.BeyondWindow
+of_copy copy.Mismatch = Copy copy.Mismatch
+of_copy copy.Closed = Copy copy.Closed
+of_copy (copy.Log f) = Copy (copy.Log f)
+of_copy copy.WrongAddress = Copy copy.WrongAddress
+of_copy copy.Exhausted = Copy copy.Exhausted

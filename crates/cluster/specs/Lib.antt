@@ -3,3 +3,4 @@ pub mod Faults
 pub mod Ruled
 pub mod Shown
 pub mod Journals
+pub mod Opening

@@ -4,23 +4,34 @@ ghost use Rattle.cluster.specs.Journals.{IsLegalJournal};
 
 use crate::client::Client;
 use crate::devices::Devices;
-use crate::fault::ClusterFault;
+use crate::fault::{ClusterFault, OpenFault, Unopened, of_master_log};
 use crate::gate::Gate;
 use crate::left::Left;
+use crate::opening::{beginning, birth_of, joining_copy, kept_copy, leader_of, new_copy};
 use crate::post::{Post, Route};
 use crate::ruled::Ruled;
 use crate::shared::Shared;
 use crate::worker::{Bench, Worker, started};
-use audit::{Journal, Opening};
+use audit::Journal;
 use crossbeam_channel::unbounded;
 use doc::Mapping;
 use master::{Decision, Master, MasterFault, Request};
 use node::{Held, Pass};
-use replica::{Birth, Copy as OneCopy, CopyFault};
+use op::CopyIds;
+use replica::{Birth, CopyFault};
 use std::alloc::Global;
 use std::sync::{Arc, Mutex, Wait};
 use std::thread::{JoinHandle, Threads};
 use translog::LogDevice;
+
+/// What a cluster is made of, beside its nodes.
+#[derive(Drop)]
+struct Setting<V, G> {
+    alloc: Global,
+    mapping: Mapping,
+    devices: V,
+    gate: G,
+}
 
 /// The master and its copies, each copy on a thread of its own. End it by `close`.
 #[derive(Drop)]
@@ -30,6 +41,7 @@ pub struct Cluster<D: LogDevice, V: Devices<D>, G: Gate> {
     gate: Arc<G, Global>,
     client: Client<D>,
     threads: Vec<JoinHandle<Left>>,
+    unopened: Vec<Unopened>,
 }
 
 impl<D: LogDevice + Send + 'static, V: Devices<D>, G: Gate + Send + Sync + 'static> Cluster<
@@ -37,7 +49,7 @@ impl<D: LogDevice + Send + 'static, V: Devices<D>, G: Gate + Send + Sync + 'stat
     V,
     G,
 > {
-    /// Starts a new index of one copy to five: copy 1 is the primary of term 1.
+    /// Starts a new index of one copy to five, over devices that hold nothing: copy 1 is the primary of term 1.
     pub fn start<R: Threads + Wait + Copy + Send + Drop + 'static>(
         rt: &R,
         alloc: Global,
@@ -48,8 +60,88 @@ impl<D: LogDevice + Send + 'static, V: Devices<D>, G: Gate + Send + Sync + 'stat
     ) -> Result<Cluster<D, V, G>, ClusterFault>
         requires { (1 ≤ copies) × (copies ≤ 5) }
     {
-        let mut devices = devices;
-        let master = begun(alloc, copies, &mut devices)?;
+        let mut setting = Setting {
+            alloc,
+            mapping,
+            devices,
+            gate,
+        };
+        let device = match setting.devices.device(0) {
+            Ok(device) => device,
+            Err(fault) => return Err(of_master_log(fault)),
+        };
+        Cluster::begin(rt, setting, copies, device)
+    }
+
+    /// Starts the index that devices hold; over devices that hold nothing a new one, as `start` does.
+    ///
+    /// Of the copies that are in sync each is opened; the others are gone for good. The master makes its primary the primary of the next term,
+    /// or where that doesn't open the least id that does, and the new primary reports those that didn't open. Where none opens the cluster is
+    /// refused, and nothing is decided.
+    pub fn open<R: Threads + Wait + Copy + Send + Drop + 'static>(
+        rt: &R,
+        alloc: Global,
+        mapping: Mapping,
+        copies: u8,
+        devices: V,
+        gate: G,
+    ) -> Result<Cluster<D, V, G>, ClusterFault>
+        requires { (1 ≤ copies) × (copies ≤ 5) }
+    {
+        let mut setting = Setting {
+            alloc,
+            mapping,
+            devices,
+            gate,
+        };
+        let device = master_device(&mut setting.devices)?;
+        match beginning(alloc, device) {
+            Ok((Some(count), device)) => Cluster::reopen(rt, setting, count, device),
+            Ok((None, device)) => Cluster::begin(rt, setting, copies, device),
+            Err(fault) => Err(of_master_log(fault)),
+        }
+    }
+
+    /// The copies come first: where the master's log has a frame, each copy has its log.
+    fn begin<R: Threads + Wait + Copy + Send + Drop + 'static>(
+        rt: &R,
+        setting: Setting<V, G>,
+        copies: u8,
+        device: D,
+    ) -> Result<Cluster<D, V, G>, ClusterFault>
+        requires { (1 ≤ copies) × (copies ≤ 5) }
+    {
+        let mut setting = setting;
+        let alloc = setting.alloc;
+        let helds = new_copies(alloc, copies, &setting.mapping, &mut setting.devices)?;
+        let master = new_master(alloc, copies, device)?;
+        let mut cluster = Cluster::over(setting, master)?;
+        let begun = cluster.launch_all(rt, helds);
+        cluster.or_closed(rt, begun)
+    }
+
+    fn reopen<R: Threads + Wait + Copy + Send + Drop + 'static>(
+        rt: &R,
+        setting: Setting<V, G>,
+        count: u8,
+        device: D,
+    ) -> Result<Cluster<D, V, G>, ClusterFault> {
+        let master = kept_master(setting.alloc, device)?;
+        let mut cluster = Cluster::over(setting, master)?;
+        let opened = cluster.open_all(rt, count);
+        cluster.or_closed(rt, opened)
+    }
+
+    /// A cluster without copies yet.
+    fn over(setting: Setting<V, G>, master: Master<D>) -> Result<Cluster<D, V, G>, ClusterFault>
+        requires { master.closed ≡ false }
+    {
+        let Setting {
+            alloc,
+            mapping,
+            devices,
+            gate,
+        } = setting;
         let shared = Arc::new(
             alloc,
             Shared {
@@ -57,39 +149,104 @@ impl<D: LogDevice + Send + 'static, V: Devices<D>, G: Gate + Send + Sync + 'stat
                 routes: Mutex::new(Vec::new(alloc)),
             },
         )?;
-        let mut cluster = Cluster {
+        Ok(Cluster {
             mapping,
             devices,
             gate: Arc::new(alloc, gate)?,
             client: Client { alloc, shared },
             threads: Vec::new(alloc),
-        };
-        for copy in 1..=copies as u32 {
-            if let Err(fault) = cluster.begin(rt, copy, copies as u32) {
-                let _ = cluster.close(rt);
-                return Err(fault);
-            }
-        }
-        Ok(cluster)
+            unopened: Vec::new(alloc),
+        })
     }
 
-    /// Starts a copy that the index begins with.
-    fn begin<R: Threads + Wait + Copy + Send + Drop + 'static>(
+    /// The cluster, or the fault that it is closed for.
+    fn or_closed<R: Threads + Wait>(
+        self,
+        rt: &R,
+        done: Result<(), ClusterFault>,
+    ) -> Result<Cluster<D, V, G>, ClusterFault> {
+        match done {
+            Ok(()) => Ok(self),
+            Err(fault) => {
+                let _ = self.close(rt);
+                Err(fault)
+            }
+        }
+    }
+
+    fn launch_all<R: Threads + Wait + Copy + Send + Drop + 'static>(
+        &mut self,
+        rt: &R,
+        helds: Vec<Held<D>>,
+    ) -> Result<(), ClusterFault> {
+        for held in helds {
+            self.launch(rt, held)?;
+        }
+        Ok(())
+    }
+
+    /// Opens the copies that are in sync, and has one of them lead.
+    fn open_all<R: Threads + Wait + Copy + Send + Drop + 'static>(
+        &mut self,
+        rt: &R,
+        count: u8,
+    ) -> Result<(), ClusterFault> {
+        let alloc = self.client.alloc;
+        let state = self.client.state(rt)?;
+        let mut opened = CopyIds::none(alloc);
+        for id in state.in_sync.as_slice() {
+            if self.open_one(rt, *id, birth_of(*id, count))? {
+                opened = opened.with(alloc, *id)?;
+            }
+        }
+        match leader_of(state.primary, &opened) {
+            Some(leader) => {
+                self.client.promote(rt, leader)?;
+                Ok(())
+            }
+            None => {
+                let tried = std::mem::replace(&mut self.unopened, Vec::new(alloc));
+                Err(ClusterFault::Unopened(tried))
+            }
+        }
+    }
+
+    /// Opens a copy and starts its thread, and tells whether it opened. Want of memory is no reason to give it up.
+    fn open_one<R: Threads + Wait + Copy + Send + Drop + 'static>(
         &mut self,
         rt: &R,
         id: u32,
-        copies: u32,
-    ) -> Result<(), ClusterFault>
-        requires { 1 ≤ copies }
-    {
-        let alloc = self.client.alloc;
-        let device = device_of(&mut self.devices, id)?;
-        let mapping = self.mapping.copy(alloc)?;
-        let Ok(copy) = OneCopy::begin(alloc, id, copies, mapping, device) else {
-            return Err(ClusterFault::Copy(CopyFault::Mismatch));
+        birth: Birth,
+    ) -> Result<bool, ClusterFault> {
+        match self.kept(id, birth) {
+            Ok(held) => {
+                self.launch(rt, held)?;
+                Ok(true)
+            }
+            Err(OpenFault::Copy(CopyFault::NoMemory)) => Err(ClusterFault::NoMemory),
+            Err(fault) => {
+                self.unopened.push(Unopened { copy: id, fault })?;
+                Ok(false)
+            }
+        }
+    }
+
+    /// The copy that its device holds.
+    fn kept(&mut self, id: u32, birth: Birth) -> Result<Held<D>, OpenFault> {
+        let device = match self.devices.kept(id) {
+            Ok(Some(device)) => device,
+            Ok(None) => return Err(OpenFault::Missing),
+            Err(fault) => return Err(OpenFault::Copy(CopyFault::from(fault))),
         };
-        let opening = Opening::begun(id, copies, self.mapping.copy(alloc)?);
-        self.launch(rt, id, Held::new(alloc, opening, copy))
+        match kept_copy(self.client.alloc, id, birth, &self.mapping, device) {
+            Ok(held) => Ok(held),
+            Err(fault) => Err(OpenFault::Copy(fault)),
+        }
+    }
+
+    /// The copies that didn't open, and why.
+    pub fn unopened(&self) -> &[Unopened] {
+        self.unopened.as_slice()
     }
 
     /// Adds a copy, which the primary brings up to date.
@@ -102,21 +259,18 @@ impl<D: LogDevice + Send + 'static, V: Devices<D>, G: Gate + Send + Sync + 'stat
             return Err(ClusterFault::Master(MasterFault::Full));
         };
         let device = device_of(&mut self.devices, next)?;
-        let mapping = self.mapping.copy(alloc)?;
-        let Ok(copy) = OneCopy::open(alloc, next, Birth::Added, mapping, device) else {
-            return Err(ClusterFault::Copy(CopyFault::Mismatch));
-        };
-        if copy.point() != 0 {
-            return Err(ClusterFault::Copy(CopyFault::Mismatch));
+        let held = joining_copy(alloc, next, &self.mapping, device)?;
+        let bench = self.bench(rt, held)?;
+        match self.client.shared.ask(rt, alloc, 0, Request::Allocate) {
+            Ok(decision) => {
+                self.run(rt, bench)?;
+                Ok(decision)
+            }
+            Err(fault) => {
+                remove_route(rt, &*self.client.shared, next);
+                Err(ClusterFault::from(fault))
+            }
         }
-        let opening = Opening::opened(
-            next,
-            Birth::Added,
-            self.mapping.copy(alloc)?,
-            Vec::new(alloc),
-        );
-        self.launch(rt, next, Held::new(alloc, opening, copy))?;
-        Ok(self.client.shared.ask(rt, alloc, 0, Request::Allocate)?)
     }
 
     /// What callers ask the copies by.
@@ -128,11 +282,20 @@ impl<D: LogDevice + Send + 'static, V: Devices<D>, G: Gate + Send + Sync + 'stat
     fn launch<R: Threads + Wait + Copy + Send + Drop + 'static>(
         &mut self,
         rt: &R,
-        copy: u32,
         held: Held<D>,
     ) -> Result<(), ClusterFault> {
+        let bench = self.bench(rt, held)?;
+        self.run(rt, bench)
+    }
+
+    /// A worker for a copy, which posts reach from now on.
+    fn bench<R: Threads + Wait + Copy + Send + Drop + 'static>(
+        &self,
+        rt: &R,
+        held: Held<D>,
+    ) -> Result<Bench<R, D, G>, ClusterFault> {
         let alloc = self.client.alloc;
-        self.threads.reserve(1)?;
+        let copy = held.copy().id();
         let (to, inbox) = unbounded(alloc)?;
         let worker = Worker::new(
             alloc,
@@ -141,12 +304,21 @@ impl<D: LogDevice + Send + 'static, V: Devices<D>, G: Gate + Send + Sync + 'stat
             held,
             Pass::new(alloc, copy as u64),
         );
-        let bench = Bench {
+        add_route(rt, &*self.client.shared, Route { copy, to })?;
+        Ok(Bench {
             rt: *rt,
             inbox,
             worker,
-        };
-        add_route(rt, &*self.client.shared, Route { copy, to })?;
+        })
+    }
+
+    /// Starts a worker's thread. Where none can be had, posts reach it no more.
+    fn run<R: Threads + Wait + Copy + Send + Drop + 'static>(
+        &mut self,
+        rt: &R,
+        bench: Bench<R, D, G>,
+    ) -> Result<(), ClusterFault> {
+        self.threads.reserve(1)?;
         let Some(thread) = started(rt, bench) else {
             return Err(ClusterFault::NoMemory);
         };
@@ -208,6 +380,11 @@ fn add_route<R: Wait, D: LogDevice>(
     Ok(())
 }
 
+fn remove_route<R: Wait, D: LogDevice>(rt: &R, shared: &Shared<D>, copy: u32) {
+    let mut routes = shared.routes.lock(rt);
+    routes.retain(|route| route.copy != copy);
+}
+
 /// Tells all workers to end, behind what waits for them.
 fn stop<R: Wait, D: LogDevice>(rt: &R, shared: &Shared<D>) {
     let mut routes = shared.routes.lock(rt);
@@ -217,27 +394,60 @@ fn stop<R: Wait, D: LogDevice>(rt: &R, shared: &Shared<D>) {
     routes.clear();
 }
 
+/// The device of the master, whether or not it holds a log.
+fn master_device<D: LogDevice, V: Devices<D>>(devices: &mut V) -> Result<D, ClusterFault> {
+    let device = match devices.kept(0) {
+        Ok(Some(device)) => Ok(device),
+        Ok(None) => devices.device(0),
+        Err(fault) => Err(fault),
+    };
+    match device {
+        Ok(device) => Ok(device),
+        Err(fault) => Err(of_master_log(fault)),
+    }
+}
+
 /// The master of a new index.
-fn begun<D: LogDevice, V: Devices<D>>(
-    alloc: Global,
-    copies: u8,
-    devices: &mut V,
-) -> Result<Master<D>, ClusterFault>
+fn new_master<D: LogDevice>(alloc: Global, copies: u8, device: D) -> Result<Master<D>, ClusterFault>
     requires { (1 ≤ copies) × (copies ≤ 5) }
     ensures { IfOk result (λ m. m.closed ≡ false) }
 {
-    match devices.device(0) {
-        Ok(device) => match Master::begin(alloc, copies, device) {
-            Ok(master) => Ok(master),
-            Err(refused) => Err(ClusterFault::Master(MasterFault::Log(refused.fault))),
-        },
-        Err(fault) => Err(ClusterFault::Master(MasterFault::Log(fault))),
+    match Master::begin(alloc, copies, device) {
+        Ok(master) => Ok(master),
+        Err(refused) => Err(of_master_log(refused.into_fault())),
     }
+}
+
+/// The master that a log keeps.
+fn kept_master<D: LogDevice>(alloc: Global, device: D) -> Result<Master<D>, ClusterFault>
+    ensures { IfOk result (λ m. m.closed ≡ false) }
+{
+    match Master::open(alloc, device) {
+        Ok(master) => Ok(master),
+        Err(refused) => Err(of_master_log(refused.into_fault())),
+    }
+}
+
+/// The copies of a new index, each over its device.
+fn new_copies<D: LogDevice, V: Devices<D>>(
+    alloc: Global,
+    copies: u8,
+    mapping: &Mapping,
+    devices: &mut V,
+) -> Result<Vec<Held<D>>, ClusterFault> {
+    let count = copies as u32;
+    let mut helds = Vec::new(alloc);
+    for before in 0..count {
+        let id = before + 1;
+        let device = device_of(devices, id)?;
+        helds.push(new_copy(alloc, id, count, mapping, device)?)?;
+    }
+    Ok(helds)
 }
 
 fn device_of<D: LogDevice, V: Devices<D>>(devices: &mut V, id: u32) -> Result<D, ClusterFault> {
     match devices.device(id) {
         Ok(device) => Ok(device),
-        Err(fault) => Err(ClusterFault::Copy(CopyFault::Log(fault))),
+        Err(fault) => Err(ClusterFault::from(CopyFault::from(fault))),
     }
 }

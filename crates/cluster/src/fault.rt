@@ -7,6 +7,32 @@ use replica::CopyFault;
 use std::alloc::{AllocError, AllocFailed};
 use std::fmt;
 use std::fmt::Display;
+use translog::LogFault;
+
+/// Why a copy that is to be there didn't open.
+#[derive(Drop)]
+pub enum OpenFault {
+    /// Nothing is kept of it.
+    Missing,
+    Copy(CopyFault),
+}
+
+/// A copy that didn't open.
+#[derive(Drop)]
+pub struct Unopened {
+    pub copy: u32,
+    pub fault: OpenFault,
+}
+
+impl Display for Unopened {
+    fn fmt<W: fmt::Write>(&self, f: &mut fmt::Formatter<W>) -> fmt::Result {
+        let copy = self.copy;
+        match &self.fault {
+            OpenFault::Missing => write!(f, "copy {copy}: nothing is kept of it"),
+            OpenFault::Copy(fault) => write!(f, "copy {copy}: {fault}"),
+        }
+    }
+}
 
 /// Why a call of a cluster gives nothing.
 #[derive(Drop)]
@@ -24,6 +50,8 @@ pub enum ClusterFault {
     Stray(u64),
     /// A thread still runs.
     Running,
+    /// No copy that is in sync could be opened: each of them, and why.
+    Unopened(Vec<Unopened>),
 }
 
 impl Display for ClusterFault {
@@ -39,8 +67,17 @@ impl Display for ClusterFault {
             ClusterFault::Master(fault) => write!(f, "the master: {fault}"),
             ClusterFault::Stray(place) => write!(f, "a stray receipt at {place}"),
             ClusterFault::Running => write!(f, "a thread still runs"),
+            ClusterFault::Unopened(tried) => write_tried(f, tried.as_slice()),
         }
     }
+}
+
+fn write_tried<W: fmt::Write>(f: &mut fmt::Formatter<W>, tried: &[Unopened]) -> fmt::Result {
+    write!(f, "no copy could be opened")?;
+    for copy in tried {
+        write!(f, "; {copy}")?;
+    }
+    Ok(())
 }
 
 impl From<AllocError> for ClusterFault {
@@ -92,5 +129,27 @@ impl From<NodeFault> for ClusterFault {
             NodeFault::Copy(fault) => ClusterFault::Copy(fault),
             NodeFault::Stray(place) => ClusterFault::Stray(place),
         }
+    }
+}
+
+impl From<CopyFault> for ClusterFault {
+    ghost use Rattle.std.specs.Prelude.{◌≡◌};
+    ghost use Rattle.cluster.specs.Faults.{of_copy};
+
+    ghost from_gives = { λ f e. e ≡ of_copy f };
+
+    fn from(fault: CopyFault) -> ClusterFault {
+        match fault {
+            CopyFault::NoMemory => ClusterFault::NoMemory,
+            other => ClusterFault::Copy(other),
+        }
+    }
+}
+
+/// A fault of the master's log.
+pub(crate) fn of_master_log(fault: LogFault) -> ClusterFault {
+    match fault {
+        LogFault::NoMemory => ClusterFault::NoMemory,
+        other => ClusterFault::Master(MasterFault::Log(other)),
     }
 }

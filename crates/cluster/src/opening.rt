@@ -1,0 +1,131 @@
+//! What the devices of a cluster hold when it is opened: the log of the master, and those of copies.
+ghost use Rattle.std.specs.Prelude.{◌≡◌, ◌≤◌, [], map, IfOk};
+ghost use Rattle.audit.specs.declared.opening.Opening.{Opening as Begins};
+ghost use Rattle.replica.specs.Copy.{begun, opened};
+ghost use Rattle.replica.specs.declared.role.Birth.TheVariants.{Added};
+ghost use Rattle.cluster.specs.Opening.{birth_of, leader_of, BeganWith, IsFirst, IsKept};
+
+use audit::Opening;
+use doc::Mapping;
+use master::Entry;
+use node::Held;
+use op::CopyIds;
+use replica::{Birth, Copy, CopyFault};
+use std::alloc::Global;
+use translog::{Frames, LogDevice, LogFault, Translog};
+
+/// The header of the master's log.
+const RSM1: [u8; 4] = [b'R', b'S', b'M', b'1'];
+
+/// The offset of a log's first frame.
+const FIRST: u64 = 4;
+
+/// How many copies the index of a master's log began with; none where the log has no frame. Nothing of the log changes.
+pub(crate) fn beginning<D: LogDevice>(alloc: Global, device: D) -> Result<(Option<u8>, D), LogFault>
+    ensures held { IfOk result (λ r. D.bytes r.1 ≡ D.bytes device) }
+    ensures count { IfOk result (λ r. BeganWith (D.bytes device) r.0) }
+{
+    let mut frames = Frames::over(RSM1, device);
+    let (contents, _torn) = frames.read(alloc)?;
+    let count = first_count(contents.as_slice())?;
+    Ok((count, frames.into_device()))
+}
+
+/// How many copies the first entry begins an index with.
+fn first_count(contents: &[Vec<u8>]) -> Result<Option<u8>, LogFault>
+    ensures { IfOk result (IsFirst (map (λ c. c.items) contents.now)) }
+{
+    match contents {
+        [] => Ok(None),
+        [first, ..] => match Entry::read(first.as_slice()) {
+            Some(Entry::Begin(count)) => Ok(Some(count)),
+            _ => Err(LogFault::Damaged(FIRST)),
+        },
+    }
+}
+
+/// Whether the index began with a copy, of so many.
+pub(crate) fn birth_of(id: u32, count: u8) -> Birth
+    ensures { result ≡ birth_of id count }
+{
+    if id <= count as u32 {
+        Birth::First
+    } else {
+        Birth::Added
+    }
+}
+
+/// The copy that is to lead, of those that opened: the old primary, or the least.
+pub(crate) fn leader_of(primary: u32, opened: &CopyIds) -> Option<u32>
+    ensures { result ≡ leader_of primary opened.now }
+{
+    if opened.has(primary) {
+        return Some(primary);
+    }
+    match opened.as_slice() {
+        [] => None,
+        [least, ..] => Some(*least),
+    }
+}
+
+/// A copy of a new index of so many, over a device without records.
+pub(crate) fn new_copy<D: LogDevice>(
+    alloc: Global,
+    id: u32,
+    copies: u32,
+    mapping: &Mapping,
+    device: D,
+) -> Result<Held<D>, CopyFault>
+    requires { 1 ≤ copies }
+    ensures { IfOk result (λ h. h ≡ record { opening = begun id copies mapping.now; deeds = [] }) }
+{
+    let opening = Opening::begun(id, copies, mapping.copy(alloc)?);
+    match Copy::begin(alloc, id, copies, mapping.copy(alloc)?, device) {
+        Ok(copy) => Ok(Held::new(alloc, opening, copy)),
+        Err(refused) => Err(refused.into_fault()),
+    }
+}
+
+/// A copy that joins an index, over a device without records.
+pub(crate) fn joining_copy<D: LogDevice>(
+    alloc: Global,
+    id: u32,
+    mapping: &Mapping,
+    device: D,
+) -> Result<Held<D>, CopyFault>
+    ensures { IfOk result (λ h. h ≡ record { opening = opened id Added mapping.now []; deeds = [] }) }
+{
+    let opening = Opening::opened(id, Birth::Added, mapping.copy(alloc)?, Vec::new(alloc));
+    match Copy::open(alloc, id, Birth::Added, mapping.copy(alloc)?, device) {
+        Ok(copy) => {
+            if copy.point() == 0 {
+                Ok(Held::new(alloc, opening, copy))
+            } else {
+                Err(CopyFault::Mismatch)
+            }
+        }
+        Err(refused) => Err(refused.into_fault()),
+    }
+}
+
+/// The copy that a device holds; its journal begins with the records that it holds. One that joined the index has some.
+pub(crate) fn kept_copy<D: LogDevice>(
+    alloc: Global,
+    id: u32,
+    birth: Birth,
+    mapping: &Mapping,
+    device: D,
+) -> Result<Held<D>, CopyFault>
+    ensures { IfOk result (IsKept id birth mapping.now (D.bytes device)) }
+{
+    let mut log = Translog::over(device);
+    let (records, _torn) = log.read(alloc)?;
+    if birth == Birth::Added && records.is_empty() {
+        return Err(CopyFault::Mismatch);
+    }
+    let opening = Opening::opened(id, birth, mapping.copy(alloc)?, records);
+    match Copy::open(alloc, id, birth, mapping.copy(alloc)?, log.into_device()) {
+        Ok(copy) => Ok(Held::new(alloc, opening, copy)),
+        Err(refused) => Err(refused.into_fault()),
+    }
+}
