@@ -1,5 +1,5 @@
 -- A journal of the master with one more entry.
-use Rattle.std.proofs.Common.{◌≡◌, ℕ, Bool, true, false, List, [], ◌∷◌, ◌++◌, Option, Some, None, Result, Ok, Err, refl, sym, ap, subst, ◌∙◌}
+use Rattle.std.proofs.Common.{◌≡◌, ℕ, Bool, true, false, List, [], ◌∷◌, ◌++◌, Option, Some, None, Result, Ok, Err, IfOk, refl, sym, ap, subst, ◌∙◌}
 use Rattle.audit.specs.declared.journal.Ruling.{Ruling}
 use Rattle.audit.specs.Audit.{begins_open}
 use Rattle.audit.specs.Rulings.{Ruler, AreLegal, IsLegalRuling, MayRule, next_ruler, ruled_at, ruler_after}
@@ -12,7 +12,7 @@ use Rattle.master.specs.Decide.{MasterStep, decision_of, master_step}
 use Rattle.master.specs.Fault.{fault_of}
 use Rattle.master.specs.Logged.{Logged, IsDone, IsRefused}
 use Rattle.doc.specs.Outcome.{Gives}
-use Rattle.cluster.specs.Ruled.{RuledData, IsRuled, IsRuling, IsUnasked, IsUnruled, Rules, ruling}
+use Rattle.cluster.specs.Ruled.{RuledData, IsDecided, IsKnown, IsRuled, IsRuling, IsUnasked, IsUnruled, Rules, ruling}
 
 pub legal_push : (s : Ruler) (rs : List Ruling) (r : Ruling) → AreLegal s rs → IsLegalRuling (ruler_after s rs) r → AreLegal s (rs ++ r ∷ [])
 legal_push s [] r legal last = (last, tt)
@@ -27,4 +27,26 @@ pub ruled_more : (old : RuledData) (master : Logged) (pass : ℕ) (request : Req
 ruled_more old master pass request answer is rules = record {
   legal = legal_push (begins_open old.opening) old.rulings (ruling pass request answer) is.legal (subst (λ (s : Ruler). IsLegalRuling s (ruling pass request answer)) (sym is.after) rules.legal);
   after = after_push (begins_open old.opening) old.rulings (ruling pass request answer) ∙ ap (λ (s : Ruler). next_ruler s (ruling pass request answer)) is.after ∙ rules.left;
+}
+
+-- an entry that was made is the last of a legal journal
+pub decided_by : (old new : RuledData) (pass : ℕ) (request : Request) (decision : Decision) → IsRuled new → IsRuling old new pass request (Ok decision) → IsDecided request decision
+decided_by old new pass request decision is made = record {
+  opening = new.opening;
+  rulings = old.rulings;
+  pass = pass;
+  legal = subst (λ (rs : List Ruling). AreLegal (begins_open new.opening) rs) made.rulings is.legal;
+}
+
+pub decided_in : (old new : RuledData) (pass : ℕ) (request : Request) (answer : Result Decision MasterFault) → IsRuled new → IfOk answer (λ d. IsRuling old new pass request (Ok d)) → IfOk answer (IsDecided request)
+decided_in old new pass request (Ok d) is made = decided_by old new pass request d is made
+decided_in old new pass request (Err e) is made = tt
+
+-- the master is what its journal says
+pub known_by : (r : RuledData) → IsRuled r → IsKnown r.master.state
+known_by r is = record {
+  opening = r.opening;
+  rulings = r.rulings;
+  legal = is.legal;
+  knows = ap (λ (s : Ruler). s.state) is.after;
 }

@@ -13,7 +13,7 @@ use Rattle.replica.specs.declared.output.Written.{Written}
 use Rattle.node.specs.declared.pass.Receipt.{Receipt}
 use Rattle.cluster.specs.declared.confirmed.Confirmed.{Confirmed}
 use Rattle.cluster.specs.declared.fault.ClusterFault.{ClusterFault}
-use Rattle.cluster.specs.declared.fault.ClusterFault.TheVariants.{NoPrimary, Lost, NoMemory, NoSeat, Copy, Master, Stray, Running, Unopened}
+use Rattle.cluster.specs.declared.fault.ClusterFault.TheVariants.{NoPrimary, Lost, Unconfirmed, NoMemory, NoSeat, Copy, Master, Stray, Running, Unopened}
 
 -- the entry is of this node, and was asked this
 pub record IsAnswerTo (node : ℕ) (asked : Input) (r : Receipt) : Type 0 where
@@ -78,6 +78,7 @@ is_no_primary (Err Exhausted) = false
 abbrev pub IsBare : ClusterFault → Type 0
 IsBare (NoPrimary r) = ⊥
 IsBare (Lost r last) = ⊥
+IsBare (Unconfirmed r) = ⊥
 IsBare NoMemory = Unit {0}
 IsBare NoSeat = Unit {0}
 IsBare (Copy f) = Unit {0}
@@ -90,6 +91,7 @@ IsBare (Unopened tried) = Unit {0}
 abbrev pub IsRefusalBy : Receipt → ClusterFault → Type 0
 IsRefusalBy receipt (NoPrimary r) = (r ≡ receipt) × (is_no_primary receipt.deed.answer ≡ true)
 IsRefusalBy receipt (Lost r last) = ⊥
+IsRefusalBy receipt (Unconfirmed r) = ⊥
 IsRefusalBy receipt NoMemory = Unit {0}
 IsRefusalBy receipt NoSeat = Unit {0}
 IsRefusalBy receipt (Copy f) = Unit {0}
@@ -102,6 +104,7 @@ IsRefusalBy receipt (Unopened tried) = Unit {0}
 abbrev pub IsEndOf : Receipt → ClusterFault → Type 0
 IsEndOf receipt (NoPrimary r) = ⊥
 IsEndOf receipt (Lost r last) = r ≡ receipt
+IsEndOf receipt (Unconfirmed r) = r ≡ receipt
 IsEndOf receipt NoMemory = Unit {0}
 IsEndOf receipt NoSeat = Unit {0}
 IsEndOf receipt (Copy f) = Unit {0}
@@ -110,7 +113,7 @@ IsEndOf receipt Running = Unit {0}
 IsEndOf receipt (Stray place) = Unit {0}
 IsEndOf receipt (Unopened tried) = Unit {0}
 
--- a write that was kept, and is perhaps lost
+-- a write that its copy kept, and is perhaps lost
 pub record IsLost (write : Write) (r : Receipt) : Type 0 where
   pub asked : r.deed.input ≡ Client write
   pub kept : (w : Written) × (wrote r.deed.answer ≡ Some w)
@@ -119,6 +122,7 @@ pub record IsLost (write : Write) (r : Receipt) : Type 0 where
 abbrev pub IsWriteRefused : Write → ClusterFault → Type 0
 IsWriteRefused write (NoPrimary r) = (r.deed.input ≡ Client write) × (is_no_primary r.deed.answer ≡ true)
 IsWriteRefused write (Lost r last) = IsLost write r
+IsWriteRefused write (Unconfirmed r) = IsLost write r
 IsWriteRefused write NoMemory = Unit {0}
 IsWriteRefused write NoSeat = Unit {0}
 IsWriteRefused write (Copy f) = Unit {0}

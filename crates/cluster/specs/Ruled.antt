@@ -48,3 +48,17 @@ IsUnruled old new pass request Gone = IsRuling old new pass request (Err Gone)
 IsUnruled old new pass request (Log f) = IsRuling old new pass request (Err (Log f))
 IsUnruled old new pass request Full = IsRuling old new pass request (Err Full)
 IsUnruled old new pass request NoMemory = IsUnasked old new
+
+-- the decision is the last entry of a legal journal of the master
+pub record IsDecided (request : Request) (decision : Decision) : Type 0 where
+  pub opening : State
+  pub rulings : List Ruling
+  pub pass : ℕ
+  pub legal : AreLegal (begins_open opening) (rulings ++ ruling pass request (Ok decision) ∷ [])
+
+-- what the master knows after the entries of a legal journal
+pub record IsKnown (s : State) : Type 0 where
+  pub opening : State
+  pub rulings : List Ruling
+  pub legal : AreLegal (begins_open opening) rulings
+  pub knows : (ruler_after (begins_open opening) rulings).state ≡ s

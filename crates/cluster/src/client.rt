@@ -1,5 +1,8 @@
 //! What callers ask the copies of a cluster by.
 ghost use Rattle.std.specs.Prelude.{◌≡◌, IfOk, IfErr};
+ghost use Rattle.master.specs.declared.state.Request.TheVariants.{Promote};
+ghost use Rattle.master.specs.declared.state.State.{State as MasterState};
+ghost use Rattle.cluster.specs.Ruled.{IsDecided, IsKnown};
 ghost use Rattle.cluster.specs.Confirmed.{Acknowledges, IsAnswerTo, IsBare, IsConfirmed, IsEndOf, IsRefusalBy, IsWriteRefused};
 
 use crate::checks::{
@@ -26,7 +29,7 @@ pub struct Client<D: LogDevice> {
 }
 
 impl<D: LogDevice> Client<D> {
-    /// Has the primary do a write, and waits until every member has it.
+    /// Has the primary do a write, and waits until every member has it. Where there is no primary since the master could make none, its fault says why.
     pub fn write<R: Wait>(&self, rt: &R, write: Write) -> Result<Confirmed, ClusterFault>
         ensures confirmed { IfOk result (IsConfirmed write) }
         ensures refused { IfErr result (IsWriteRefused write) }
@@ -34,7 +37,13 @@ impl<D: LogDevice> Client<D> {
         let primary = self.shared.primary(rt);
         let asked = write.copy(self.alloc)?;
         let begun = self.begin(rt, primary, asked)?;
-        confirmed(rt, begun, primary, &write)
+        let ended = confirmed(rt, begun, primary, &write);
+        if let Err(ClusterFault::NoPrimary(_)) = &ended {
+            if let Some(fault) = self.shared.unled(rt) {
+                return Err(ClusterFault::from(fault));
+            }
+        }
+        ended
     }
 
     /// Hands a write to a copy, and waits for its entry.
@@ -91,33 +100,46 @@ impl<D: LogDevice> Client<D> {
 
     /// Refreshes each copy, and tells how many are. One that is closed or gone is passed over.
     pub fn refresh<R: Wait>(&self, rt: &R) -> Result<u64, ClusterFault> {
-        let next = self.state(rt)?.next;
+        let state = self.state(rt)?;
         let mut refreshed: u64 = 0;
-        for copy in 1..next {
+        for copy in 1..state.next {
             let Ok(copy) = u32::try_from(copy) else {
                 break;
             };
-            match self.call(rt, copy, Input::Refresh) {
-                Ok(_receipt) => refreshed = refreshed.saturating_add(1),
-                Err(ClusterFault::NoMemory) => return Err(ClusterFault::NoMemory),
-                Err(_fault) => {}
+            if !state.gone.has(copy) && self.is_refreshed(rt, copy)? {
+                refreshed = refreshed.saturating_add(1);
             }
         }
         Ok(refreshed)
     }
 
+    /// Refreshes a copy, and tells whether it is.
+    fn is_refreshed<R: Wait>(&self, rt: &R, copy: u32) -> Result<bool, ClusterFault> {
+        match self.call(rt, copy, Input::Refresh) {
+            Ok(_receipt) => Ok(true),
+            Err(ClusterFault::NoMemory) => Err(ClusterFault::NoMemory),
+            Err(_fault) => Ok(false),
+        }
+    }
+
     /// Has the master make a copy the primary.
-    pub fn promote<R: Wait>(&self, rt: &R, copy: u32) -> Result<Decision, ClusterFault> {
+    pub fn promote<R: Wait>(&self, rt: &R, copy: u32) -> Result<Decision, ClusterFault>
+        ensures { IfOk result (IsDecided (Promote copy)) }
+    {
         Ok(self.shared.ask(rt, self.alloc, 0, Request::Promote(copy))?)
     }
 
     /// The primary, as the master knows it.
-    pub fn primary<R: Wait>(&self, rt: &R) -> u32 {
+    pub fn primary<R: Wait>(&self, rt: &R) -> u32
+        ensures { (s : MasterState) × IsKnown s × (result ≡ s.primary) }
+    {
         self.shared.primary(rt)
     }
 
     /// What the master knows.
-    pub fn state<R: Wait>(&self, rt: &R) -> Result<State, ClusterFault> {
+    pub fn state<R: Wait>(&self, rt: &R) -> Result<State, ClusterFault>
+        ensures { IfOk result IsKnown }
+    {
         Ok(self.shared.state(rt, self.alloc)?)
     }
 }
@@ -172,7 +194,7 @@ fn confirmed<R: Wait>(
     };
     match endings.recv(rt) {
         Ok(ending) => ended(receipt, written, ending),
-        Err(_) => Err(ClusterFault::NoMemory),
+        Err(_) => Err(ClusterFault::Unconfirmed(receipt)),
     }
 }
 

@@ -1,7 +1,10 @@
 //! Starting the threads of a cluster, and ending them.
-ghost use Rattle.std.specs.Prelude.{◌≡◌, ◌≤◌, false, All, IfOk};
+ghost use Rattle.std.specs.Prelude.{◌≡◌, ◌+◌, ◌≤◌, false, vec_len, All, IsOk, IfOk, OnOk};
+ghost use Rattle.master.specs.declared.state.Request.TheVariants.{Allocate};
 ghost use Rattle.cluster.specs.Journals.{IsLegalJournal};
+ghost use Rattle.cluster.specs.Ruled.{IsDecided};
 
+use crate::bench::{Bench, started};
 use crate::client::Client;
 use crate::devices::Devices;
 use crate::fault::{ClusterFault, OpenFault, Unopened, of_master_log};
@@ -11,7 +14,7 @@ use crate::opening::{beginning, birth_of, joining_copy, kept_copy, leader_of, ne
 use crate::post::{Post, Route};
 use crate::ruled::Ruled;
 use crate::shared::Shared;
-use crate::worker::{Bench, Worker, started};
+use crate::worker::Worker;
 use audit::Journal;
 use crossbeam_channel::unbounded;
 use doc::Mapping;
@@ -59,6 +62,7 @@ impl<D: LogDevice + Send + 'static, V: Devices<D>, G: Gate + Send + Sync + 'stat
         gate: G,
     ) -> Result<Cluster<D, V, G>, ClusterFault>
         requires { (1 ≤ copies) × (copies ≤ 5) }
+        ensures { IfOk result (λ c. vec_len c.threads ≡ copies) }
     {
         let mut setting = Setting {
             alloc,
@@ -110,6 +114,7 @@ impl<D: LogDevice + Send + 'static, V: Devices<D>, G: Gate + Send + Sync + 'stat
         device: D,
     ) -> Result<Cluster<D, V, G>, ClusterFault>
         requires { (1 ≤ copies) × (copies ≤ 5) }
+        ensures { IfOk result (λ c. vec_len c.threads ≡ copies) }
     {
         let mut setting = setting;
         let alloc = setting.alloc;
@@ -135,6 +140,7 @@ impl<D: LogDevice + Send + 'static, V: Devices<D>, G: Gate + Send + Sync + 'stat
     /// A cluster without copies yet.
     fn over(setting: Setting<V, G>, master: Master<D>) -> Result<Cluster<D, V, G>, ClusterFault>
         requires { master.closed ≡ false }
+        ensures { IfOk result (λ c. vec_len c.threads ≡ 0) }
     {
         let Setting {
             alloc,
@@ -147,6 +153,7 @@ impl<D: LogDevice + Send + 'static, V: Devices<D>, G: Gate + Send + Sync + 'stat
             Shared {
                 master: Mutex::new(Ruled::begin(alloc, master)?),
                 routes: Mutex::new(Vec::new(alloc)),
+                unled: Mutex::new(None),
             },
         )?;
         Ok(Cluster {
@@ -164,7 +171,10 @@ impl<D: LogDevice + Send + 'static, V: Devices<D>, G: Gate + Send + Sync + 'stat
         self,
         rt: &R,
         done: Result<(), ClusterFault>,
-    ) -> Result<Cluster<D, V, G>, ClusterFault> {
+    ) -> Result<Cluster<D, V, G>, ClusterFault>
+        ensures same { IfOk result (λ c. c ≡ self) }
+        ensures done { IsOk result → IsOk done }
+    {
         match done {
             Ok(()) => Ok(self),
             Err(fault) => {
@@ -178,7 +188,9 @@ impl<D: LogDevice + Send + 'static, V: Devices<D>, G: Gate + Send + Sync + 'stat
         &mut self,
         rt: &R,
         helds: Vec<Held<D>>,
-    ) -> Result<(), ClusterFault> {
+    ) -> Result<(), ClusterFault>
+        ensures { OnOk result (vec_len self.new.threads ≡ vec_len self.old.threads + vec_len helds) }
+    {
         for held in helds {
             self.launch(rt, held)?;
         }
@@ -245,7 +257,9 @@ impl<D: LogDevice + Send + 'static, V: Devices<D>, G: Gate + Send + Sync + 'stat
     }
 
     /// The copies that didn't open, and why.
-    pub fn unopened(&self) -> &[Unopened] {
+    pub fn unopened(&self) -> &[Unopened]
+        ensures { result.now ≡ self.now.unopened.items }
+    {
         self.unopened.as_slice()
     }
 
@@ -253,7 +267,10 @@ impl<D: LogDevice + Send + 'static, V: Devices<D>, G: Gate + Send + Sync + 'stat
     pub fn allocate<R: Threads + Wait + Copy + Send + Drop + 'static>(
         &mut self,
         rt: &R,
-    ) -> Result<Decision, ClusterFault> {
+    ) -> Result<Decision, ClusterFault>
+        ensures decided { IfOk result (IsDecided Allocate) }
+        ensures runs { OnOk result (vec_len self.new.threads ≡ vec_len self.old.threads + 1) }
+    {
         let alloc = self.client.alloc;
         let Ok(next) = u32::try_from(self.client.state(rt)?.next) else {
             return Err(ClusterFault::Master(MasterFault::Full));
@@ -274,7 +291,9 @@ impl<D: LogDevice + Send + 'static, V: Devices<D>, G: Gate + Send + Sync + 'stat
     }
 
     /// What callers ask the copies by.
-    pub fn client(&self) -> &Client<D> {
+    pub fn client(&self) -> &Client<D>
+        ensures { result.now ≡ self.now.client }
+    {
         &self.client
     }
 
@@ -283,7 +302,9 @@ impl<D: LogDevice + Send + 'static, V: Devices<D>, G: Gate + Send + Sync + 'stat
         &mut self,
         rt: &R,
         held: Held<D>,
-    ) -> Result<(), ClusterFault> {
+    ) -> Result<(), ClusterFault>
+        ensures { OnOk result (vec_len self.new.threads ≡ vec_len self.old.threads + 1) }
+    {
         let bench = self.bench(rt, held)?;
         self.run(rt, bench)
     }
@@ -317,7 +338,9 @@ impl<D: LogDevice + Send + 'static, V: Devices<D>, G: Gate + Send + Sync + 'stat
         &mut self,
         rt: &R,
         bench: Bench<R, D, G>,
-    ) -> Result<(), ClusterFault> {
+    ) -> Result<(), ClusterFault>
+        ensures { OnOk result (vec_len self.new.threads ≡ vec_len self.old.threads + 1) }
+    {
         self.threads.reserve(1)?;
         let Some(thread) = started(rt, bench) else {
             return Err(ClusterFault::NoMemory);
@@ -328,7 +351,8 @@ impl<D: LogDevice + Send + 'static, V: Devices<D>, G: Gate + Send + Sync + 'stat
 
     /// Ends all threads, and hands out the journals, which are legal: the master's first, then those of the copies in the order of their ids.
     pub fn close<R: Threads + Wait>(self, rt: &R) -> Result<Vec<Journal>, ClusterFault>
-        ensures { IfOk result (λ js. All IsLegalJournal js.items) }
+        ensures legal { IfOk result (λ js. All IsLegalJournal js.items) }
+        ensures all { IfOk result (λ js. vec_len js ≡ vec_len self.threads + 1) }
     {
         let Cluster {
             client,
@@ -337,10 +361,7 @@ impl<D: LogDevice + Send + 'static, V: Devices<D>, G: Gate + Send + Sync + 'stat
         } = self;
         let Client { alloc, shared } = client;
         stop(rt, &*shared);
-        let mut lefts = Vec::new(alloc);
-        for thread in threads {
-            lefts.push(thread.join(rt))?;
-        }
+        let lefts = joined(rt, alloc, threads)?;
         match Arc::into_inner(shared) {
             Some(shared) => journals(alloc, shared.master.into_inner(), lefts),
             None => Err(ClusterFault::Running),
@@ -354,13 +375,29 @@ fn journal_of<D: LogDevice>(master: Ruled<D>) -> Journal
     master.into_journal()
 }
 
+/// What threads leave, once each has ended.
+fn joined<R: Threads>(
+    rt: &R,
+    alloc: Global,
+    threads: Vec<JoinHandle<Left>>,
+) -> Result<Vec<Left>, ClusterFault>
+    ensures { IfOk result (λ ls. vec_len ls ≡ vec_len threads) }
+{
+    let mut lefts = Vec::new(alloc);
+    for thread in threads {
+        lefts.push(thread.join(rt))?;
+    }
+    Ok(lefts)
+}
+
 /// The journals of the master and of the copies.
 fn journals<D: LogDevice>(
     alloc: Global,
     master: Ruled<D>,
     lefts: Vec<Left>,
 ) -> Result<Vec<Journal>, ClusterFault>
-    ensures { IfOk result (λ js. All IsLegalJournal js.items) }
+    ensures legal { IfOk result (λ js. All IsLegalJournal js.items) }
+    ensures all { IfOk result (λ js. vec_len js ≡ vec_len lefts + 1) }
 {
     let mut journals = Vec::new(alloc);
     journals.push(journal_of(master))?;
@@ -434,7 +471,9 @@ fn new_copies<D: LogDevice, V: Devices<D>>(
     copies: u8,
     mapping: &Mapping,
     devices: &mut V,
-) -> Result<Vec<Held<D>>, ClusterFault> {
+) -> Result<Vec<Held<D>>, ClusterFault>
+    ensures { IfOk result (λ helds. vec_len helds ≡ copies) }
+{
     let count = copies as u32;
     let mut helds = Vec::new(alloc);
     for before in 0..count {

@@ -42,6 +42,9 @@ pub enum ClusterFault {
     /// The copy kept the write, and was the primary no more before it was acknowledged: the write's entry, and the one that ended the role.
     Lost(Receipt, Receipt),
     NoMemory,
+    /// The copy kept the write, and the wait for its acknowledgement ended without one: another copy was made the primary, memory was wanting, or the
+    /// master's log failed where it was to take out a copy that doesn't answer. The write may be kept; with its entry.
+    Unconfirmed(Receipt),
     /// No more searchers are given out.
     NoSeat,
     Copy(CopyFault),
@@ -60,6 +63,9 @@ impl Display for ClusterFault {
             ClusterFault::NoPrimary(_) => write!(f, "no copy is the primary"),
             ClusterFault::Lost(_, _) => {
                 write!(f, "the copy is the primary no more; the write may be kept")
+            }
+            ClusterFault::Unconfirmed(_) => {
+                write!(f, "nobody acknowledges the write; it may be kept")
             }
             ClusterFault::NoMemory => write!(f, "out of memory"),
             ClusterFault::NoSeat => write!(f, "no more searchers are given out"),

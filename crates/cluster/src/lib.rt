@@ -1,20 +1,24 @@
 //! Copies that run beside one another, each on a thread of its own, and the master that tells them who leads.
 #![tactic(auto)]
 
+mod bench;
 mod checks;
 pub mod client;
 pub mod cluster;
 pub mod confirmed;
 mod copies;
 pub mod devices;
+mod fate;
 pub mod fault;
 pub mod gate;
 mod left;
+mod mending;
 mod opening;
 mod post;
 pub mod ruled;
 mod shared;
 pub mod shown;
+mod waits;
 mod worker;
 
 pub use client::Client;

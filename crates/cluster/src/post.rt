@@ -29,6 +29,8 @@ pub(crate) enum Post {
     Hand(Msg, u32),
     /// A copy that the primary is to report.
     Report(u32),
+    /// The term of which another copy was made the primary.
+    Depose(u64),
     /// To hand out what the copy shows.
     Show(Sender<Result<Shown, NodeFault>, Global>),
     Stop,

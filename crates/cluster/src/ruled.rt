@@ -2,7 +2,7 @@
 ghost use Rattle.std.specs.Prelude.{◌≡◌, [], true, false, IfOk, IfErr, Ok, Err};
 ghost use Rattle.audit.specs.Audit.{IsLawful};
 ghost use Rattle.audit.specs.declared.journal.Journal.TheVariants.{OfMaster};
-ghost use Rattle.cluster.specs.Ruled.{IsRuling, IsUnruled, Rules};
+ghost use Rattle.cluster.specs.Ruled.{IsDecided, IsKnown, IsRuling, IsUnruled, Rules};
 
 use audit::{Journal, Ruling, Rulings};
 use master::{Decision, Master, MasterFault, Request, State};
@@ -43,20 +43,33 @@ impl<D: LogDevice> Ruled<D> {
     }
 
     /// What the master knows.
+    #[tactic(auto, using(crate::proofs::Rulings::known_by))]
     pub fn state(&self) -> &State
-        ensures { result.now ≡ self.now.master.state }
+        ensures same { result.now ≡ self.now.master.state }
+        ensures known { IsKnown result.now }
     {
         self.master.state()
     }
 
     /// One request, which is one entry of the journal, also where the master refuses. Want of memory leaves none.
-    #[tactic(auto, using(crate::proofs::Rulings::ruled_more))]
+    #[tactic(auto, using(crate::proofs::Rulings::decided_in))]
     pub fn ask(
         &mut self,
         alloc: Global,
         pass: u64,
         request: Request,
     ) -> Result<Decision, MasterFault>
+        ensures ok { IfOk result (λ d. IsRuling self.old self.new pass request (Ok d)) }
+        ensures err { IfErr result (IsUnruled self.old self.new pass request) }
+        ensures decided { IfOk result (IsDecided request) }
+    {
+        let answer = self.enter(alloc, pass, request);
+        let _ = &self.opening;
+        answer
+    }
+
+    #[tactic(auto, using(crate::proofs::Rulings::ruled_more))]
+    fn enter(&mut self, alloc: Global, pass: u64, request: Request) -> Result<Decision, MasterFault>
         ensures ok { IfOk result (λ d. IsRuling self.old self.new pass request (Ok d)) }
         ensures err { IfErr result (IsUnruled self.old self.new pass request) }
     {
@@ -97,7 +110,7 @@ impl<D: LogDevice> Ruled<D> {
 }
 
 /// An equal fault.
-fn copied(fault: &MasterFault) -> MasterFault
+pub(crate) fn copied(fault: &MasterFault) -> MasterFault
     ensures { result ≡ fault.now }
 {
     match fault {

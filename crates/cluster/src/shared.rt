@@ -1,18 +1,23 @@
 //! What the workers share: the master, and where posts go.
+ghost use Rattle.std.specs.Prelude.{◌≡◌, IfOk};
+ghost use Rattle.master.specs.declared.state.State.{State as MasterState};
+ghost use Rattle.cluster.specs.Ruled.{IsDecided, IsKnown};
 
 use crate::post::{Post, Route};
-use crate::ruled::Ruled;
+use crate::ruled::{Ruled, copied};
 use master::{Decision, MasterFault, Request, State};
 use op::{Content, Msg};
 use std::alloc::{AllocError, Global};
 use std::sync::{Mutex, Wait};
 use translog::LogDevice;
 
-/// The master behind a lock, and the inbox of each copy's worker. Neither lock is taken while the other is held.
+/// The master behind a lock, and the inbox of each copy's worker. No lock is taken while another is held.
 #[derive(Drop)]
 pub(crate) struct Shared<D: LogDevice> {
     pub(crate) master: Mutex<Ruled<D>>,
     pub(crate) routes: Mutex<Vec<Route>>,
+    /// Why the master could make no copy the primary, the last time that one was to be made.
+    pub(crate) unled: Mutex<Option<MasterFault>>,
 }
 
 /// The request that a message to the master makes.
@@ -22,6 +27,14 @@ fn request_of(message: &Msg) -> Option<Request> {
         Content::Fail(id) => Some(Request::Fail(message.term, id)),
         _ => None,
     }
+}
+
+/// Whether the master could decide nothing: neither its table nor the copy is the cause.
+fn is_disabled(fault: &MasterFault) -> bool {
+    matches!(
+        fault,
+        MasterFault::Log(_) | MasterFault::NoMemory | MasterFault::Full
+    )
 }
 
 impl<D: LogDevice> Shared<D> {
@@ -37,42 +50,124 @@ impl<D: LogDevice> Shared<D> {
     }
 
     /// The primary, as the master knows it.
-    pub(crate) fn primary<R: Wait>(&self, rt: &R) -> u32 {
+    pub(crate) fn primary<R: Wait>(&self, rt: &R) -> u32
+        ensures { (s : MasterState) × IsKnown s × (result ≡ s.primary) }
+    {
         let master = self.master.lock(rt);
         master.state().primary
     }
 
     /// What the master knows.
-    pub(crate) fn state<R: Wait>(&self, rt: &R, alloc: Global) -> Result<State, AllocError> {
+    pub(crate) fn state<R: Wait>(&self, rt: &R, alloc: Global) -> Result<State, AllocError>
+        ensures { IfOk result IsKnown }
+    {
         let master = self.master.lock(rt);
-        master.state().copy(alloc)
+        let known = master.state().copy(alloc)?;
+        Ok(known)
     }
 
-    /// A request of the master, whose message is sent on.
+    /// A request of the master, whose message is sent on. Where that isn't possible memory is wanting, and the decision may stand.
     pub(crate) fn ask<R: Wait>(
         &self,
         rt: &R,
         alloc: Global,
         pass: u64,
         request: Request,
-    ) -> Result<Decision, MasterFault> {
-        let decision = self.decide(rt, alloc, pass, request)?;
-        if let Some(message) = &decision.sent {
-            let copied = message.copy(alloc)?;
-            self.hand(rt, message.to, Post::Hand(copied, 0));
+    ) -> Result<Decision, MasterFault>
+        ensures { IfOk result (IsDecided request) }
+    {
+        let (old, decision) = self.decide(rt, alloc, pass, request)?;
+        if self.send_on(rt, alloc, old, &decision)? {
+            Ok(decision)
+        } else {
+            Err(MasterFault::NoMemory)
         }
-        Ok(decision)
     }
 
+    /// Sends the message of a decision, and tells whether it is on its way. A primary that is replaced is told first.
+    fn send_on<R: Wait>(
+        &self,
+        rt: &R,
+        alloc: Global,
+        old: u32,
+        decision: &Decision,
+    ) -> Result<bool, AllocError> {
+        let Some(message) = &decision.sent else {
+            return Ok(true);
+        };
+        if let Content::Promoted(_) = &message.content {
+            if message.to != old {
+                self.hand(rt, old, Post::Depose(message.term));
+            }
+        }
+        let copied = message.copy(alloc)?;
+        Ok(self.hand(rt, message.to, Post::Hand(copied, 0)))
+    }
+
+    /// The message by which the master makes a copy the primary of the next term, where it does.
+    pub(crate) fn promotion<R: Wait>(
+        &self,
+        rt: &R,
+        alloc: Global,
+        pass: u64,
+        copy: u32,
+    ) -> Option<Msg> {
+        match self.decide(rt, alloc, pass, Request::Promote(copy)) {
+            Ok((_old, decision)) => decision.sent,
+            Err(_fault) => None,
+        }
+    }
+
+    /// The primary before a request of the master, and its decision.
     fn decide<R: Wait>(
         &self,
         rt: &R,
         alloc: Global,
         pass: u64,
         request: Request,
-    ) -> Result<Decision, MasterFault> {
+    ) -> Result<(u32, Decision), MasterFault>
+        ensures { IfOk result (λ d. IsDecided request d.1) }
+    {
+        let decided = self.rule(rt, alloc, pass, request);
+        if let Request::Promote(_) = request {
+            self.note(rt, &decided);
+        }
+        decided
+    }
+
+    fn rule<R: Wait>(
+        &self,
+        rt: &R,
+        alloc: Global,
+        pass: u64,
+        request: Request,
+    ) -> Result<(u32, Decision), MasterFault>
+        ensures { IfOk result (λ d. IsDecided request d.1) }
+    {
         let mut master = self.master.lock(rt);
-        master.ask(alloc, pass, request)
+        let old = master.state().primary;
+        let decision = master.ask(alloc, pass, request)?;
+        Ok((old, decision))
+    }
+
+    /// Notes how a promotion went.
+    fn note<R: Wait>(&self, rt: &R, decided: &Result<(u32, Decision), MasterFault>) {
+        let mut unled = self.unled.lock(rt);
+        match decided {
+            Ok(_) => *unled = None,
+            Err(fault) => if is_disabled(fault) {
+                *unled = Some(copied(fault));
+            },
+        }
+    }
+
+    /// Why the master could make no copy the primary, where none was made since.
+    pub(crate) fn unled<R: Wait>(&self, rt: &R) -> Option<MasterFault> {
+        let unled = self.unled.lock(rt);
+        match &*unled {
+            Some(fault) => Some(copied(fault)),
+            None => None,
+        }
     }
 
     /// Sends a message of a copy on its way, and tells whether it is on it.
@@ -89,10 +184,10 @@ impl<D: LogDevice> Shared<D> {
     /// Has the master decide what a message asks. What it refuses by its table is told too.
     fn tell<R: Wait>(&self, rt: &R, alloc: Global, pass: u64, message: &Msg) -> bool {
         match request_of(message) {
-            Some(request) => !matches!(
-                self.ask(rt, alloc, pass, request),
-                Err(MasterFault::NoMemory)
-            ),
+            Some(request) => match self.ask(rt, alloc, pass, request) {
+                Ok(_decision) => true,
+                Err(fault) => !is_disabled(&fault),
+            },
             None => true,
         }
     }

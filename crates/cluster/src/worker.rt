@@ -1,39 +1,24 @@
 //! What the thread of a copy does.
 
-use crate::checks::{has_write, is_shut, written_in};
+use crate::checks::{is_shut, written_in};
 use crate::copies::copied;
+use crate::fate::{Fate, fate_of, is_of_primary};
 use crate::gate::Gate;
 use crate::left::Left;
 use crate::post::{Answered, Ending, Post};
 use crate::shared::Shared;
 use crate::shown::Shown;
-use crossbeam_channel::{Receiver, Sender};
-use master::Request;
+use crate::waits::Waits;
+use crossbeam_channel::Sender;
 use node::{Held, NodeFault, Pass, Receipt};
-use op::{Msg, Op};
-use replica::{CopyFault, Input, Role, Write};
+use op::Msg;
+use replica::{CopyFault, Input, Write};
 use std::alloc::Global;
 use std::sync::{Arc, Wait};
-use std::thread;
-use std::thread::{JoinHandle, Threads};
 use translog::LogDevice;
 
 /// How often a message is handed again that is refused for a while.
 const TRIES: u32 = 100;
-
-/// How often a copy whose log failed is opened again before it is given up.
-const RESTARTS: u64 = 3;
-
-/// A stack that takes a document of 127 levels, with room.
-const STACK: usize = 2 << 20;
-
-/// A write that waits for its acknowledgement.
-#[derive(Drop)]
-struct Waiting {
-    seq: u64,
-    term: u64,
-    to: Sender<Ending, Global>,
-}
 
 /// A copy, its pass, and who waits for it.
 #[derive(Drop)]
@@ -44,7 +29,13 @@ pub(crate) struct Worker<D: LogDevice, G: Gate> {
     pub(crate) shared: Arc<Shared<D>, Global>,
     pub(crate) held: Held<D>,
     pub(crate) pass: Pass,
-    waiting: Vec<Waiting>,
+    waits: Waits,
+    /// The greatest term of which another copy was made the primary.
+    deposed: u64,
+    /// Whether the copy didn't open again, and was given up.
+    pub(crate) given_up: bool,
+    /// Whether the copy was opened again, and may have to lead.
+    pub(crate) is_to_lead: bool,
 }
 
 impl<D: LogDevice, G: Gate> Worker<D, G> {
@@ -62,35 +53,51 @@ impl<D: LogDevice, G: Gate> Worker<D, G> {
             shared,
             held,
             pass,
-            waiting: Vec::new(alloc),
+            waits: Waits::new(alloc),
+            deposed: 0,
+            given_up: false,
+            is_to_lead: false,
         }
     }
 
-    fn id(&self) -> u32 {
+    pub(crate) fn id(&self) -> u32 {
         self.held.copy().id()
     }
 
     /// Does what a post asks, and tells whether it goes on.
-    fn serve<R: Wait>(&mut self, rt: &R, post: Post) -> bool {
+    pub(crate) fn serve<R: Wait>(&mut self, rt: &R, post: Post) -> bool {
+        if let Post::Stop = &post {
+            return false;
+        }
         self.gate.pass(self.id());
+        self.mend(rt);
+        self.answer(rt, post);
+        true
+    }
+
+    fn answer<R: Wait>(&mut self, rt: &R, post: Post) {
         match post {
             Post::Ask(input, to) => self.ask(rt, input, &to),
             Post::Write(write, first, second) => self.write(rt, write, &first, second),
             Post::Hand(message, tries) => self.take(rt, message, tries),
             Post::Report(copy) => self.report(rt, copy),
+            Post::Depose(term) => self.depose(term),
             Post::Show(to) => self.show(rt, &to),
-            Post::Stop => return false,
+            Post::Stop => {}
         }
-        true
     }
 
     /// One call of the copy: its entry, also where the copy refuses. What it sends is sent on, and what it acknowledges is told.
-    fn call<R: Wait>(&mut self, rt: &R, input: Input) -> Answered {
+    pub(crate) fn call<R: Wait>(&mut self, rt: &R, input: Input) -> Answered {
         let receipt = self.entry(input)?;
-        self.send_on(rt, &receipt);
-        self.tell_acknowledged(rt, &receipt);
-        self.tell_lost(rt, &receipt);
+        self.follow(rt, &receipt);
         Ok(receipt)
+    }
+
+    fn follow<R: Wait>(&mut self, rt: &R, receipt: &Receipt) {
+        self.send_on(rt, receipt);
+        self.tell_acknowledged(rt, receipt);
+        self.tell_lost(rt, receipt);
     }
 
     fn entry(&mut self, input: Input) -> Answered {
@@ -105,12 +112,14 @@ impl<D: LogDevice, G: Gate> Worker<D, G> {
     }
 
     fn ask<R: Wait>(&mut self, rt: &R, input: Input, to: &Sender<Answered, Global>) {
+        let was_open = self.is_open();
         let answer = self.call(rt, input);
-        self.mend(rt, &answer);
+        self.mend_since(rt, was_open);
         let _ = to.send(rt, answer);
     }
 
-    /// A write. Who waits is noted before what it acknowledges is told, since one copy acknowledges its write at once.
+    /// A write. Who waits is noted before what it acknowledges is told, since one copy acknowledges its write at once. A copy that the write
+    /// has closed is mended before its answer, so that the next write finds a primary.
     fn write<R: Wait>(
         &mut self,
         rt: &R,
@@ -118,71 +127,122 @@ impl<D: LogDevice, G: Gate> Worker<D, G> {
         first: &Sender<Answered, Global>,
         second: Sender<Ending, Global>,
     ) {
+        let was_open = self.is_open();
         let answer = self.entry(Input::Write(write));
         if let Ok(receipt) = &answer {
             self.wait_for(receipt, second);
-            self.send_on(rt, receipt);
-            self.tell_acknowledged(rt, receipt);
-            self.tell_lost(rt, receipt);
+            self.follow(rt, receipt);
         }
-        self.mend(rt, &answer);
+        self.mend_since(rt, was_open);
         let _ = first.send(rt, answer);
     }
 
-    /// Notes who waits for the acknowledgement of a write that is kept. With no memory for that the waiting ends, and whether the write stands is open.
+    /// Notes who waits for the acknowledgement of a write that is kept; nobody acknowledges it where another copy leads.
     fn wait_for(&mut self, receipt: &Receipt, to: Sender<Ending, Global>) {
+        if self.held.copy().term() < self.deposed {
+            return;
+        }
         if let Some(written) = written_in(receipt) {
-            let _ = self.waiting.push(Waiting {
-                seq: written.seq,
-                term: written.term,
-                to,
-            });
+            self.waits.add(written, to);
         }
     }
 
-    /// Takes a message. One that is refused for a while is handed again, behind those that wait.
+    /// Takes a message.
     fn take<R: Wait>(&mut self, rt: &R, message: Msg, tries: u32) {
-        let Ok(copied) = message.copy(self.alloc) else {
-            self.again(rt, message, tries);
+        let Ok(kept) = message.copy(self.alloc) else {
+            self.again(rt, message, tries, 1);
             return;
         };
+        let was_open = self.is_open();
         let answer = self.call(rt, Input::Take(message));
-        self.mend(rt, &answer);
-        if is_refused_for_a_while(&answer) {
-            self.again(rt, copied, tries);
+        self.mend_since(rt, was_open);
+        match fate_of(&answer) {
+            Fate::Settled => {}
+            Fate::Postponed(cost) => self.again(rt, kept, tries, cost),
+            Fate::Impossible => self.refuse(rt, &kept),
         }
     }
 
-    /// Hands a message again; after so many times the primary that sent it is to report this copy.
-    fn again<R: Wait>(&mut self, rt: &R, message: Msg, tries: u32) {
+    /// Hands a message again, behind those that wait; at last it is refused. What the master tells a copy that is closed isn't handed again: the copy
+    /// is promoted anew.
+    fn again<R: Wait>(&mut self, rt: &R, message: Msg, tries: u32, cost: u32) {
+        if message.from == 0 && !self.is_open() {
+            return;
+        }
+        let next = tries.saturating_add(cost);
+        if next > TRIES {
+            self.refuse(rt, &message);
+            return;
+        }
+        let (from, is_of_primary) = (message.from, is_of_primary(&message));
+        if !self.shared.hand(rt, self.id(), Post::Hand(message, next)) && is_of_primary {
+            self.shared.hand(rt, from, Post::Report(self.id()));
+        }
+    }
+
+    /// What a copy can't take: the primary that sent it is to report the copy; where it makes the copy itself the primary, another one is promoted.
+    fn refuse<R: Wait>(&mut self, rt: &R, message: &Msg) {
         let id = self.id();
-        let from = message.from;
-        if tries < TRIES {
-            self.shared.hand(rt, id, Post::Hand(message, tries + 1));
-        } else if from != 0 {
-            self.shared.hand(rt, from, Post::Report(id));
+        if is_of_primary(message) {
+            self.shared.hand(rt, message.from, Post::Report(id));
+            return;
+        }
+        if message.from != 0 || self.leads() {
+            return;
+        }
+        if let Ok(state) = self.shared.state(rt, self.alloc) {
+            if state.primary == id {
+                self.hand_over(rt, &state);
+            }
         }
     }
 
+    /// Reports a copy. Where that isn't possible nobody knows whether the copies that are left are enough, so all waits end.
     fn report<R: Wait>(&mut self, rt: &R, copy: u32) {
-        let answer = self.call(rt, Input::Report(copy));
-        self.mend(rt, &answer);
+        match self.call(rt, Input::Report(copy)) {
+            Ok(receipt) => if let Err(CopyFault::NoMemory) = &receipt.deed.answer {
+                self.waits.end();
+            },
+            Err(_) => self.waits.end(),
+        }
+    }
+
+    /// Ends the waits of a copy that the master has replaced: it may never hear of it.
+    fn depose(&mut self, term: u64) {
+        self.deposed = self.deposed.max(term);
+        if self.held.copy().term() < self.deposed {
+            self.waits.end();
+        }
     }
 
     fn show<R: Wait>(&mut self, rt: &R, to: &Sender<Result<Shown, NodeFault>, Global>) {
         let _ = to.send(rt, Shown::of(&self.held));
     }
 
-    /// Sends on what an entry sends. A copy that a message can't reach is to be reported.
     fn send_on<R: Wait>(&mut self, rt: &R, receipt: &Receipt) {
         let Ok(output) = &receipt.deed.answer else {
             return;
         };
-        let id = self.id();
         for message in output.sent.as_slice() {
-            if !self.shared.post(rt, self.alloc, self.number, message) && message.to != 0 {
-                self.shared.hand(rt, id, Post::Report(message.to));
+            if !self.shared.post(rt, self.alloc, self.number, message) {
+                self.miss(rt, message);
             }
+        }
+    }
+
+    /// A message that didn't arrive: the primary is to report the copy that it is to, or that sent it. What the master didn't take, or can't be
+    /// told, ends all waits.
+    fn miss<R: Wait>(&mut self, rt: &R, message: &Msg) {
+        let id = self.id();
+        let told = if message.to == 0 {
+            false
+        } else if self.leads() {
+            self.shared.hand(rt, id, Post::Report(message.to))
+        } else {
+            self.shared.hand(rt, message.to, Post::Report(id))
+        };
+        if !told {
+            self.waits.end();
         }
     }
 
@@ -190,135 +250,21 @@ impl<D: LogDevice, G: Gate> Worker<D, G> {
     fn tell_acknowledged<R: Wait>(&mut self, rt: &R, receipt: &Receipt) {
         if let Ok(output) = &receipt.deed.answer {
             for op in output.acknowledged.as_slice() {
-                self.tell_of(rt, op, receipt);
+                self.waits.acknowledge(rt, op, receipt);
             }
-        }
-    }
-
-    /// Tells who waits for an operation that an entry acknowledges it.
-    fn tell_of<R: Wait>(&mut self, rt: &R, op: &Op, receipt: &Receipt) {
-        let Some(place) = self
-            .waiting
-            .iter()
-            .position(|waiting| waiting.seq == op.seq && waiting.term == op.term)
-        else {
-            return;
-        };
-        let waiting = self.waiting.swap_remove(place);
-        if let Ok(copied) = copied(self.alloc, receipt) {
-            let _ = waiting.to.send(rt, Ending::Acknowledged(copied));
         }
     }
 
     /// Tells those who wait where the copy is the primary no more, or of a later term than that of their writes.
     fn tell_lost<R: Wait>(&mut self, rt: &R, receipt: &Receipt) {
-        let leads = match self.held.copy().role() {
-            Role::Primary(_) => !is_shut(receipt),
-            Role::Empty | Role::Replica => false,
-        };
-        let term = self.held.copy().term();
-        if leads && self.waiting.iter().all(|waiting| waiting.term == term) {
-            return;
-        }
-        for waiting in self.waiting.drain(..) {
-            if let Ok(copied) = copied(self.alloc, receipt) {
-                let _ = waiting.to.send(rt, Ending::Lost(copied));
-            }
+        let leads = self.leads() && !is_shut(receipt);
+        if !leads || !self.waits.are_of(self.held.copy().term()) {
+            self.waits.lose(rt, receipt);
         }
     }
 
-    /// Opens the copy again where its log has failed; where it doesn't open, the primary is to report it.
-    fn mend<R: Wait>(&mut self, rt: &R, answer: &Answered) {
-        let Ok(receipt) = answer else {
-            return;
-        };
-        if !is_shut(receipt) {
-            return;
-        }
-        let id = self.id();
-        if !self.restart(rt) {
-            let primary = self.shared.primary(rt);
-            if primary != id {
-                self.shared.hand(rt, primary, Post::Report(id));
-            }
-        } else if self.shared.primary(rt) == id {
-            let _ = self
-                .shared
-                .ask(rt, self.alloc, self.number, Request::Promote(id));
-        }
-    }
-
-    fn restart<R: Wait>(&mut self, rt: &R) -> bool {
-        for _ in 0..RESTARTS {
-            if let Ok(receipt) = self.call(rt, Input::Restart) {
-                if receipt.deed.answer.is_ok() {
-                    return true;
-                }
-            }
-        }
-        false
-    }
-
-    fn into_left(self) -> Left {
+    pub(crate) fn into_left(self) -> Left {
         let Worker { held, pass, .. } = self;
         Left::of(held, pass)
     }
-}
-
-/// Whether an answer may be another one later: the message's term is to come, the gap below it is to close, memory is to be there again, or the copy was
-/// to be opened again.
-fn is_refused_for_a_while(answer: &Answered) -> bool {
-    match answer {
-        Ok(receipt) => matches!(
-            &receipt.deed.answer,
-            Err(CopyFault::NotSynced)
-                | Err(CopyFault::BeyondWindow)
-                | Err(CopyFault::NoMemory)
-                | Err(CopyFault::Closed)
-                | Err(CopyFault::Log(_))
-        ),
-        Err(NodeFault::NoMemory) => true,
-        Err(_) => false,
-    }
-}
-
-/// What a thread is started with.
-pub(crate) trait Work: Drop {
-    fn run(self) -> Left;
-}
-
-/// A worker at its inbox.
-#[derive(Drop)]
-pub(crate) struct Bench<R: Wait + Drop, D: LogDevice, G: Gate> {
-    pub(crate) rt: R,
-    pub(crate) inbox: Receiver<Post, Global>,
-    pub(crate) worker: Worker<D, G>,
-}
-
-impl<R: Wait + Drop, D: LogDevice, G: Gate> Work for Bench<R, D, G> {
-    /// Takes posts in order until it is told to stop.
-    fn run(self) -> Left {
-        let Bench { rt, inbox, worker } = self;
-        let mut worker = worker;
-        for _ in rt.forever() {
-            let Ok(post) = inbox.recv(&rt) else {
-                break;
-            };
-            if !worker.serve(&rt, post) {
-                break;
-            }
-        }
-        worker.into_left()
-    }
-}
-
-/// Starts a thread.
-pub(crate) fn started<R: Threads, W: Work + Send + 'static>(
-    rt: &R,
-    work: W,
-) -> Option<JoinHandle<Left>> {
-    thread::Builder::new()
-        .stack_size(STACK)
-        .spawn(rt, move || work.run())
-        .ok()
 }

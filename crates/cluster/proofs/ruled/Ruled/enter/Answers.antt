@@ -2,7 +2,7 @@ use Rattle.std.proofs.Common.{◌≡◌, List, [], ◌∷◌, ◌++◌, Ok, Err,
 use Rattle.audit.specs.declared.journal.Ruling.{Ruling}
 use Rattle.cluster.specs.Ruled.{IsRuled, RuledData, ruling}
 use Rattle.cluster.proofs.Rulings.{ruled_more}
-use Rattle.cluster.proofs.ruled.Ruled.ask.Goals as goal
+use Rattle.cluster.proofs.ruled.Ruled.enter.Goals as goal
 
 pub invariant_of-self-in-Ok : goal.invariant_of-self-in-Ok
 invariant_of-self-in-Ok g c =

@@ -1,0 +1,104 @@
+//! A copy whose log has failed: it is opened again, and leads again where it is the primary; one that doesn't open is given up.
+
+use crate::gate::Gate;
+use crate::post::Post;
+use crate::worker::Worker;
+use master::{Request, State};
+use replica::{Input, Role};
+use std::sync::Wait;
+use translog::LogDevice;
+
+/// How often a copy is opened again before it is given up.
+const RESTARTS: u64 = 3;
+
+impl<D: LogDevice, G: Gate> Worker<D, G> {
+    pub(crate) fn is_open(&self) -> bool {
+        self.held.copy().snapshot().is_some()
+    }
+
+    pub(crate) fn leads(&self) -> bool {
+        match self.held.copy().role() {
+            Role::Primary(_) => true,
+            Role::Empty | Role::Replica => false,
+        }
+    }
+
+    /// Opens the copy again where its log has failed, and has it lead where the master's primary is this copy. It is done before each post, so a
+    /// cluster whose last copy is closed takes writes again as soon as that opens.
+    pub(crate) fn mend<R: Wait>(&mut self, rt: &R) {
+        if !self.is_open() {
+            if !self.restart(rt) {
+                self.give_up(rt);
+                return;
+            }
+            self.given_up = false;
+            self.is_to_lead = true;
+        }
+        if self.is_to_lead {
+            self.lead(rt);
+        }
+    }
+
+    /// Opens the copy again where its log has failed since.
+    pub(crate) fn mend_since<R: Wait>(&mut self, rt: &R, was_open: bool) {
+        if was_open {
+            self.mend(rt);
+        }
+    }
+
+    fn restart<R: Wait>(&mut self, rt: &R) -> bool {
+        let tries = if self.given_up { 1 } else { RESTARTS };
+        for _ in 0..tries {
+            let _ = self.call(rt, Input::Restart);
+            if self.is_open() {
+                return true;
+            }
+        }
+        false
+    }
+
+    /// Has the master make this copy the primary of the next term, where it is the primary.
+    fn lead<R: Wait>(&mut self, rt: &R) {
+        let id = self.id();
+        if self.shared.primary(rt) != id {
+            self.is_to_lead = false;
+            return;
+        }
+        if let Some(message) = self.shared.promotion(rt, self.alloc, self.number, id) {
+            let _ = self.call(rt, Input::Take(message));
+        }
+        self.is_to_lead = !self.leads();
+    }
+
+    /// Has the primary report this copy; or where it is the primary itself, has another one promoted.
+    fn give_up<R: Wait>(&mut self, rt: &R) {
+        if self.given_up {
+            return;
+        }
+        let Ok(state) = self.shared.state(rt, self.alloc) else {
+            return;
+        };
+        let id = self.id();
+        self.given_up = if state.primary == id {
+            self.hand_over(rt, &state);
+            true
+        } else {
+            self.shared.hand(rt, state.primary, Post::Report(id))
+        };
+    }
+
+    /// Has the master make the first copy in sync the primary that isn't this one, and that it takes.
+    pub(crate) fn hand_over<R: Wait>(&self, rt: &R, state: &State) {
+        let id = self.id();
+        for other in state.in_sync.as_slice() {
+            if *other != id
+                && self
+                    .shared
+                    .ask(rt, self.alloc, self.number, Request::Promote(*other))
+                    .is_ok()
+            {
+                return;
+            }
+        }
+    }
+}
