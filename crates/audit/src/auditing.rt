@@ -1,12 +1,12 @@
 //! The audit of journals.
-ghost use Rattle.std.specs.Prelude.{◌≡◌, ◌↔◌, ◌<◌, ◌^◌, ℕ, map, length, slice_get, All, None, Err, IsTrue, IfOk, IfErr, IfSome};
+ghost use Rattle.std.specs.Prelude.{◌≡◌, ◌↔◌, ◌<◌, ◌^◌, ℕ, map, length, slice_get, None, Err, IsTrue, IfOk, IfErr, IfSome};
 ghost use Rattle.doc.specs.Mapping.{MappingData};
 ghost use Rattle.master.specs.State.{begun};
 ghost use Rattle.world.specs.Held.{Held};
 ghost use Rattle.audit.specs.Judge.{IsJudged, IsMisjudged};
 ghost use Rattle.audit.specs.declared.journal.Journal.TheVariants.{OfMaster, OfCopy};
 ghost use Rattle.audit.specs.Audit.{placed_in, IsAudited, IsSize, Pass};
-ghost use Rattle.audit.specs.Passing.{fault_at, IsCount, IsFailing, IsOfMapping, IsPassing};
+ghost use Rattle.audit.specs.Passing.{fault_at, IsCount, IsFailing, IsPassing};
 
 use crate::equal::equal_state;
 use crate::following::Following;
@@ -27,7 +27,6 @@ use world::World;
 /// true by itself, a node with an entry that nothing in the journals causes.
 pub fn audit(alloc: Global, mapping: &Mapping, journals: &[Journal]) -> Result<World, AuditFault>
     requires ids { length journals.now < 2 ^ 32 }
-    requires one_mapping { All (IsOfMapping mapping.now) journals.now }
     ensures audited { IsAudited mapping.now journals.now result }
     ensures held { IfOk result Held }
 {
@@ -96,7 +95,6 @@ fn judge_all(
     requires size { IsSize copies }
     requires count { IsCount (slice_get journals.now 0) copies }
     requires ids { length journals.now < 2 ^ 32 }
-    requires one_mapping { All (IsOfMapping mapping.now) journals.now }
     ensures pass { IfOk result (λ _. Pass mapping.now copies journals.now) }
     ensures parts { IfOk result (λ parts. parts.items ≡ map placed_in journals.now) }
     ensures err { IfErr result (λ e. IsAudited mapping.now journals.now (Err e)) }
@@ -120,7 +118,6 @@ fn judge_one(
     journal: &Journal,
 ) -> Result<Part, Wrong>
     requires size { IsSize copies }
-    requires mapping { IsOfMapping mapping.now journal.now }
     ensures ok { IfOk result (λ part. IsPassing mapping.now copies node journal.now part) }
     ensures err { IfErr result (λ e. IsFailing mapping.now copies node journal.now e) }
 {
@@ -164,11 +161,10 @@ fn judge_copy(
 ) -> Result<Part, Wrong>
     requires size { IsSize copies }
     requires node { 0 < node }
-    requires mapping { opening.now.mapping ≡ mapping.now }
     ensures ok { IfOk result (λ part. IsPassing mapping.now copies node (OfCopy opening.now deeds.now) part) }
     ensures err { IfErr result (λ e. IsFailing mapping.now copies node (OfCopy opening.now deeds.now) e) }
 {
-    if !opening.is_born(copies as u32, node) {
+    if !opening.is_node(mapping, copies as u32, node) {
         return Err(Wrong::At(0));
     }
     let following = Following::born(alloc, mapping, copies as u32, node)?;

@@ -50,6 +50,24 @@ impl Opening {
         }
     }
 
+    /// The mapping that the copy is under.
+    pub fn mapping(&self) -> &Mapping
+        ensures { result.now ≡ self.now.mapping }
+    {
+        match &self.beginning {
+            Beginning::New(_, _, mapping) => mapping,
+            Beginning::Kept(_, _, mapping, _) => mapping,
+        }
+    }
+
+    /// Whether the copy begins as node does in an index of so many copies under this mapping.
+    #[tactic(auto, using(crate::proofs::Begun::born_mapping))]
+    pub fn is_node(&self, mapping: &Mapping, copies: u32, node: u32) -> bool
+        ensures { IsTrue result ↔ (self.now ≡ born mapping.now copies node) }
+    {
+        self.mapping().is(mapping) && self.is_born(copies, node)
+    }
+
     /// Whether it is that of the copy with this id of a new index of so many copies, or of one that the id was given to later.
     pub fn is_born(&self, copies: u32, node: u32) -> bool
         ensures { IsTrue result ↔ (self.now ≡ born self.now.mapping copies node) }

@@ -5,3 +5,4 @@ pub mod Parts
 pub mod Long
 pub mod Outcomes
 pub mod Short
+pub mod Twins

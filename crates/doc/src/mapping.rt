@@ -1,5 +1,5 @@
 //! Mappings.
-ghost use Rattle.std.specs.Prelude.{◌≡◌, ◌==◌, not, nat_lt, codes, option_map, length, IfOk, IfSome};
+ghost use Rattle.std.specs.Prelude.{◌≡◌, ◌==◌, ◌↔◌, IsTrue, not, nat_lt, codes, option_map, length, IfOk, IfSome};
 ghost use Rattle.std.specs.List.{list_all};
 ghost use Rattle.serde_json.specs.Data.{no_members, Data, Members};
 ghost use Rattle.serde_json.specs.Find.{get};
@@ -85,6 +85,13 @@ impl Mapping {
         kind_of_name(&self.fields, name)
     }
 
+    /// Whether they are equal.
+    pub fn is(&self, other: &Mapping) -> bool
+        ensures { IsTrue result ↔ (self.now ≡ other.now) }
+    {
+        self.strict == other.strict && are_fields(&self.fields, &other.fields)
+    }
+
     /// An equal mapping.
     pub fn copy(&self, alloc: Global) -> Result<Mapping, AllocError>
         ensures { IfOk result (λ m. m ≡ self.now) }
@@ -100,7 +107,28 @@ impl Mapping {
     }
 }
 
+/// Whether they are equal.
+fn are_fields(fields: &[Field], others: &[Field]) -> bool
+    ensures { IsTrue result ↔ (fields_view fields.now ≡ fields_view others.now) }
+{
+    if fields.len() != others.len() {
+        return false;
+    }
+    for place in 0..fields.len() {
+        if !fields[place].is(&others[place]) {
+            return false;
+        }
+    }
+    true
+}
+
 impl Field {
+    fn is(&self, other: &Field) -> bool
+        ensures { IsTrue result ↔ (field_view self.now ≡ field_view other.now) }
+    {
+        self.name.as_str() == other.name.as_str() && self.kind == other.kind
+    }
+
     fn copy(&self, alloc: Global) -> Result<Field, AllocError>
         ensures { IfOk result (λ f. field_view f ≡ field_view self.now) }
     {
