@@ -80,7 +80,7 @@ in_order-woven ps all = in_order-woven_from [] ps tt all
 
 -- ---- a search, part by part
 
-filtered_some : (g : Item → Bool) (q : Id) (es : Documents) → is_some (document_at (filter g es) q) ≡ true → is_some (document_at es q) ≡ true
+pub filtered_some : (g : Item → Bool) (q : Id) (es : Documents) → is_some (document_at (filter g es) q) ≡ true → is_some (document_at es q) ≡ true
 filtered_some g q es is = elim (document_at es q) as (λ o. document_at es q ≡ o → is_some o ≡ true) [
   | None ↦ λ e. sym (ap is_some (find-filter g q es e)) ∙ is
   | Some x ↦ λ e. refl

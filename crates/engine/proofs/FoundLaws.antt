@@ -1,6 +1,8 @@
 -- What is found by places.
-use Rattle.std.proofs.Common.{◌≡◌, ◌<◌, ℕ, ◌+◌, zero, suc, List, [], ◌∷◌, ◌++◌, Some, length, map, take, refl, sym, ap, ◌∙◌, arith, slice_get, get_or}
+use Rattle.std.proofs.Common.{◌≡◌, ◌<◌, ℕ, Bool, ◌+◌, zero, suc, List, [], ◌∷◌, ◌++◌, Some, length, map, take, refl, sym, ap, ◌∙◌, arith, slice_get, get_or}
 use Rattle.std.proofs.lemmas.List.{map-append, map_more}
+use Rattle.marks.specs.Lists.{places}
+use Rattle.segment.proofs.Ahead.{places-map}
 use Rattle.doc.specs.Mapping.{MappingData}
 use Rattle.doc.specs.Document.{DocData, all_values}
 use Rattle.engine.specs.declared.documents.Entry.{Entry}
@@ -48,3 +50,7 @@ pub seen_at : {A B : Type 0} (f : A → B) (xs : List A) (p : ℕ) (x : A) → p
 seen_at f [] p x lt is = absurd (omega (arith, lt))
 seen_at f (y ∷ ys) zero x lt is = ap (λ z. Some (f z)) is
 seen_at f (y ∷ ys) (suc p) x lt is = seen_at f ys p x (omega (arith, lt)) is
+
+-- and so are their places
+pub found-places : (m : MappingData) (q : Query) (ss : List Shown) (sources : List (List ℕ)) → sources ≡ map (λ (s : Shown). s.source) ss → places (λ t. means m t q) sources ≡ places (is_found m q) (map shown_view ss)
+found-places m q ss sources is = sym (places-map (λ (b : Bool). b) (λ t. means m t q) sources) ∙ ap (places (λ (b : Bool). b)) (found-marks m q ss sources is) ∙ places-map (λ (b : Bool). b) (is_found m q) (map shown_view ss)

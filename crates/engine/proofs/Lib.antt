@@ -10,3 +10,4 @@ pub mod ChosenLaws
 pub mod RefreshLaws
 pub mod ShareLaws
 pub mod SnapshotLaws
+pub mod PageLaws

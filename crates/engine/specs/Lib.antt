@@ -11,3 +11,4 @@ pub mod Staged
 pub mod SnapshotChange
 pub mod Last
 pub mod OperationIndex
+pub mod Before

@@ -58,10 +58,11 @@ pub record AreParts (m : MappingData) (ps : List SnapshotData) : Type 0 where
   pub apart : AreApart (documents_of_parts ps)
   pub few : length ps ≤ 64
 
--- documents in order, each with a mark
-pub record IsPart (ds : Documents) (live : List Bool) : Type 0 where
+-- documents in order, each with a mark; where it is said that all are live, they are
+pub record IsPart (ds : Documents) (live : List Bool) (all_live : Bool) : Type 0 where
   pub sorted : is_sorted id_cmp ds ≡ true
   pub whole : length live ≡ length ds
+  pub full : all_live ≡ true → live ≡ replicate (length ds) true
 
 -- whether the id is one of these
 abbrev pub is_among : List Id → Id → Bool

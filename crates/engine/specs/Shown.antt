@@ -1,10 +1,12 @@
 -- Documents as they are kept for searches.
-use Rattle.std.specs.Prelude.{◌≡◌, ℕ, true, List, map}
+use denote.Ref.{Bor}
+use Rattle.std.specs.Prelude.{◌≡◌, ℕ, true, List, map, Vec}
+use Rattle.std.specs.declared.alloc.Global.{Global}
 use Rattle.std.specs.FinMap.Entries.{is_sorted}
 use Rattle.doc.specs.Id.{Id, id_cmp}
 use Rattle.doc.specs.Mapping.{MappingData}
 use Rattle.doc.specs.Document.{DocData, all_values}
-use Rattle.op.specs.Documents.{Document}
+use Rattle.op.specs.Documents.{Document, Documents}
 use Rattle.engine.specs.declared.block.Shown.{Shown}
 use Rattle.engine.specs.declared.snapshot.Hit.{Hit}
 use Rattle.engine.specs.declared.snapshot.Hits.{Hits}
@@ -18,6 +20,14 @@ shown_view s = (s.id, record { seq = s.seq; term = s.term; version = s.version; 
 pub record IsBlock (ds : List Shown) (sources : List (List ℕ)) : Type 0 where
   pub same : sources ≡ map (λ d. d.source) ds
   pub sorted : is_sorted id_cmp (map shown_view ds) ≡ true
+
+-- documents where they stand
+abbrev pub seen : List (Bor Shown) → Documents
+seen rs = map (λ r. shown_view r.now) rs
+
+-- the documents of each of some lists
+abbrev pub seen_all : List (Vec (Bor Shown) Global) → List Documents
+seen_all vs = map (λ v. seen v.items) vs
 
 -- a source read under a mapping: with its values where it fits, and else without
 abbrev pub read_under : MappingData → List ℕ → DocData

@@ -17,7 +17,7 @@ use crate::documents::Entry;
 use doc::{Doc, DocFault, DocId, Mapping, Source};
 use marks::Marks;
 use query::Query;
-use search::{FoundPlaces, find};
+use search::{FoundPlaces, find, find_all};
 use segment::Segment;
 use std::alloc::{AllocError, Global};
 use std::cmp::Ordering;
@@ -35,6 +35,15 @@ pub(crate) struct Shown {
     term: u64,
     version: u64,
     source: Source,
+}
+
+impl Shown {
+    /// Its id.
+    pub(crate) fn id(&self) -> &DocId
+        ensures { result.now ≡ self.now.id }
+    {
+        &self.id
+    }
 }
 
 /// Documents in byte order of their ids, and the segment of their sources. It never changes.
@@ -95,6 +104,19 @@ impl Block {
         find(alloc, &self.segment, live, query, wanted)
     }
 
+    /// The same where all documents are live.
+    pub(crate) fn find_all(
+        &self,
+        alloc: Global,
+        query: &Query,
+        wanted: usize,
+    ) -> Result<FoundPlaces, AllocError>
+        ensures total { IfOk result (λ f. f.total ≡ length (places (is_found self.now.mapping (query_view query.now)) self.now.documents)) }
+        ensures first { IfOk result (λ f. f.first.items ≡ take wanted (places (is_found self.now.mapping (query_view query.now)) self.now.documents)) }
+    {
+        find_all(alloc, &self.segment, query, wanted)
+    }
+
     /// The documents at some places.
     pub(crate) fn entries_at<'a>(
         &'a self,
@@ -110,6 +132,22 @@ impl Block {
             entries.push(entry_of(shown))?;
         }
         Ok(entries)
+    }
+
+    /// The same without making entries.
+    pub(crate) fn shown_at<'a>(
+        &'a self,
+        alloc: Global,
+        found: &[u32],
+    ) -> Result<Vec<&'a Shown>, AllocError>
+        requires { All (λ p. p < length self.now.documents) found.now }
+        ensures { IfOk result (λ v. map (λ r. Some (shown_view r.now)) v.items ≡ map (λ p. slice_get self.now.documents p) found.now) }
+    {
+        let mut all = Vec::with_capacity(alloc, found.len())?;
+        for place in found {
+            all.push(&self.documents[*place as usize])?;
+        }
+        Ok(all)
     }
 
     /// Marks the documents that have one of the ids.
@@ -149,7 +187,7 @@ fn place_of(documents: &[Shown], id: &DocId) -> Result<usize, usize>
 }
 
 /// A document where it stands.
-fn entry_of(shown: &Shown) -> Entry<'_>
+pub(crate) fn entry_of(shown: &Shown) -> Entry<'_>
     ensures { entry_view result ≡ shown_view shown.now }
 {
     Entry {

@@ -9,6 +9,7 @@ pub mod listed;
 mod merging;
 mod operation_index;
 mod operations;
+mod paging;
 mod part;
 pub mod snapshot;
 pub mod staged;

@@ -1,18 +1,21 @@
 //! A part of what searches show.
-ghost use Rattle.std.specs.Prelude.{◌≡◌, ◌<◌, ◌^◌, true, map, take, length, filter, IfOk};
+ghost use Rattle.std.specs.Prelude.{◌≡◌, ◌<◌, ◌+◌, ◌^◌, ◌&&◌, true, map, take, drop, length, filter, IfOk};
 ghost use Rattle.std.specs.Arc.{arc_value};
 ghost use Rattle.std.specs.FinMap.Entries.{is_sorted};
 ghost use Rattle.doc.specs.Id.{id_cmp};
 ghost use Rattle.query.specs.View.{query_view};
+ghost use Rattle.marks.specs.Lists.{zip_with, places};
 ghost use Rattle.engine.specs.Answer.{is_found};
 ghost use Rattle.engine.specs.Entry.{entry_view};
-ghost use Rattle.engine.specs.Parts.{without};
+ghost use Rattle.engine.specs.Shown.{seen};
+ghost use Rattle.engine.specs.Parts.{without, IsPart};
 
-use crate::block::Block;
+use crate::block::{Block, Shown};
 use crate::documents::Entry;
 use doc::{DocId, Mapping};
 use marks::Marks;
 use query::Query;
+use search::FoundPlaces;
 use std::alloc::{AllocError, Global};
 use std::marker::Model;
 use std::sync::Arc;
@@ -22,6 +25,8 @@ use std::sync::Arc;
 pub(crate) struct Part {
     block: Arc<Block, Global>,
     live: Marks,
+    /// Where it is set, no document is dead.
+    all_live: bool,
 }
 
 impl Model for Part {
@@ -33,7 +38,7 @@ impl Model for Part {
 
     ghost view = { λ p. record { mapping = (arc_value p.block).mapping; documents = chosen (arc_value p.block).documents p.live } };
 
-    ghost invariant = { λ p. IsPart (arc_value p.block).documents p.live };
+    ghost invariant = { λ p. IsPart (arc_value p.block).documents p.live p.all_live };
 }
 
 /// What there is for a query: how many documents, and the first of them.
@@ -41,6 +46,13 @@ impl Model for Part {
 pub(crate) struct Share<'a> {
     pub(crate) total: u64,
     pub(crate) first: Vec<Entry<'a>>,
+}
+
+/// The same without entries.
+#[derive(Drop)]
+pub(crate) struct PartHits<'a> {
+    pub(crate) total: u64,
+    pub(crate) first: Vec<&'a Shown>,
 }
 
 impl Part {
@@ -56,7 +68,11 @@ impl Part {
         let block = Block::of(alloc, mapping, entries)?;
         let live = Marks::all(alloc, block.len())?;
         let block = Arc::new(alloc, block)?;
-        Ok(Part { block, live })
+        Ok(Part {
+            block,
+            live,
+            all_live: true,
+        })
     }
 
     /// How many documents were put into it, live or not.
@@ -76,21 +92,50 @@ impl Part {
         Ok(entries)
     }
 
-    /// What it has for a query: how many documents, and the first of them, no more than wanted.
+    /// What it has for a query: how many documents, and as many of them as the size says behind the first so many, for which no entry is made.
     pub(crate) fn find(
         &self,
         alloc: Global,
         query: &Query,
-        wanted: usize,
+        from: usize,
+        size: usize,
     ) -> Result<Share<'_>, AllocError>
+        requires { from + size < 2 ^ 64 }
         ensures total { IfOk result (λ s. s.total ≡ length (filter (is_found self.now.mapping (query_view query.now)) self.now.documents)) }
         ensures few { IfOk result (λ s. s.total < 2 ^ 32) }
-        ensures first { IfOk result (λ s. map entry_view s.first.items ≡ take wanted (filter (is_found self.now.mapping (query_view query.now)) self.now.documents)) }
+        ensures first { IfOk result (λ s. map entry_view s.first.items ≡ take size (drop from (filter (is_found self.now.mapping (query_view query.now)) self.now.documents))) }
     {
         let _few = self.block.len();
-        let found = self.block.find(alloc, &self.live, query, wanted)?;
-        let first = self.block.entries_at(alloc, &found.first)?;
+        let found = find_places(
+            alloc,
+            &self.block,
+            &self.live,
+            self.all_live,
+            query,
+            from + size,
+        )?;
+        let first = self.block.entries_at(alloc, behind(&found.first, from))?;
         Ok(Share {
+            total: found.total as u64,
+            first,
+        })
+    }
+
+    /// How many documents it has for a query, and where the first of them stand, no more than wanted.
+    pub(crate) fn hits(
+        &self,
+        alloc: Global,
+        query: &Query,
+        wanted: usize,
+    ) -> Result<PartHits<'_>, AllocError>
+        ensures total { IfOk result (λ h. h.total ≡ length (filter (is_found self.now.mapping (query_view query.now)) self.now.documents)) }
+        ensures few { IfOk result (λ h. h.total < 2 ^ 32) }
+        ensures first { IfOk result (λ h. seen h.first.items ≡ take wanted (filter (is_found self.now.mapping (query_view query.now)) self.now.documents)) }
+    {
+        let _few = self.block.len();
+        let found = find_places(alloc, &self.block, &self.live, self.all_live, query, wanted)?;
+        let first = self.block.shown_at(alloc, &found.first)?;
+        Ok(PartHits {
             total: found.total as u64,
             first,
         })
@@ -106,7 +151,40 @@ impl Part {
         let mut live = Marks::none(alloc, len)?;
         live.unite(&self.live);
         live.subtract(&dead);
+        let all_live = live.count() == len;
         let block = Arc::try_clone(&self.block)?;
-        Ok(Part { block, live })
+        Ok(Part {
+            block,
+            live,
+            all_live,
+        })
     }
+}
+
+/// How many live documents of a block the query means, and the places of the first of them, no more than wanted.
+fn find_places(
+    alloc: Global,
+    block: &Block,
+    live: &Marks,
+    all_live: bool,
+    query: &Query,
+    wanted: usize,
+) -> Result<FoundPlaces, AllocError>
+    requires { IsPart block.now.documents live.now all_live }
+    ensures total { IfOk result (λ f. f.total ≡ length (places (λ b. b) (zip_with (λ m l. m && l) (map (is_found block.now.mapping (query_view query.now)) block.now.documents) live.now))) }
+    ensures first { IfOk result (λ f. f.first.items ≡ take wanted (places (λ b. b) (zip_with (λ m l. m && l) (map (is_found block.now.mapping (query_view query.now)) block.now.documents) live.now))) }
+{
+    if all_live {
+        block.find_all(alloc, query, wanted)
+    } else {
+        block.find(alloc, live, query, wanted)
+    }
+}
+
+/// The places after the first so many.
+fn behind(places: &[u32], from: usize) -> &[u32]
+    ensures { result.now ≡ drop from places.now }
+{
+    let count = places.len().min(from);
+    &places[count..]
 }

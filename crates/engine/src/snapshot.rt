@@ -1,5 +1,5 @@
 //! What searches show.
-ghost use Rattle.std.specs.Prelude.{◌≡◌, ◌≤◌, ◌+◌, true, All, map, take, drop, filter, length, IfOk};
+ghost use Rattle.std.specs.Prelude.{◌≡◌, ◌<◌, ◌≤◌, ◌+◌, ◌^◌, true, All, map, take, drop, filter, length, IfOk};
 ghost use Rattle.std.specs.Arc.{arc_value};
 ghost use Rattle.std.specs.FinMap.Entries.{is_sorted};
 ghost use Rattle.doc.specs.Id.{Id, id_cmp};
@@ -8,10 +8,13 @@ ghost use Rattle.op.specs.Documents.{documents};
 ghost use Rattle.engine.specs.Answer.{answer_of, hit, is_found};
 ghost use Rattle.engine.specs.Entry.{entry_view};
 ghost use Rattle.engine.specs.Parts.{documents_of_parts, has_id, is_among, merged, without, woven, AllInOrder, AreParts};
-ghost use Rattle.engine.specs.Shown.{hit_view, hits_view};
+ghost use Rattle.engine.specs.Before.{first_of_each};
+ghost use Rattle.engine.specs.Shown.{hit_view, hits_view, seen_all};
 
+use crate::block::Shown;
 use crate::documents::{Entry, documents_of};
 use crate::merging::{merge, merge_owned};
+use crate::paging::{behind, find_pivot, page_behind};
 use crate::part::{Part, Share};
 use doc::{DocId, Mapping, Source};
 use op::Op;
@@ -22,6 +25,16 @@ use std::sync::Arc;
 
 /// There are never more parts.
 const MAX_PARTS: usize = 64;
+
+/// Where no more documents are passed over, merging their entries is soon done.
+const FEW_PASSED_OVER: usize = 128;
+
+/// What parts have for a query: how many documents in all, and where the first of each stand.
+#[derive(Drop)]
+struct AllHits<'a> {
+    total: u64,
+    lists: Vec<Vec<&'a Shown>>,
+}
 
 /// What searches show, in parts, the newest first. It never changes.
 #[derive(Drop)]
@@ -77,9 +90,9 @@ impl Snapshot {
         ensures { IfOk result (λ h. hits_view h ≡ answer_of self.now (query_view query.now) page) }
     {
         let from = page.from() as usize;
-        let wanted = from + page.size() as usize;
-        let share = find(alloc, &self.mapping, &self.parts, query, wanted)?;
-        let hits = hits_of(alloc, behind(&share.first, from))?;
+        let size = page.size() as usize;
+        let share = page_of(alloc, &self.mapping, &self.parts, query, from, size)?;
+        let hits = hits_of(alloc, &share.first)?;
         Ok(Hits {
             total: share.total,
             hits,
@@ -107,6 +120,84 @@ impl Snapshot {
     }
 }
 
+/// What parts under the mapping have for a query: how many documents, and as many of them as the size says behind the first so many.
+/// No entry is made for most documents that are passed over.
+fn page_of<'a>(
+    alloc: Global,
+    _mapping: &Mapping,
+    parts: &'a [Part],
+    query: &Query,
+    from: usize,
+    size: usize,
+) -> Result<Share<'a>, AllocError>
+    requires are { AreParts _mapping.now parts.now }
+    requires fits { from + size < 2 ^ 64 }
+    ensures total { IfOk result (λ s. s.total ≡ length (filter (is_found _mapping.now (query_view query.now)) (woven (documents_of_parts parts.now)))) }
+    ensures first { IfOk result (λ s. map entry_view s.first.items ≡ take size (drop from (filter (is_found _mapping.now (query_view query.now)) (woven (documents_of_parts parts.now))))) }
+{
+    if parts.len() == 1 {
+        return parts[0].find(alloc, query, from, size);
+    }
+    if from < FEW_PASSED_OVER {
+        return merged_page(alloc, _mapping, parts, query, from, size);
+    }
+    let hits = hits_of_parts(alloc, _mapping, parts, query, from + size)?;
+    match find_pivot(&hits.lists, from) {
+        Some(pivot) => {
+            let first = page_behind(alloc, &hits.lists, pivot, from, size)?;
+            Ok(Share {
+                total: hits.total,
+                first,
+            })
+        }
+        None => merged_page(alloc, _mapping, parts, query, from, size),
+    }
+}
+
+/// The same by entries for all documents up to the end of the page.
+fn merged_page<'a>(
+    alloc: Global,
+    _mapping: &Mapping,
+    parts: &'a [Part],
+    query: &Query,
+    from: usize,
+    size: usize,
+) -> Result<Share<'a>, AllocError>
+    requires are { AreParts _mapping.now parts.now }
+    requires fits { from + size < 2 ^ 64 }
+    ensures total { IfOk result (λ s. s.total ≡ length (filter (is_found _mapping.now (query_view query.now)) (woven (documents_of_parts parts.now)))) }
+    ensures first { IfOk result (λ s. map entry_view s.first.items ≡ take size (drop from (filter (is_found _mapping.now (query_view query.now)) (woven (documents_of_parts parts.now))))) }
+{
+    let found = find(alloc, _mapping, parts, query, from + size)?;
+    let first = behind(found.first, from)?;
+    Ok(Share {
+        total: found.total,
+        first,
+    })
+}
+
+/// How many documents parts have for a query, and where the first of each stand, no more than wanted.
+fn hits_of_parts<'a>(
+    alloc: Global,
+    _mapping: &Mapping,
+    parts: &'a [Part],
+    query: &Query,
+    wanted: usize,
+) -> Result<AllHits<'a>, AllocError>
+    requires { AreParts _mapping.now parts.now }
+    ensures total { IfOk result (λ h. h.total ≡ length (filter (is_found _mapping.now (query_view query.now)) (woven (documents_of_parts parts.now)))) }
+    ensures lists { IfOk result (λ h. seen_all h.lists.items ≡ first_of_each wanted (is_found _mapping.now (query_view query.now)) (documents_of_parts parts.now)) }
+{
+    let mut total = 0u64;
+    let mut lists = Vec::new(alloc);
+    for part in parts {
+        let hits = part.hits(alloc, query, wanted)?;
+        lists.push(hits.first)?;
+        total += hits.total;
+    }
+    Ok(AllHits { total, lists })
+}
+
 /// What parts under the mapping have for a query: how many documents, and the first of them, no more than wanted.
 fn find<'a>(
     alloc: Global,
@@ -122,20 +213,12 @@ fn find<'a>(
     let mut total = 0u64;
     let mut first = Vec::new(alloc);
     for part in parts {
-        let share = part.find(alloc, query, wanted)?;
+        let share = part.find(alloc, query, 0, wanted)?;
         first = merge_owned(alloc, first, share.first)?;
         first.truncate(wanted);
         total += share.total;
     }
     Ok(Share { total, first })
-}
-
-/// The documents after the first so many.
-fn behind<'a, 'b>(entries: &'b [Entry<'a>], from: usize) -> &'b [Entry<'a>]
-    ensures { result.now ≡ drop from entries.entry.now }
-{
-    let count = entries.len().min(from);
-    &entries[count..]
 }
 
 /// The parts without the documents that have one of the ids.

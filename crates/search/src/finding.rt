@@ -1,12 +1,17 @@
 //! The places of the live documents that a query means.
-ghost use Rattle.std.specs.Prelude.{◌≡◌, ◌<◌, ◌&&◌, ◌^◌, length, map, take, IfOk};
-ghost use Rattle.query.specs.Meaning.{means};
+ghost use Rattle.std.specs.Prelude.{◌≡◌, ◌<◌, ◌&&◌, ◌^◌, length, map, take, true, IfOk};
+ghost use Rattle.doc.specs.Document.{all_values};
+ghost use Rattle.doc.specs.ScalarView.{scalar_view, scalars_view};
+ghost use Rattle.query.specs.Meaning.{has_tokens, means, terms};
 ghost use Rattle.query.specs.View.{query_view};
 ghost use Rattle.marks.specs.Lists.{zip_with, places};
+ghost use Rattle.segment.specs.Indexed.{has_term};
 
-use crate::selecting::select;
+use crate::posted::first_live;
+use crate::selecting::{select, with_term, with_tokens};
+use doc::Scalar;
 use marks::Marks;
-use query::Query;
+use query::{Operator, Query};
 use segment::Segment;
 use std::alloc::{AllocError, Global};
 
@@ -33,16 +38,84 @@ pub fn find(
     let _few = segment.len();
     match query {
         Query::MatchAll => first_marked(alloc, live, wanted),
+        Query::Term(field, value) => find_term(alloc, segment, live, field, value, wanted),
+        Query::Match(field, operator, tokens) => {
+            find_tokens(alloc, segment, live, field, *operator, tokens, wanted)
+        }
         _ => {
-            let mut marks = select(alloc, segment, query)?;
-            marks.intersect(live);
-            first_marked(alloc, &marks, wanted)
+            let marks = select(alloc, segment, query)?;
+            first_live_marked(alloc, marks, live, wanted)
         }
     }
 }
 
+/// The live documents in which one of the tokens is a term of the field, or there is one and all are.
+fn find_tokens(
+    alloc: Global,
+    segment: &Segment,
+    live: &Marks,
+    name: &str,
+    operator: Operator,
+    tokens: &[Scalar],
+    wanted: usize,
+) -> Result<FoundPlaces, AllocError>
+    requires { length live.now ≡ length segment.now.sources }
+    ensures total { IfOk result (λ f. f.total ≡ length (places (λ b. b) (zip_with (λ m l. m && l) (map (λ s. has_tokens operator (terms segment.now.mapping s name.now) (scalars_view tokens.now)) segment.now.sources) live.now))) }
+    ensures first { IfOk result (λ f. f.first.items ≡ take wanted (places (λ b. b) (zip_with (λ m l. m && l) (map (λ s. has_tokens operator (terms segment.now.mapping s name.now) (scalars_view tokens.now)) segment.now.sources) live.now))) }
+{
+    let _few = segment.len();
+    if tokens.len() == 1 {
+        return find_term(alloc, segment, live, name, &tokens[0], wanted);
+    }
+    let marks = with_tokens(alloc, segment, name, operator, tokens)?;
+    first_live_marked(alloc, marks, live, wanted)
+}
+
+/// The live documents in which a term of the field is the value.
+fn find_term(
+    alloc: Global,
+    segment: &Segment,
+    live: &Marks,
+    name: &str,
+    value: &Scalar,
+    wanted: usize,
+) -> Result<FoundPlaces, AllocError>
+    requires { length live.now ≡ length segment.now.sources }
+    ensures total { IfOk result (λ f. f.total ≡ length (places (λ b. b) (zip_with (λ m l. m && l) (map (λ s. has_term segment.now.mapping.fields name.now (scalar_view value.now) (all_values segment.now.mapping s)) segment.now.sources) live.now))) }
+    ensures first { IfOk result (λ f. f.first.items ≡ take wanted (places (λ b. b) (zip_with (λ m l. m && l) (map (λ s. has_term segment.now.mapping.fields name.now (scalar_view value.now) (all_values segment.now.mapping s)) segment.now.sources) live.now))) }
+{
+    let _few = segment.len();
+    match segment.posting(name, value) {
+        Some(places) => first_live(alloc, places, live, wanted),
+        None => {
+            let marks = with_term(alloc, segment, name, value)?;
+            first_live_marked(alloc, marks, live, wanted)
+        }
+    }
+}
+
+/// How many documents are marked and live, and the places of the first of them.
+fn first_live_marked(
+    alloc: Global,
+    mut marks: Marks,
+    live: &Marks,
+    wanted: usize,
+) -> Result<FoundPlaces, AllocError>
+    requires same { length live.now ≡ length marks }
+    requires few { length live.now < 2 ^ 32 }
+    ensures total { IfOk result (λ f. f.total ≡ length (places (λ b. b) (zip_with (λ m l. m && l) marks live.now))) }
+    ensures first { IfOk result (λ f. f.first.items ≡ take wanted (places (λ b. b) (zip_with (λ m l. m && l) marks live.now))) }
+{
+    marks.intersect(live);
+    first_marked(alloc, &marks, wanted)
+}
+
 /// How many places are marked, and the first of them.
-fn first_marked(alloc: Global, marks: &Marks, wanted: usize) -> Result<FoundPlaces, AllocError>
+pub(crate) fn first_marked(
+    alloc: Global,
+    marks: &Marks,
+    wanted: usize,
+) -> Result<FoundPlaces, AllocError>
     requires { length marks.now < 2 ^ 32 }
     ensures total { IfOk result (λ f. f.total ≡ length (places (λ b. b) marks.now)) }
     ensures first { IfOk result (λ f. f.first.items ≡ take wanted (places (λ b. b) marks.now)) }

@@ -3,7 +3,10 @@
 
 mod counts;
 pub mod finding;
+mod posted;
 pub mod selecting;
+pub mod whole;
 
 pub use finding::{FoundPlaces, find};
 pub use selecting::select;
+pub use whole::find_all;

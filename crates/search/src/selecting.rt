@@ -169,7 +169,7 @@ fn all(alloc: Global, segment: &Segment) -> Result<Marks, AllocError>
 }
 
 /// The documents in which a term of the field is the value.
-fn with_term(
+pub(crate) fn with_term(
     alloc: Global,
     segment: &Segment,
     name: &str,
@@ -215,7 +215,7 @@ fn with_each(
 }
 
 /// Those in which one of the tokens is a term of the field, or there is one and all are.
-fn with_tokens(
+pub(crate) fn with_tokens(
     alloc: Global,
     segment: &Segment,
     name: &str,

@@ -1,5 +1,5 @@
 -- What a column gives.
-use Rattle.std.proofs.Common.{◌≡◌, ◌<◌, ◌||◌, ◌∙◌, ap, sym, refl, length, List, [], Bool, false, ℕ, subst, All, map, Option, Some, None, nat_lt}
+use Rattle.std.proofs.Common.{◌≡◌, ◌<◌, ◌+◌, ◌||◌, ◌∙◌, ap, sym, refl, arith, length, List, [], ◌∷◌, Bool, false, ℕ, suc, subst, All, map, Option, Some, None, nat_lt, if◌then◌else◌}
 use Rattle.std.proofs.lemmas.List.{length-map}
 use Rattle.doc.specs.Fields.{Fields, kind_at}
 use Rattle.doc.specs.Mapping.{MappingData}
@@ -9,8 +9,9 @@ use Rattle.doc.specs.declared.mapping.Kind.TheVariants.{Keyword, Text, Long, Boo
 use Rattle.doc.specs.Document.{Values, all_values, values_at}
 use Rattle.query.specs.Meaning.{terms_at, terms_by}
 use Rattle.std.specs.List.{list_any}
-use Rattle.marks.specs.Lists.{zip_with, marked, places}
+use Rattle.marks.specs.Lists.{zip_with, marked, places, places_from}
 use Rattle.segment.specs.Indexed.{has_term, has_value}
+use Rattle.segment.proofs.Ahead.{places-map}
 use Rattle.segment.proofs.Zips.{marked-zip, zip-test, zip-none, zip-map}
 use Rattle.segment.proofs.Steps.{places-below}
 
@@ -50,3 +51,17 @@ module _ (m : MappingData) (old : List Bool) (sources : List (List ℕ)) (same :
 
   pub places-within : (test : Values → Bool) (ps : List ℕ) → ps ≡ places test (map (all_values m) sources) → All (λ p. p < length old) ps
   places-within test ps is = subst (λ qs. All (λ p. p < length old) qs) (sym is) (subst (λ n. All (λ p. p < n) (places test (map (all_values m) sources))) (sym as_long) (places-below test (map (all_values m) sources)))
+
+-- the places of what nothing passes
+pub places-none : {A : Type 0} (test : A → Bool) (n : ℕ) (xs : List A) → All (λ x. test x ≡ false) xs → places_from test n xs ≡ []
+places-none test n [] all = refl
+places-none test n (x ∷ xs) all = ap (λ b. if b then n ∷ places_from test (n + 1) xs else places_from test (n + 1) xs) (all 0 x (omega arith)) ∙ places-none test (n + 1) xs (λ k d lt. all (suc k) d (omega (arith, lt)))
+
+module _ (m : MappingData) (sources : List (List ℕ)) (test : Values → Bool) where
+  -- the places of documents are those of their sources
+  pub places-of_sources : (ps : List ℕ) → ps ≡ places test (map (all_values m) sources) → ps ≡ places (λ s. test (all_values m s)) sources
+  places-of_sources ps is = is ∙ places-map test (all_values m) sources
+
+  -- a field without a column has none
+  pub places-unmapped : (name : List ℕ) → ((d : Values) → values_at name d ≡ [] → test d ≡ false) → All (λ d. values_at name d ≡ []) (map (all_values m) sources) → [] ≡ places (λ s. test (all_values m s)) sources
+  places-unmapped name none all = sym (places-none test 0 (map (all_values m) sources) (λ k d in_range. none _ (all k d in_range))) ∙ places-map test (all_values m) sources

@@ -13,3 +13,4 @@ pub mod Withins
 pub mod PostedLaws
 pub mod BuiltLaws
 pub mod SpanLaws
+pub mod Scans

@@ -3,3 +3,4 @@ pub mod Indexed
 pub mod Term
 pub mod Posted
 pub mod Spans
+pub mod Limits

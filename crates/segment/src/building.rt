@@ -102,6 +102,7 @@ fn empty(alloc: Global, len: usize) -> Result<Column, AllocError>
         has: Marks::none(alloc, len)?,
         texts: BTreeMap::new(alloc),
         longs: BTreeMap::new(alloc),
+        numbers: Vec::new(alloc),
         yes: Marks::none(alloc, len)?,
         no: Marks::none(alloc, len)?,
     })

@@ -3,6 +3,7 @@
 
 mod building;
 pub mod column;
+mod limits;
 mod posting;
 pub mod segment;
 mod spans;

@@ -1,5 +1,5 @@
 //! Segments.
-ghost use Rattle.std.specs.Prelude.{◌≡◌, ◌<◌, ◌^◌, ◌||◌, ◌&&◌, ℕ, All, [], if◌then◌else◌, length, map, option_map, IfOk, OnOk, nat_eq, string_bytes};
+ghost use Rattle.std.specs.Prelude.{◌≡◌, ◌<◌, ◌^◌, ◌||◌, ◌&&◌, ℕ, All, [], ◌∷◌, if◌then◌else◌, length, map, option_map, IfOk, IfSome, OnOk, nat_eq, string_bytes};
 ghost use Rattle.std.specs.Arc.{arc_value};
 ghost use Rattle.doc.specs.Document.{all_values};
 ghost use Rattle.doc.specs.Scalar as scalar;
@@ -7,11 +7,13 @@ ghost use Rattle.doc.specs.ScalarView.{scalar_view};
 ghost use Rattle.std.specs.List.{list_any, starts_with};
 ghost use Rattle.query.specs.Meaning.{terms_at, begins_with, is_within};
 ghost use Rattle.query.specs.View.{bounds_view};
-ghost use Rattle.marks.specs.Lists.{zip_with, marked};
+ghost use Rattle.marks.specs.Lists.{zip_with, marked, places};
 ghost use Rattle.segment.specs.Term.{is_text, is_long, is_truth};
+ghost use Rattle.segment.specs.Limits.{limits_view};
 ghost use Rattle.segment.specs.Indexed.{has_term, has_value, IsColumn, IsColumnOr};
 
 use crate::column::Column;
+use crate::limits::Limits;
 use crate::term::Term;
 use crate::{building, spans, term};
 use doc::{Doc, Mapping, Scalar, Source};
@@ -21,6 +23,9 @@ use std::alloc::{AllocError, Global};
 use std::collections::BTreeMap;
 use std::marker::Model;
 use std::sync::Arc;
+
+/// As many numbers are looked at in about the time that going to the list of one takes.
+const LOOKS_PER_LIST: usize = 8;
 
 /// Documents by the terms of their fields. It never changes.
 #[derive(Drop)]
@@ -75,6 +80,37 @@ impl Segment {
         ensures { IsColumnOr self.now.mapping.fields (map (all_values self.now.mapping) self.now.sources) name.now (option_map (λ c. c.now) result) }
     {
         self.columns.get(name)
+    }
+
+    /// The places of the documents in which a term of the field is the value, rising. Those of a truth value aren't listed.
+    pub fn posting(&self, name: &str, value: &Scalar) -> Option<&[u32]>
+        ensures { IfSome result (λ p. p.now ≡ places (λ s. has_term self.now.mapping.fields name.now (scalar_view value.now) (all_values self.now.mapping s)) self.now.sources) }
+    {
+        match value {
+            Scalar::Text(text) => Some(self.places_of(name, text)),
+            Scalar::Long(number) => Some(self.places_of_long(name, *number)),
+            Scalar::Flag(_) => None,
+        }
+    }
+
+    /// The places of the documents that have the text as a term.
+    fn places_of(&self, name: &str, text: &str) -> &[u32]
+        ensures { result.now ≡ places (λ s. has_term self.now.mapping.fields name.now (scalar.text text.now) (all_values self.now.mapping s)) self.now.sources }
+    {
+        match self.column(name) {
+            Some(column) => column.places_of(text),
+            None => &[],
+        }
+    }
+
+    /// The places of the documents that have the number as a term.
+    fn places_of_long(&self, name: &str, number: i64) -> &[u32]
+        ensures { result.now ≡ places (λ s. has_term self.now.mapping.fields name.now (scalar.long number) (all_values self.now.mapping s)) self.now.sources }
+    {
+        match self.column(name) {
+            Some(column) => column.places_of_long(number),
+            None => &[],
+        }
     }
 
     /// Marks the documents that have the text as a term.
@@ -199,7 +235,33 @@ impl Segment {
     }
 
     /// Marks those that have a number within the bounds as a term.
-    fn mark_longs(&self, column: &Column, _name: &str, bounds: &Bounds, marks: &mut Marks)
+    fn mark_longs(&self, column: &Column, name: &str, bounds: &Bounds, marks: &mut Marks)
+        requires whole { length marks.old ≡ length self.now.sources }
+        requires is { IsColumn self.now.mapping.fields (map (all_values self.now.mapping) self.now.sources) name.now column.now }
+        ensures whole { length marks.new ≡ length self.now.sources }
+        ensures is { marks.new ≡ zip_with (λ b s. b || list_any (λ t. is_long t && is_within (bounds_view bounds.now) t) (terms_at self.now.mapping.fields (all_values self.now.mapping s) name.now)) marks.old self.now.sources }
+    {
+        match limits_of_many(column, bounds) {
+            Some(limits) => self.mark_numbers(column, name, limits, marks),
+            None => self.mark_lists(column, name, bounds, marks),
+        }
+    }
+
+    /// The same, looking at all numbers in the order of the documents.
+    fn mark_numbers(&self, column: &Column, _name: &str, limits: Limits, marks: &mut Marks)
+        requires whole { length marks.old ≡ length self.now.sources }
+        requires is { IsColumn self.now.mapping.fields (map (all_values self.now.mapping) self.now.sources) _name.now column.now }
+        ensures whole { length marks.new ≡ length self.now.sources }
+        ensures is { marks.new ≡ zip_with (λ b s. b || list_any (λ t. is_long t && is_within (limits_view limits) t) (terms_at self.now.mapping.fields (all_values self.now.mapping s) _name.now)) marks.old self.now.sources }
+    {
+        for number in &column.numbers {
+            let passes = limits.have(number.value);
+            set_if(marks, number.place, passes);
+        }
+    }
+
+    /// The same, by the lists of the numbers within the bounds.
+    fn mark_lists(&self, column: &Column, _name: &str, bounds: &Bounds, marks: &mut Marks)
         requires whole { length marks.old ≡ length self.now.sources }
         requires is { IsColumn self.now.mapping.fields (map (all_values self.now.mapping) self.now.sources) _name.now column.now }
         ensures whole { length marks.new ≡ length self.now.sources }
@@ -222,6 +284,26 @@ impl Segment {
         let no = term::is_within(bounds, Term::Flag(false));
         unite_if(marks, &column.no, no);
     }
+}
+
+/// The bounds of numbers, where so many different ones lie within them that looking at all numbers is sooner done than going to the list of each.
+fn limits_of_many(column: &Column, bounds: &Bounds) -> Option<Limits>
+    ensures { IfSome result (λ l. limits_view l ≡ bounds_view bounds.now) }
+{
+    let few = column.numbers.len() / LOOKS_PER_LIST;
+    let mut within = column.longs.range(spans::of_longs(bounds));
+    match within.nth(few) {
+        Some(_) => Limits::of(bounds),
+        None => None,
+    }
+}
+
+/// Marks the place of a number that passes.
+fn set_if(marks: &mut Marks, place: u32, passes: bool)
+    requires { place < length marks.old }
+    ensures { marks.new ≡ marked marks.old (if passes then place ∷ [] else []) }
+{
+    marks.set_if(place, passes);
 }
 
 /// Marks the places of a key that passes.

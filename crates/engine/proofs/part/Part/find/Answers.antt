@@ -1,11 +1,15 @@
-use Rattle.std.proofs.Common.{◌<◌, ◌∙◌, ap, arith, length, take, filter}
-use Rattle.std.proofs.lemmas.List.Elements.{All-take}
+use Rattle.std.proofs.Common.{◌<◌, ◌+◌, ◌∙◌, ap, arith, drop, length, take, filter}
+use Rattle.std.proofs.lemmas.List.Elements.{All-drop, All-take}
 use Rattle.std.specs.Arc.{arc_value}
 use Rattle.query.specs.View.{query_view}
 use Rattle.engine.specs.Answer.{SnapshotData, is_found}
 use Rattle.engine.specs.Entry.{entry_view}
-use Rattle.engine.proofs.ShareLaws.{share-total, share-few, share-within, share-first}
+use Rattle.engine.proofs.ShareLaws.{share-total, share-few, share-within, share-page}
 use Rattle.engine.proofs.part.Part.find.Goals as goal
+
+-- the marks are those of the block
+pub find_places-requires : goal.find_places-requires
+find_places-requires c = rw c.deref-2.ensures c.self.invariant
 
 -- the places are those of documents
 pub entries_at-requires : goal.entries_at-requires
@@ -13,8 +17,8 @@ entries_at-requires c =
     let block = arc_value c.self.inside.block in
     let g = is_found block.mapping (query_view c.args.query.now) in
     let found = rw c.deref-2.ensures at c.in_ok-found.ensures.first in
-    rw (c.deref-4.ensures.value, c.deref-3.ensures, found)
-    (All-take (λ p. p < length block.documents) c.args.wanted _ (share-within g block.documents c.self.inside.live c.self.invariant.whole))
+    rw (c.behind.ensures, c.deref-4.ensures.value, c.deref-3.ensures, found)
+    (All-drop (λ p. p < length block.documents) c.args.from _ (All-take (λ p. p < length block.documents) (c.args.from + c.args.size) _ (share-within g block.documents c.self.inside.live c.self.invariant.whole)))
 
 pub returns-clause-total : goal.returns-clause-total
 returns-clause-total c =
@@ -38,6 +42,6 @@ returns-clause-first c =
     let block = arc_value c.self.inside.block in
     let q = query_view c.args.query.now in
     let found = rw c.deref-2.ensures at c.in_ok-found.ensures.first in
-    share-first (is_found block.mapping q) block.documents c.self.inside.live c.self.invariant.whole entry_view c.args.wanted c.in_ok-first.first.items
-    (rw (c.deref-4.ensures.value, c.deref-3.ensures, found) at c.in_ok-first.ensures)
-    ∙ ap (λ (s : SnapshotData). take c.args.wanted (filter (is_found s.mapping q) s.documents)) c.self.view_is
+    share-page (is_found block.mapping q) block.documents c.self.inside.live c.self.invariant.whole entry_view c.args.from c.args.size c.in_ok-first.first.items
+    (rw (c.behind.ensures, c.deref-4.ensures.value, c.deref-3.ensures, found) at c.in_ok-first.ensures)
+    ∙ ap (λ (s : SnapshotData). take c.args.size (drop c.args.from (filter (is_found s.mapping q) s.documents))) c.self.view_is

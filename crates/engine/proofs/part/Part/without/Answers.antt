@@ -1,4 +1,4 @@
-use Rattle.std.proofs.Common.{◌∙◌, ◌&&◌, ◌||◌, not, false, ap, sym, length, List, Bool}
+use Rattle.std.proofs.Common.{◌∙◌, ◌&&◌, ◌||◌, not, false, ap, arith, sym, length, List, Bool}
 use Rattle.std.specs.Prelude.{replicate}
 use Rattle.std.specs.Arc.{arc_value}
 use Rattle.std.proofs.lemmas.List.{length-map}
@@ -6,7 +6,7 @@ use Rattle.marks.specs.Lists.{zip_with}
 use Rattle.engine.specs.Answer.{SnapshotData}
 use Rattle.engine.specs.Parts.{is_among, without}
 use Rattle.engine.proofs.PartLaws.{Item}
-use Rattle.engine.proofs.ShareLaws.{none-among, left-long, left-chosen, united-long}
+use Rattle.engine.proofs.ShareLaws.{none-among, left-long, left-chosen, united-long, counted-full}
 use Rattle.engine.proofs.part.Part.without.Goals as goal
 
 -- none is marked yet
@@ -25,6 +25,17 @@ subtract-requires c =
     let united = c.unite.ensures ∙ ap (λ (bs : List Bool). zip_with (λ (a b : Bool). a || b) bs live) c.in_ok-live.ensures in
     ap length dead ∙ length-map docs (λ (d : Item). is_among c.args.ids.now d.0) ∙ sym (ap length united ∙ united-long c.args.ids.now docs live c.self.invariant.whole c.len-len.result len)
 
+-- there are as many marks as documents
+pub count-requires : goal.count-requires
+count-requires c =
+    let docs = (arc_value c.self.inside.block).documents in
+    let live = c.self.inside.live in
+    let len = rw c.deref.ensures at c.len-len.ensures.is in
+    let dead = rw c.deref-2.ensures at c.mark_ids.ensures in
+    let united = c.unite.ensures ∙ ap (λ (bs : List Bool). zip_with (λ (a b : Bool). a || b) bs live) c.in_ok-live.ensures in
+    let marks = c.subtract.ensures ∙ ap (λ (bs : List Bool). zip_with (λ (a b : Bool). a && not b) bs c.mark_ids.new.marks) united ∙ ap (λ (bs : List Bool). zip_with (λ (a b : Bool). a && not b) (zip_with (λ (a b : Bool). a || b) (replicate c.len-len.result false) live) bs) dead in
+    omega (arith, ap length marks, left-long c.args.ids.now docs live c.self.invariant.whole c.len-len.result len, len, c.len-len.ensures.few)
+
 pub invariant_of-result : goal.invariant_of-result
 invariant_of-result c =
     let docs = (arc_value c.self.inside.block).documents in
@@ -33,7 +44,11 @@ invariant_of-result c =
     let dead = rw c.deref-2.ensures at c.mark_ids.ensures in
     let united = c.unite.ensures ∙ ap (λ (bs : List Bool). zip_with (λ (a b : Bool). a || b) bs live) c.in_ok-live.ensures in
     let marks = c.subtract.ensures ∙ ap (λ (bs : List Bool). zip_with (λ (a b : Bool). a && not b) bs c.mark_ids.new.marks) united ∙ ap (λ (bs : List Bool). zip_with (λ (a b : Bool). a && not b) (zip_with (λ (a b : Bool). a || b) (replicate c.len-len.result false) live) bs) dead in
-    rw (c.in_ok-block.ensures, marks) (record { sorted = c.self.invariant.sorted; whole = left-long c.args.ids.now docs live c.self.invariant.whole c.len-len.result len })
+    rw (c.in_ok-block.ensures, marks) (record {
+      sorted = c.self.invariant.sorted;
+      whole = left-long c.args.ids.now docs live c.self.invariant.whole c.len-len.result len;
+      full = λ all. sym marks ∙ counted-full c.subtract.new.self (length docs) c.count.result c.len-len.result (ap length marks ∙ left-long c.args.ids.now docs live c.self.invariant.whole c.len-len.result len) c.count.ensures len all;
+    })
 
 -- those that are left
 pub returns : goal.returns

@@ -3,7 +3,7 @@ use Rattle.std.specs.Map.Iter.{deref_pair}
 use Rattle.query.specs.Meaning.{is_within}
 use Rattle.query.specs.View.{bounds_view}
 use Rattle.segment.proofs.Withins.{so_far, long_hit}
-use Rattle.segment.proofs.segment.Segment.mark_longs.Given as goal
+use Rattle.segment.proofs.segment.Segment.mark_lists.Given as goal
 
 -- the documents of the keys so far that pass are marked
 abbrev pub invariant-loop-number : goal.invariant-loop-number

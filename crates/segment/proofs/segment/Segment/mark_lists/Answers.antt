@@ -15,7 +15,7 @@ use Rattle.marks.specs.Lists.{places, marked}
 use Rattle.segment.proofs.Listed.{middle}
 use Rattle.segment.specs.Indexed.{has_term}
 use Rattle.segment.proofs.Withins.{so_far, long_hit, none-so_far, more-so_far, whole-so_far, places-so_far, longs-end}
-use Rattle.segment.proofs.segment.Segment.mark_longs.Goals as goal
+use Rattle.segment.proofs.segment.Segment.mark_lists.Goals as goal
 
 -- nothing more is marked yet
 pub loop-number-init : goal.loop-number-init
