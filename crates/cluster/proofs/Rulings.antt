@@ -1,18 +1,13 @@
 -- A journal of the master with one more entry.
-use Rattle.std.proofs.Common.{◌≡◌, ℕ, Bool, true, false, List, [], ◌∷◌, ◌++◌, Option, Some, None, Result, Ok, Err, IfOk, refl, sym, ap, subst, ◌∙◌}
+use Rattle.std.proofs.Common.{◌≡◌, ℕ, List, [], ◌∷◌, ◌++◌, Result, Ok, Err, IfOk, refl, sym, ap, subst, ◌∙◌}
 use Rattle.audit.specs.declared.journal.Ruling.{Ruling}
 use Rattle.audit.specs.Audit.{begins_open}
-use Rattle.audit.specs.Rulings.{Ruler, AreLegal, IsLegalRuling, MayRule, next_ruler, ruled_at, ruler_after}
+use Rattle.audit.specs.Rulings.{Ruler, AreLegal, IsLegalRuling, next_ruler, ruler_after}
 use Rattle.master.specs.declared.fault.MasterFault.{MasterFault}
-use Rattle.master.specs.declared.fault.MasterFault.TheVariants.{OldTerm, NotInSync, IsPrimary, Gone, Log, NoMemory, Full}
 use Rattle.master.specs.declared.state.Decision.{Decision}
 use Rattle.master.specs.declared.state.Request.{Request}
-use Rattle.master.specs.declared.state.State.{State}
-use Rattle.master.specs.Decide.{MasterStep, decision_of, master_step}
-use Rattle.master.specs.Fault.{fault_of}
-use Rattle.master.specs.Logged.{Logged, IsDone, IsRefused}
-use Rattle.doc.specs.Outcome.{Gives}
-use Rattle.cluster.specs.Ruled.{RuledData, IsDecided, IsKnown, IsRuled, IsRuling, IsUnasked, IsUnruled, Rules, ruling}
+use Rattle.master.specs.Logged.{Logged}
+use Rattle.cluster.specs.Ruled.{RuledData, IsDecided, IsKnown, IsRuled, IsRuling, Rules, ruling}
 
 pub legal_push : (s : Ruler) (rs : List Ruling) (r : Ruling) → AreLegal s rs → IsLegalRuling (ruler_after s rs) r → AreLegal s (rs ++ r ∷ [])
 legal_push s [] r legal last = (last, tt)

@@ -163,8 +163,8 @@ impl<D: LogDevice, G: Gate> Worker<D, G> {
         }
     }
 
-    /// Hands a message again, behind those that wait; at last it is refused. What the master tells a copy that is closed isn't handed again: the copy
-    /// is promoted anew.
+    /// Hands a message again, behind those that wait; at last it is refused, and no write waits for what it would have told. What the master tells a
+    /// copy that is closed isn't handed again: the copy is promoted anew.
     fn again<R: Wait>(&mut self, rt: &R, message: Msg, tries: u32, cost: u32) {
         if message.from == 0 && !self.is_open() {
             return;
@@ -172,10 +172,15 @@ impl<D: LogDevice, G: Gate> Worker<D, G> {
         let next = tries.saturating_add(cost);
         if next > TRIES {
             self.refuse(rt, &message);
+            self.waits.end();
             return;
         }
         let (from, is_of_primary) = (message.from, is_of_primary(&message));
-        if !self.shared.hand(rt, self.id(), Post::Hand(message, next)) && is_of_primary {
+        if self.shared.hand(rt, self.id(), Post::Hand(message, next)) {
+            return;
+        }
+        self.waits.end();
+        if is_of_primary {
             self.shared.hand(rt, from, Post::Report(self.id()));
         }
     }

@@ -1,4 +1,4 @@
-use Rattle.std.proofs.Common.{◌≡◌, sym, subst}
+use Rattle.std.proofs.Common.{sym, subst}
 use Rattle.audit.specs.declared.journal.Journal.{Journal}
 use Rattle.audit.specs.Audit.{IsLawful}
 use Rattle.cluster.proofs.left.Left.of.Goals as goal

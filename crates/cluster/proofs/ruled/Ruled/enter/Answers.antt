@@ -1,4 +1,4 @@
-use Rattle.std.proofs.Common.{◌≡◌, List, [], ◌∷◌, ◌++◌, Ok, Err, ap, sym, subst, ◌∙◌}
+use Rattle.std.proofs.Common.{List, [], ◌∷◌, ◌++◌, Ok, Err, ap, sym, subst, ◌∙◌}
 use Rattle.audit.specs.declared.journal.Ruling.{Ruling}
 use Rattle.cluster.specs.Ruled.{IsRuled, RuledData, ruling}
 use Rattle.cluster.proofs.Rulings.{ruled_more}
