@@ -167,15 +167,16 @@ fn count_in(alloc: Global, shown: &Snapshot, query: &Query) -> Result<Reply, Clu
     Ok(Reply::Counted(found.total))
 }
 
-/// The refusal that tells why copies give no answer. A write that its copy lost may be kept.
+/// The refusal that tells why copies give no answer. A write that nobody acknowledges may be kept.
 fn refusal_by(fault: &ClusterFault) -> Refusal {
     match fault {
-        ClusterFault::NoPrimary(_) | ClusterFault::Lost(_, _) | ClusterFault::Master(_) => {
-            Refusal::NotPrimary
-        }
+        ClusterFault::NoPrimary(_)
+        | ClusterFault::Lost(_, _)
+        | ClusterFault::Unconfirmed(_)
+        | ClusterFault::Master(_) => Refusal::NotPrimary,
         ClusterFault::NoMemory | ClusterFault::NoSeat => Refusal::NoMemory,
         ClusterFault::Copy(fault) => refusal_of(fault),
         ClusterFault::Stray(_) => Refusal::Mismatch,
-        ClusterFault::Running => Refusal::Closed,
+        ClusterFault::Running | ClusterFault::Unopened(_) => Refusal::Closed,
     }
 }
