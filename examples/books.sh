@@ -11,7 +11,7 @@ ask() {
     curl -sS -w '\n%{http_code}\n' -X "$1" "$url$2" ${3+--data-binary "$3"}
 }
 
-"${INDEXD_PROGRAM:-../indexd}" serve --port "$port" --index books --mapping books.json &
+"${INDEXD_PROGRAM:-../indexd}" serve --port "$port" --index books --mapping books.json --refresh-ms 0 &
 server=$!
 trap 'kill "$server" 2>/dev/null || true' EXIT
 for _ in {1..100}; do

@@ -42,8 +42,11 @@ README.md beside the program says more, and what is proved.";
 const KEPT: &str =
     "With --data DIR each write is on the disk before it is confirmed, and a start finds all
 that was confirmed: after the end of the server, a kill, a full disk. DIR is made
-where it is missing, and holds mapping.json, master.log and copy-1.rsx. One server
-at a time has it.
+where it is missing, and holds mapping.json, master.log and copy-1.rsx, with one more
+file for each further copy. One server at a time has it.
+
+With --copies N a write is confirmed when each copy in sync has it. A folder keeps the
+copies that it has where --copies isn't given, and gets new ones where it says more.
 
 Example:
   ./indexd serve --port 9200 --index books --mapping books.json --data books.data
@@ -63,6 +66,13 @@ number of lines.
 Exit status: 0; 1 where the folder can't be read, another process serves it, or
 the output can't be written; 2 for a bad command line.";
 
+/// What stands behind the options of `audit` in `--help`.
+const JUDGED: &str =
+    "Prints `audit ok`, or on standard error the node and the first entry that no run has.
+
+Exit status: 0; 1 where the journals are those of no run, or can't be read; 2 for a
+bad command line.";
+
 /// The script that is to be played, and whether refusals are explained.
 #[derive(Clone, Copy)]
 pub(crate) struct Played<'a> {
@@ -79,6 +89,8 @@ pub(crate) enum Task<'a> {
     Serve(Settings<'a>),
     /// To write what a folder keeps.
     Dump(Dumped<'a>),
+    /// To judge the journals of a folder.
+    Audit(&'a str),
 }
 
 /// What the command line asks for, or what is wrong with it.
@@ -87,6 +99,7 @@ pub(crate) fn task_of<'a>(alloc: Global, words: &'a [String]) -> Result<Task<'a>
     match matches.subcommand() {
         Some(("serve", options)) => Ok(Task::Serve(settings_of(options))),
         Some(("dump", options)) => Ok(Task::Dump(dumped_of(options))),
+        Some(("audit", options)) => Ok(Task::Audit(options.get_str("DIR").unwrap_or("."))),
         Some((_, options)) => Ok(Task::Replay(played_of(options))),
         None => Ok(Task::Replay(Played {
             file: "-",
@@ -108,6 +121,10 @@ fn settings_of<'a>(options: &ArgMatches<'a>) -> Settings<'a> {
         index: options.get_str("index").unwrap_or("index"),
         mapping: options.get_str("mapping"),
         data: options.get_str("data"),
+        copies: options.get_one::<u64>("copies").unwrap_or(1),
+        audit: options.get_flag("audit"),
+        journals: options.get_str("journals"),
+        refresh: options.get_one::<u64>("refresh-ms").unwrap_or(1_000),
         connections: options.get_one::<u64>("connections"),
     }
 }
@@ -127,7 +144,8 @@ fn command<'a>(alloc: Global) -> Result<Command<'a>, AllocError> {
         .subcommand_required(true)
         .subcommand(replay_command(alloc)?)?
         .subcommand(serve_command(alloc)?)?
-        .subcommand(dump_command(alloc)?)
+        .subcommand(dump_command(alloc)?)?
+        .subcommand(audit_command(alloc)?)
 }
 
 fn replay_command<'a>(alloc: Global) -> Result<Command<'a>, AllocError> {
@@ -169,9 +187,17 @@ fn serve_command<'a>(alloc: Global) -> Result<Command<'a>, AllocError> {
         "The folder that the index is kept in; where none is given, it is in memory and ends with the server",
     )
     .value_name("DIR");
-    let copies = option(alloc, "copies", "How many copies the index has: 1")
-        .value_name("N")
-        .value_parser(clap::value_parser!(u64).range(1..=1));
+    let copies = option(
+        alloc,
+        "copies",
+        "How many copies the index has, 1 to 5, each on a thread of its own; 1 where none is given",
+    )
+    .value_name("N")
+    .value_parser(clap::value_parser!(u64).range(1..=5));
+    let audit = Arg::new(alloc, "audit")
+        .long("audit")
+        .action(ArgAction::SetTrue)
+        .help("Audits at the end what the copies did; with --connections alone");
     let connections = option(
         alloc,
         "connections",
@@ -179,6 +205,19 @@ fn serve_command<'a>(alloc: Global) -> Result<Command<'a>, AllocError> {
     )
     .value_name("N")
     .value_parser(clap::value_parser!(u64).range(1..=1_000_000));
+    let journals = option(
+        alloc,
+        "journals",
+        "The folder that the journals are written to before they are audited; with --audit alone",
+    )
+    .value_name("DIR");
+    let refresh = option(
+        alloc,
+        "refresh-ms",
+        "After how many milliseconds the index is refreshed again; 0 for never, 1000 where none is given",
+    )
+    .value_name("N")
+    .value_parser(clap::value_parser!(u64).range(0..=86_400_000));
     Command::new(alloc, "serve")
         .about("Serves an index over HTTP, as Elasticsearch's requests ask it")
         .after_help(KEPT)
@@ -187,7 +226,10 @@ fn serve_command<'a>(alloc: Global) -> Result<Command<'a>, AllocError> {
         .arg(mapping)?
         .arg(data)?
         .arg(copies)?
-        .arg(connections)
+        .arg(connections)?
+        .arg(audit)?
+        .arg(journals)?
+        .arg(refresh)
 }
 
 fn dump_command<'a>(alloc: Global) -> Result<Command<'a>, AllocError> {
@@ -207,6 +249,17 @@ fn dump_command<'a>(alloc: Global) -> Result<Command<'a>, AllocError> {
         .after_help(MOVED)
         .arg(data)?
         .arg(mapping)
+}
+
+fn audit_command<'a>(alloc: Global) -> Result<Command<'a>, AllocError> {
+    let folder = Arg::new(alloc, "DIR")
+        .required(true)
+        .action(ArgAction::Set)
+        .help("The folder with master.journal, copy-1.journal and so on");
+    Command::new(alloc, "audit")
+        .about("Says whether the journals of a folder are those of one run of the model")
+        .after_help(JUDGED)
+        .arg(folder)
 }
 
 /// An option with a value.

@@ -1,18 +1,25 @@
 //! Connections, several at once.
 
 use crate::desk::Desk;
-use front::{Service, StreamFault, serve_stream};
+use cluster::Client;
+use doc::Mapping;
+use front::{Command, Service, StreamFault, serve_stream};
+use shard::Group;
 use std::alloc::Global;
 use std::io::{BufReader, Read};
 use std::net::{Shutdown, TcpListener, TcpStream};
 use std::sync::atomic::{AtomicU64, Ordering};
 use std::sync::{Mutex, Wait};
 use std::thread::Threads;
-use std::time::Duration;
+use std::time::{Clock, Duration};
 use std::{io, thread};
+use translog::LogDevice;
 
 /// How many connections are served at once.
 const AT_ONCE: usize = 4;
+
+/// The longest wait between two looks whether the server has ended, in milliseconds.
+const TICK: u64 = 50;
 
 /// How many connections in a row may fail before they begin.
 const MOST_REFUSED: u32 = 100;
@@ -25,30 +32,29 @@ const LINGER: u64 = 500;
 
 /// Serves connections, four at once, until so many have ended. A fault on one ends that connection alone; where none can be had any more the
 /// last one is told.
-pub(crate) fn serve_connections<R: Threads + Wait + Sync, S: Service + Send + Drop>(
+pub(crate) fn serve_connections<R: Threads + Wait + Clock + Sync, S: Service + Send + Drop>(
     rt: &R,
     alloc: Global,
     listener: &TcpListener,
     service: S,
-    connections: Option<u64>,
+    bounds: Bounds,
 ) -> io::Result<()> {
     let name = String::from_str(alloc, service.index())?;
     let mapping = service.mapping().copy(alloc)?;
     let held = Mutex::new(service);
-    let begun = AtomicU64::new(0);
-    let most = connections.unwrap_or(u64::MAX);
+    let queue = Queue::new(alloc, listener, bounds);
     let ends = thread::map_indices(
         rt,
         alloc,
-        AT_ONCE,
-        &|_| {
+        AT_ONCE + 1,
+        &|lane| {
             let mut desk = Desk {
                 rt,
                 name: name.as_str(),
                 mapping: &mapping,
                 service: &held,
             };
-            serve_in_turn(alloc, listener, &mut desk, &begun, most)
+            queue.run(rt, lane, &mut desk)
         },
     )?;
     for end in ends {
@@ -57,22 +63,116 @@ pub(crate) fn serve_connections<R: Threads + Wait + Sync, S: Service + Send + Dr
     Ok(())
 }
 
-/// Serves one connection after another, while fewer than these have begun.
-fn serve_in_turn<S: Service>(
+/// An index of several copies: its name, its mapping, and what asks the copies.
+#[derive(Drop)]
+pub(crate) struct Index<'a, D: LogDevice> {
+    pub(crate) name: &'a str,
+    pub(crate) mapping: &'a Mapping,
+    pub(crate) client: &'a Client<D>,
+}
+
+/// Serves connections to copies on threads of their own, as `serve_connections` does. No lock is round the index.
+pub(crate) fn serve_group<R: Threads + Wait + Clock + Sync, D: LogDevice + Send>(
+    rt: &R,
     alloc: Global,
     listener: &TcpListener,
-    desk: &mut S,
-    begun: &AtomicU64,
-    most: u64,
+    index: &Index<'_, D>,
+    bounds: Bounds,
 ) -> io::Result<()> {
-    for _ in 0..u64::MAX {
-        if begun.fetch_add(1, Ordering::SeqCst) >= most {
-            return Ok(());
-        }
-        let stream = accepted(listener)?;
-        let _ = serve_one(alloc, &stream, desk);
+    let queue = Queue::new(alloc, listener, bounds);
+    let ends = thread::map_indices(
+        rt,
+        alloc,
+        AT_ONCE + 1,
+        &|lane| {
+            let mut group = Group {
+                rt,
+                alloc,
+                name: index.name,
+                mapping: index.mapping,
+                client: index.client,
+            };
+            queue.run(rt, lane, &mut group)
+        },
+    )?;
+    for end in ends {
+        end?;
     }
     Ok(())
+}
+
+/// How many connections are served, with none all that come, and after how many milliseconds the index is refreshed again, 0 for never.
+#[derive(Clone, Copy)]
+pub(crate) struct Bounds {
+    pub(crate) connections: Option<u64>,
+    pub(crate) refresh: u64,
+}
+
+/// The connections that come, how many of them have begun, and whether no more are served.
+#[derive(Drop)]
+struct Queue<'a> {
+    alloc: Global,
+    listener: &'a TcpListener,
+    begun: AtomicU64,
+    most: u64,
+    refresh: u64,
+    over: AtomicU64,
+}
+
+impl<'a> Queue<'a> {
+    fn new(alloc: Global, listener: &'a TcpListener, bounds: Bounds) -> Queue<'a> {
+        Queue {
+            alloc,
+            listener,
+            begun: AtomicU64::new(0),
+            most: bounds.connections.unwrap_or(u64::MAX),
+            refresh: bounds.refresh,
+            over: AtomicU64::new(0),
+        }
+    }
+
+    /// Serves connections, or in the last lane refreshes the index.
+    fn run<C: Clock, S: Service>(&self, clock: &C, lane: usize, service: &mut S) -> io::Result<()> {
+        if lane == AT_ONCE {
+            self.refresh_in_turn(clock, service);
+            return Ok(());
+        }
+        let served = self.serve(service);
+        self.over.store(1, Ordering::SeqCst);
+        served
+    }
+
+    /// Serves one connection after another, while fewer than are wanted have begun.
+    fn serve<S: Service>(&self, service: &mut S) -> io::Result<()> {
+        for _ in 0..u64::MAX {
+            if self.begun.fetch_add(1, Ordering::SeqCst) >= self.most {
+                return Ok(());
+            }
+            let stream = accepted(self.listener)?;
+            let _ = serve_one(self.alloc, &stream, service);
+        }
+        Ok(())
+    }
+
+    /// Refreshes the index again and again until a lane has no more connections to serve. What is refused is tried again the next time.
+    fn refresh_in_turn<C: Clock, S: Service>(&self, clock: &C, service: &mut S) {
+        if self.refresh == 0 {
+            return;
+        }
+        let mut left = self.refresh;
+        for _ in 0..u64::MAX {
+            if self.over.load(Ordering::SeqCst) > 0 {
+                return;
+            }
+            let tick = left.min(TICK);
+            thread::sleep(clock, Duration::from_millis(tick));
+            left -= tick;
+            if left == 0 {
+                let _ = service.call(Command::Refresh);
+                left = self.refresh;
+            }
+        }
+    }
 }
 
 /// The next connection, or the last of many faults in a row.

@@ -19,7 +19,8 @@ pub(crate) enum DataFault {
     OtherMapping(Difference),
     Master(LogFault),
     SeveralCopies,
-    Copy(CopyFault),
+    CopyFile(u32, io::Error),
+    Copy(u32, CopyFault),
     NotLed,
     NoMemory,
 }
@@ -55,7 +56,8 @@ impl Display for DataFault {
             DataFault::SeveralCopies => {
                 write!(f, "master.log is that of an index of several copies")
             }
-            DataFault::Copy(fault) => write!(f, "copy-1.rsx: {fault}"),
+            DataFault::CopyFile(copy, error) => write!(f, "copy-{copy}.rsx: {error}"),
+            DataFault::Copy(copy, fault) => write!(f, "copy-{copy}.rsx: {fault}"),
             DataFault::NotLed => write!(
                 f,
                 "copy-1.rsx can't be made the primary: it or master.log can't be written, or they don't belong together"

@@ -1,4 +1,4 @@
-//! The folder that an index is kept in: its mapping, the log of its master, and that of its copy.
+//! The folder that an index is kept in: its mapping, the log of its master, and those of its copies.
 ghost use Rattle.std.specs.Prelude.{All, IfOk};
 ghost use Rattle.op.specs.Records.{IsRecord};
 
@@ -14,7 +14,7 @@ use std::fs;
 use std::fs::{File, OpenFile, OpenOptions, TryLockError};
 use std::io::{Read, Write};
 use std::rt::Files;
-use translog::{FileDevice, LogFault, Refused, Translog};
+use translog::{FileDevice, LogFault, MemDevice, Refused, Translog};
 
 /// The file that is locked while the folder is served.
 const LOCK: &str = "lock";
@@ -30,6 +30,9 @@ const COPY: &str = "copy-1.rsx";
 
 /// How many bytes of a copy's log are no record.
 const HEADER: usize = 4;
+
+/// How many copies a new index has at most.
+const MOST_COPIES: u32 = 5;
 
 /// The mapping that was handed in: its text, and what that is as JSON.
 #[derive(Drop)]
@@ -60,6 +63,28 @@ pub(crate) fn open_index<R: Files<File = File> + AllocGlobal>(
     Ok(KeptIndex { shard, lock })
 }
 
+/// A folder whose copies are to be opened: the mapping of its index. No other process serves it while this is held.
+#[derive(Drop)]
+pub(crate) struct KeptFolder {
+    pub(crate) mapping: Mapping,
+    pub(crate) lock: File,
+}
+
+/// Locks the folder of an index of several copies, and makes one where there is none; its logs stay as they are.
+pub(crate) fn open_folder<R: Files<File = File> + AllocGlobal>(
+    rt: &R,
+    path: &str,
+    given: Option<&MappingFile>,
+) -> Result<KeptFolder, DataFault> {
+    let folder = Folder { rt, path };
+    folder.make()?;
+    let lock = folder.lock()?;
+    let mapping = folder.mapping(given)?;
+    folder.check_master()?;
+    folder.sync()?;
+    Ok(KeptFolder { mapping, lock })
+}
+
 /// What a folder keeps of an index, as it was read: nothing of it was changed. No other process serves the folder while this is held.
 #[derive(Drop)]
 pub(crate) struct KeptRecords {
@@ -69,7 +94,7 @@ pub(crate) struct KeptRecords {
     pub(crate) lock: File,
 }
 
-/// Reads the index of a folder; a torn end of the copy's log is passed over.
+/// Reads the index of a folder, as the copy has it that led last; a torn end of its log is passed over.
 pub(crate) fn read_index<R: Files<File = File> + AllocGlobal>(
     rt: &R,
     path: &str,
@@ -83,10 +108,8 @@ pub(crate) fn read_index<R: Files<File = File> + AllocGlobal>(
     let lock = folder.lock()?;
     let text = folder.text(MAPPING)?;
     let mapping = mapping_of(rt.alloc(), text.as_str())?;
-    if !folder.has(COPY)? {
-        return Err(DataFault::Missing(COPY));
-    }
-    let mut log = Translog::over(folder.device(COPY)?);
+    let primary = folder.primary()?;
+    let mut log = Translog::over(folder.kept_device(primary)?);
     match log.read(rt.alloc()) {
         Ok((records, _torn)) => Ok(KeptRecords {
             text,
@@ -95,7 +118,7 @@ pub(crate) fn read_index<R: Files<File = File> + AllocGlobal>(
             lock,
         }),
         Err(LogFault::NoMemory) => Err(DataFault::NoMemory),
-        Err(fault) => Err(DataFault::Copy(CopyFault::Log(fault))),
+        Err(fault) => Err(DataFault::Copy(primary, CopyFault::Log(fault))),
     }
 }
 
@@ -218,6 +241,79 @@ impl<'a, R: Files<File = File> + AllocGlobal> Folder<'a, R> {
         Ok(())
     }
 
+    /// The path of a copy's log.
+    fn copy_path(&self, copy: u32) -> Result<String, AllocError> {
+        let path = self.path;
+        format!(in self.rt.alloc(); "{path}/copy-{copy}.rsx")
+    }
+
+    /// Where the master's log is missing no copy of a new index has a log with records.
+    fn check_master(&self) -> Result<(), DataFault> {
+        if self.has(MASTER)? {
+            return Ok(());
+        }
+        for copy in 1..=MOST_COPIES {
+            let path = self.copy_path(copy)?;
+            if let Ok(found) = fs::metadata(self.rt, path.as_str()) {
+                if found.len() > HEADER as u64 {
+                    return Err(DataFault::Missing(MASTER));
+                }
+            }
+        }
+        Ok(())
+    }
+
+    /// The copy that led last, as the master's log has it.
+    fn primary(&self) -> Result<u32, DataFault> {
+        Ok(self.master()?.state().primary)
+    }
+
+    /// Whether the index has, or has had, more than one copy.
+    fn has_several(&self) -> Result<bool, DataFault> {
+        Ok(self.master()?.state().next != 2)
+    }
+
+    /// The master, as its log has it, and that of a new index where there is none; nothing of the log changes.
+    fn master(&self) -> Result<Master<MemDevice>, DataFault> {
+        let alloc = self.rt.alloc();
+        let bytes = self.master_bytes()?;
+        match Master::begin(alloc, 1, MemDevice::new(bytes)) {
+            Ok(master) => Ok(master),
+            Err(refused) => Err(DataFault::Master(refused.into_fault())),
+        }
+    }
+
+    /// The bytes of the master's log; none where it is missing.
+    fn master_bytes(&self) -> Result<Vec<u8>, DataFault> {
+        let alloc = self.rt.alloc();
+        if !self.has(MASTER)? {
+            return Ok(Vec::new(alloc));
+        }
+        let path = self.path_of(MASTER)?;
+        let mut bytes = Vec::new(alloc);
+        let read = match fs::open(self.rt, path.as_str()) {
+            Ok(mut file) => file.read_to_end(&mut bytes),
+            Err(error) => Err(error),
+        };
+        match read {
+            Ok(_) => Ok(bytes),
+            Err(error) => Err(DataFault::File(MASTER, error)),
+        }
+    }
+
+    /// The device of a copy's log that is there.
+    fn kept_device(&self, copy: u32) -> Result<FileDevice<File>, DataFault> {
+        let path = self.copy_path(copy)?;
+        let opened = match fs::open(self.rt, path.as_str()) {
+            Ok(file) => FileDevice::open(self.rt.alloc(), file),
+            Err(error) => Err(error),
+        };
+        match opened {
+            Ok(device) => Ok(device),
+            Err(error) => Err(DataFault::CopyFile(copy, error)),
+        }
+    }
+
     /// The device of a log, which is made where it is missing.
     fn device(&self, name: &'static str) -> Result<FileDevice<File>, DataFault> {
         let path = self.path_of(name)?;
@@ -254,14 +350,14 @@ impl<'a, R: Files<File = File> + AllocGlobal> Folder<'a, R> {
     /// The index of the folder, whose copy is the primary.
     fn shard(&self, name: String, mapping: Mapping) -> Result<Shard<FileDevice<File>>, DataFault> {
         let alloc = self.rt.alloc();
+        if self.has_several()? {
+            return Err(DataFault::SeveralCopies);
+        }
         let (copy, master) = self.devices()?;
         let master = match Master::begin(alloc, 1, master) {
             Ok(master) => master,
             Err(refused) => return Err(DataFault::Master(refused.into_fault())),
         };
-        if master.state().next != 2 {
-            return Err(DataFault::SeveralCopies);
-        }
         let copy = if master.state().term == 1 {
             begun_or_opened(alloc, mapping, copy)?
         } else {
@@ -290,7 +386,7 @@ fn begun_or_opened(
                 fault: CopyFault::Mismatch,
             },
         ) => opened(alloc, kept, device),
-        Err(refused) => Err(DataFault::Copy(refused.into_fault())),
+        Err(refused) => Err(DataFault::Copy(1, refused.into_fault())),
     }
 }
 
@@ -301,7 +397,7 @@ fn opened(
 ) -> Result<Copy<FileDevice<File>>, DataFault> {
     match Copy::open(alloc, 1, Birth::First, mapping, device) {
         Ok(copy) => Ok(copy),
-        Err(refused) => Err(DataFault::Copy(refused.into_fault())),
+        Err(refused) => Err(DataFault::Copy(1, refused.into_fault())),
     }
 }
 

@@ -1,6 +1,7 @@
 //! `indexd`: an index of JSON documents, played from a script or served over HTTP.
 #![tactic(auto)]
 
+mod auditing;
 mod command;
 mod command_line;
 mod connections;
@@ -11,6 +12,7 @@ mod dumping;
 mod explaining;
 mod fault;
 mod index_name;
+mod journal_folder;
 mod names;
 mod playing;
 mod program;

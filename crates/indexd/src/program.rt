@@ -3,6 +3,7 @@ ghost use Rattle.std.specs.Prelude.{◌≡◌, ◌<◌, IfSome, OnOk, codes};
 ghost use Rattle.std.specs.Io.KnownBytes.{Appends};
 ghost use Rattle.indexd.specs.Output.{lines};
 
+use crate::auditing::judge;
 use crate::command_line::{Played, Task, task_of};
 use crate::dumping::{Dumped, dump};
 use crate::fault::ReplayFault;
@@ -58,13 +59,18 @@ where
         + Net<Listener = TcpListener, Stream = TcpStream>
         + Threads
         + Wait
-        + Sync,
+        + Copy
+        + Send
+        + Sync
+        + Drop
+        + 'static,
     ensures { result < 3 }
 {
     match task_of(rt.alloc(), words) {
         Ok(Task::Replay(played)) => run(rt, played, terminals, input, output, errors),
         Ok(Task::Serve(settings)) => run_server(rt, settings, output, errors),
         Ok(Task::Dump(dumped)) => run_dump(rt, dumped, output, errors),
+        Ok(Task::Audit(folder)) => run_audit(rt, folder, output, errors),
         Err(error) => explain(&error, output, errors),
     }
 }
@@ -78,14 +84,19 @@ fn run_server<R, O: Write, E: Write>(
 ) -> u8
 where
     R: Files<File = File>
+        + Clock
         + AllocGlobal
         + Net<Listener = TcpListener, Stream = TcpStream>
         + Threads
         + Wait
-        + Sync,
+        + Copy
+        + Send
+        + Sync
+        + Drop
+        + 'static,
     ensures { result < 2 }
 {
-    match serve(rt, settings, output) {
+    match serve(rt, settings, output, errors) {
         Ok(()) => 0,
         Err(fault) => {
             let _ = writeln!(errors, "indexd: {fault}");
@@ -107,6 +118,24 @@ fn run_dump<R: Files<File = File> + AllocGlobal, O: Write, E: Write>(
         Ok(()) => 0,
         Err(fault) => {
             let _ = writeln!(errors, "indexd: {fault}");
+            1
+        }
+    }
+}
+
+/// Judges the journals of a folder, and answers the exit status: 0, or 1 with one line on `errors`.
+fn run_audit<R: Files + AllocGlobal, O: Write, E: Write>(
+    rt: &R,
+    folder: &str,
+    output: &mut O,
+    errors: &mut E,
+) -> u8
+    ensures { result < 2 }
+{
+    match judge(rt, folder, output) {
+        Ok(()) => 0,
+        Err(fault) => {
+            let _ = writeln!(errors, "{fault}");
             1
         }
     }

@@ -1,9 +1,12 @@
 //! Serving an index over HTTP on 127.0.0.1.
 
-use crate::connections::serve_connections;
+use crate::connections::{Bounds, Index, serve_connections, serve_group};
 use crate::data_fault::DataFault;
-use crate::data_folder::{KeptIndex, MappingFile, open_index};
+use crate::data_folder::{KeptFolder, KeptIndex, MappingFile, open_folder, open_index};
 use crate::index_name::is_index_name;
+use crate::journal_folder::{KeepFault, keep_journals};
+use audit::{AuditFault, Journal, audit};
+use cluster::{Cluster, ClusterFault, Devices, InFolder, InMemory, Open, Unopened};
 use doc::{DocFault, Mapping};
 use front::Service;
 use serde_json::Value;
@@ -16,8 +19,9 @@ use std::net::{Net, TcpListener, TcpStream};
 use std::rt::Files;
 use std::sync::Wait;
 use std::thread::Threads;
+use std::time::Clock;
 use std::{fmt, fs, io};
-use translog::MemDevice;
+use translog::{FileDevice, LogDevice, MemDevice};
 
 /// The greatest mapping file that is read, in bytes.
 const MAX_MAPPING: u64 = 1_048_576;
@@ -31,22 +35,45 @@ pub(crate) struct Settings<'a> {
     pub(crate) mapping: Option<&'a str>,
     /// The folder that the index is kept in; with none it is in memory.
     pub(crate) data: Option<&'a str>,
+    /// How many copies the index has, 1 to 5.
+    pub(crate) copies: u64,
     /// After how many connections the server ends; with none it goes on.
     pub(crate) connections: Option<u64>,
+    /// Whether what the copies did is audited at the end.
+    pub(crate) audit: bool,
+    /// The folder that the journals are written to before they are audited.
+    pub(crate) journals: Option<&'a str>,
+    /// After how many milliseconds the index is refreshed again; 0 for never.
+    pub(crate) refresh: u64,
+}
+
+impl<'a> Settings<'a> {
+    fn bounds(self) -> Bounds {
+        Bounds {
+            connections: self.connections,
+            refresh: self.refresh,
+        }
+    }
 }
 
 /// Why the server doesn't start, or ends. Faults are looked for in this order, with want of memory anywhere.
-#[derive(Debug, Drop)]
+#[derive(Drop)]
 pub(crate) enum ServeFault {
     IndexName,
     Unread(io::Error),
     TooLarge,
     NotJson(serde_json::Error),
     Mapping(DocFault),
+    AuditInFolder,
+    EndlessAudit,
+    JournalsAlone,
     Data(DataFault),
+    Copies(ClusterFault),
     Port(u16, io::Error),
     Output(io::Error),
     Connection(io::Error),
+    Journals(KeepFault),
+    Audit(AuditFault),
     NoMemory,
 }
 
@@ -61,7 +88,19 @@ impl Display for ServeFault {
             ServeFault::TooLarge => write!(f, "the mapping file has more than 1,048,576 bytes"),
             ServeFault::NotJson(error) => write!(f, "the mapping file isn't JSON: {error}"),
             ServeFault::Mapping(fault) => write!(f, "the mapping file is no mapping: {fault}"),
+            ServeFault::AuditInFolder => write!(
+                f,
+                "--audit is of a new index in memory: leave out --data, or --audit"
+            ),
+            ServeFault::EndlessAudit => write!(
+                f,
+                "--audit is of a run that ends: give --connections too"
+            ),
+            ServeFault::JournalsAlone => {
+                write!(f, "--journals are those of an audit: give --audit too")
+            }
             ServeFault::Data(fault) => write!(f, "the data folder: {fault}"),
+            ServeFault::Copies(fault) => write!(f, "the copies: {fault}"),
             ServeFault::Port(port, error) => write!(
                 f,
                 "port {port} can't be had: {error}; give another one by --port"
@@ -70,6 +109,8 @@ impl Display for ServeFault {
             ServeFault::Connection(error) => {
                 write!(f, "no connection can be had any more: {error}")
             }
+            ServeFault::Journals(fault) => write!(f, "the journals: {fault}"),
+            ServeFault::Audit(fault) => write!(f, "the audit: {fault}"),
             ServeFault::NoMemory => write!(f, "out of memory"),
         }
     }
@@ -81,35 +122,139 @@ impl From<AllocError> for ServeFault {
     }
 }
 
+impl From<DataFault> for ServeFault {
+    fn from(fault: DataFault) -> ServeFault {
+        match fault {
+            DataFault::NoMemory => ServeFault::NoMemory,
+            other => ServeFault::Data(other),
+        }
+    }
+}
+
+impl From<KeepFault> for ServeFault {
+    fn from(fault: KeepFault) -> ServeFault {
+        match fault {
+            KeepFault::NoMemory => ServeFault::NoMemory,
+            other => ServeFault::Journals(other),
+        }
+    }
+}
+
+impl From<ClusterFault> for ServeFault {
+    fn from(fault: ClusterFault) -> ServeFault {
+        match fault {
+            ClusterFault::NoMemory => ServeFault::NoMemory,
+            other => ServeFault::Copies(other),
+        }
+    }
+}
+
 /// Serves an index until the last connection that is wanted has ended. Where it listens is printed first.
-pub(crate) fn serve<R, O>(rt: &R, settings: Settings<'_>, output: &mut O) -> Result<(), ServeFault>
+pub(crate) fn serve<R, O, E>(
+    rt: &R,
+    settings: Settings<'_>,
+    output: &mut O,
+    errors: &mut E,
+) -> Result<(), ServeFault>
 where
     R: Files<File = File>
         + AllocGlobal
         + Net<Listener = TcpListener, Stream = TcpStream>
         + Threads
         + Wait
-        + Sync,
+        + Clock
+        + Copy
+        + Send
+        + Sync
+        + Drop
+        + 'static,
     O: Write,
+    E: Write,
 {
     let alloc = rt.alloc();
     if !is_index_name(settings.index) {
         return Err(ServeFault::IndexName);
     }
+    check(settings)?;
     let mapping = mapping_of(rt, settings.mapping)?;
-    let name = String::from_str(alloc, settings.index)?;
     let Some(folder) = settings.data else {
-        let shard = in_memory(alloc, name, mapping.as_ref())?;
-        return listen(rt, settings, shard, output);
+        return serve_memory(rt, settings, mapping.as_ref(), output);
     };
-    let KeptIndex { shard, lock } = match open_index(rt, folder, name, mapping.as_ref()) {
-        Ok(kept) => kept,
-        Err(DataFault::NoMemory) => return Err(ServeFault::NoMemory),
-        Err(fault) => return Err(ServeFault::Data(fault)),
-    };
+    if settings.copies == 1 {
+        let name = String::from_str(alloc, settings.index)?;
+        match open_index(rt, folder, name, mapping.as_ref()) {
+            Ok(kept) => return serve_kept(rt, settings, kept, output),
+            Err(DataFault::SeveralCopies) => {}
+            Err(fault) => return Err(ServeFault::from(fault)),
+        }
+    }
+    serve_kept_copies(rt, settings, folder, mapping.as_ref(), output, errors)
+}
+
+/// Serves a new index in memory.
+fn serve_memory<R, O>(
+    rt: &R,
+    settings: Settings<'_>,
+    mapping: Option<&MappingFile>,
+    output: &mut O,
+) -> Result<(), ServeFault>
+where
+    R: Files<File = File>
+        + AllocGlobal
+        + Net<Listener = TcpListener, Stream = TcpStream>
+        + Threads
+        + Wait
+        + Clock
+        + Copy
+        + Send
+        + Sync
+        + Drop
+        + 'static,
+    O: Write,
+{
+    if settings.copies > 1 || settings.audit {
+        return serve_copies(rt, settings, mapping, output);
+    }
+    let alloc = rt.alloc();
+    let name = String::from_str(alloc, settings.index)?;
+    let shard = in_memory(alloc, name, mapping)?;
+    listen(rt, settings, shard, output)
+}
+
+/// Serves an index of one copy that is kept in a folder.
+fn serve_kept<R, O>(
+    rt: &R,
+    settings: Settings<'_>,
+    kept: KeptIndex,
+    output: &mut O,
+) -> Result<(), ServeFault>
+where
+    R: AllocGlobal
+        + Net<Listener = TcpListener, Stream = TcpStream>
+        + Threads
+        + Wait
+        + Clock
+        + Sync,
+    O: Write,
+{
+    let KeptIndex { shard, lock } = kept;
     let ended = listen(rt, settings, shard, output);
     drop(lock);
     ended
+}
+
+/// Whether the settings go together.
+fn check(settings: Settings<'_>) -> Result<(), ServeFault> {
+    if settings.audit && settings.data.is_some() {
+        return Err(ServeFault::AuditInFolder);
+    }
+    if settings.audit && settings.connections.is_none() {
+        return Err(ServeFault::EndlessAudit);
+    }
+    if settings.journals.is_some() && !settings.audit {
+        return Err(ServeFault::JournalsAlone);
+    }
+    Ok(())
 }
 
 /// A new index in memory.
@@ -135,6 +280,159 @@ fn refused(fault: DocFault) -> ServeFault {
     }
 }
 
+/// Serves a new index of copies on threads of their own, in memory.
+fn serve_copies<R, O>(
+    rt: &R,
+    settings: Settings<'_>,
+    mapping: Option<&MappingFile>,
+    output: &mut O,
+) -> Result<(), ServeFault>
+where
+    R: Files<File = File>
+        + AllocGlobal
+        + Net<Listener = TcpListener, Stream = TcpStream>
+        + Threads
+        + Wait
+        + Clock
+        + Copy
+        + Send
+        + Sync
+        + Drop
+        + 'static,
+    O: Write,
+{
+    let alloc = rt.alloc();
+    let fields = fields_of(alloc, mapping)?;
+    let copies = settings.copies.max(1).min(5) as u8;
+    let devices = InMemory { alloc };
+    let cluster = Cluster::start(rt, alloc, fields.copy(alloc)?, copies, devices, Open)?;
+    let index = Index {
+        name: settings.index,
+        mapping: &fields,
+        client: cluster.client(),
+    };
+    let ended = listen_to_group(rt, settings, &index, output);
+    let journals = cluster.close(rt)?;
+    ended?;
+    if let Some(folder) = settings.journals {
+        keep_journals(rt, folder, mapping, &journals)?;
+    }
+    if settings.audit {
+        audited(alloc, &fields, &journals, output)?;
+    }
+    Ok(())
+}
+
+/// Serves an index of copies on threads of their own that is kept in a folder. It begins with those that the folder has; more are added where fewer
+/// than are wanted could be opened, and those that couldn't be are told.
+fn serve_kept_copies<R, O, E>(
+    rt: &R,
+    settings: Settings<'_>,
+    folder: &str,
+    mapping: Option<&MappingFile>,
+    output: &mut O,
+    errors: &mut E,
+) -> Result<(), ServeFault>
+where
+    R: Files<File = File>
+        + AllocGlobal
+        + Net<Listener = TcpListener, Stream = TcpStream>
+        + Threads
+        + Wait
+        + Clock
+        + Copy
+        + Send
+        + Sync
+        + Drop
+        + 'static,
+    O: Write,
+    E: Write,
+{
+    let alloc = rt.alloc();
+    let KeptFolder {
+        mapping: fields,
+        lock,
+    } = open_folder(rt, folder, mapping)?;
+    let copies = settings.copies.max(1).min(5) as u8;
+    let devices = InFolder::new(*rt, String::from_str(alloc, folder)?);
+    let mut cluster = Cluster::open(rt, alloc, fields.copy(alloc)?, copies, devices, Open)?;
+    let lacking = lacking(rt, &cluster, settings.copies)?;
+    for copy in cluster.unopened() {
+        let _ = writeln!(errors, "indexd: {copy}; it leaves the index");
+    }
+    for _ in 0..lacking {
+        cluster.allocate(rt)?;
+    }
+    let index = Index {
+        name: settings.index,
+        mapping: &fields,
+        client: cluster.client(),
+    };
+    let ended = listen_to_group(rt, settings, &index, output);
+    let closed = cluster.close(rt);
+    drop(lock);
+    ended?;
+    closed?;
+    Ok(())
+}
+
+/// How many copies are to be added, so that there are as many as are wanted.
+fn lacking<R, V>(
+    rt: &R,
+    cluster: &Cluster<FileDevice<File>, V, Open>,
+    wanted: u64,
+) -> Result<u64, ServeFault>
+where
+    R: Wait,
+    V: Devices<FileDevice<File>>,
+{
+    let state = cluster.client().state(rt)?;
+    let mut lacking = wanted;
+    for copy in state.in_sync.as_slice() {
+        if !is_among(*copy, cluster.unopened()) {
+            lacking = lacking.saturating_sub(1);
+        }
+    }
+    Ok(lacking)
+}
+
+fn is_among(copy: u32, unopened: &[Unopened]) -> bool {
+    unopened.iter().any(|it| it.copy == copy)
+}
+
+/// The mapping of a new index.
+fn fields_of(alloc: Global, mapping: Option<&MappingFile>) -> Result<Mapping, ServeFault> {
+    match mapping {
+        Some(mapping) => Mapping::from_value(alloc, &mapping.value).map_err(refused),
+        None => {
+            let empty = json_of(alloc, "{}")?;
+            Mapping::from_value(alloc, &empty).map_err(refused)
+        }
+    }
+}
+
+/// Says whether what the copies did is a run of the model.
+fn audited<O: Write>(
+    alloc: Global,
+    mapping: &Mapping,
+    journals: &[Journal],
+    output: &mut O,
+) -> Result<(), ServeFault> {
+    if journals.len() > u32::MAX as usize {
+        return Err(ServeFault::NoMemory);
+    }
+    match audit(alloc, mapping, journals) {
+        Ok(_world) => said(output, "audit ok").map_err(ServeFault::Output),
+        Err(AuditFault::NoMemory) => Err(ServeFault::NoMemory),
+        Err(fault) => Err(ServeFault::Audit(fault)),
+    }
+}
+
+fn said<O: Write>(output: &mut O, line: &str) -> io::Result<()> {
+    writeln!(output, "{line}")?;
+    output.flush()
+}
+
 /// Takes the port, and serves the connections that come to it.
 fn listen<R, O, S>(
     rt: &R,
@@ -143,23 +441,61 @@ fn listen<R, O, S>(
     output: &mut O,
 ) -> Result<(), ServeFault>
 where
-    R: AllocGlobal + Net<Listener = TcpListener, Stream = TcpStream> + Threads + Wait + Sync,
+    R: AllocGlobal
+        + Net<Listener = TcpListener, Stream = TcpStream>
+        + Threads
+        + Wait
+        + Clock
+        + Sync,
     O: Write,
     S: Service + Send + Drop,
 {
-    let port = settings.port;
-    let listener = match TcpListener::bind(rt, ("127.0.0.1", port)) {
-        Ok(listener) => listener,
-        Err(error) => return Err(ServeFault::Port(port, error)),
-    };
-    announce(output, port).map_err(ServeFault::Output)?;
-    match serve_connections(rt, rt.alloc(), &listener, service, settings.connections) {
-        Ok(()) => Ok(()),
-        Err(error) => if error.kind() == io::ErrorKind::OutOfMemory {
-            Err(ServeFault::NoMemory)
-        } else {
-            Err(ServeFault::Connection(error))
-        },
+    let listener = bound(rt, settings.port, output)?;
+    serve_connections(rt, rt.alloc(), &listener, service, settings.bounds()).map_err(ended)
+}
+
+/// Takes the port, and serves the connections that come to it to copies on threads.
+fn listen_to_group<R, O, D>(
+    rt: &R,
+    settings: Settings<'_>,
+    index: &Index<'_, D>,
+    output: &mut O,
+) -> Result<(), ServeFault>
+where
+    R: AllocGlobal
+        + Net<Listener = TcpListener, Stream = TcpStream>
+        + Threads
+        + Wait
+        + Clock
+        + Sync,
+    O: Write,
+    D: LogDevice + Send,
+{
+    let listener = bound(rt, settings.port, output)?;
+    serve_group(rt, rt.alloc(), &listener, index, settings.bounds()).map_err(ended)
+}
+
+/// Takes the port, and says so.
+fn bound<R: Net<Listener = TcpListener, Stream = TcpStream>, O: Write>(
+    rt: &R,
+    port: u16,
+    output: &mut O,
+) -> Result<TcpListener, ServeFault> {
+    match TcpListener::bind(rt, ("127.0.0.1", port)) {
+        Ok(listener) => {
+            announce(output, port).map_err(ServeFault::Output)?;
+            Ok(listener)
+        }
+        Err(error) => Err(ServeFault::Port(port, error)),
+    }
+}
+
+/// Why no more connections are served.
+fn ended(error: io::Error) -> ServeFault {
+    if error.kind() == io::ErrorKind::OutOfMemory {
+        ServeFault::NoMemory
+    } else {
+        ServeFault::Connection(error)
     }
 }
 

@@ -16,6 +16,8 @@ mod messages;
 #[cfg(test)]
 mod records;
 #[cfg(test)]
+mod rows;
+#[cfg(test)]
 mod trackers;
 #[cfg(test)]
 mod translogs;

@@ -1,0 +1,138 @@
+//! Judging the journals that a folder keeps.
+
+use crate::journal_folder::path_of;
+use audit::{AuditFault, audit};
+use journals::{JournalFault, read};
+use std::alloc::{AllocError, AllocFailed, Global};
+use std::fmt::Display;
+use std::io::{ErrorKind, Write};
+use std::rt::Files;
+use std::{fmt, fs, io};
+
+/// An index begins with five copies at most, and each id is given once; more journals than these no index has.
+const MOST: u32 = 1_000;
+
+/// Why the journals of a folder aren't judged, or aren't those of one run.
+#[derive(Debug, Drop)]
+pub(crate) enum AuditingFault {
+    /// A file, and why it can't be opened.
+    Open(String, io::Error),
+    /// A file, the line in it, and what is wrong there.
+    Line(String, u64, &'static str),
+    /// What the audit says, in words.
+    Refused(String),
+    Output(io::Error),
+    NoMemory,
+}
+
+impl Display for AuditingFault {
+    fn fmt<W: fmt::Write>(&self, f: &mut fmt::Formatter<W>) -> fmt::Result {
+        match self {
+            AuditingFault::Open(file, error) => write!(f, "indexd: {file}: {error}"),
+            AuditingFault::Line(file, line, wanted) => write!(f, "indexd: {file}:{line}: {wanted}"),
+            AuditingFault::Refused(text) => write!(f, "audit: {text}"),
+            AuditingFault::Output(error) => {
+                write!(f, "indexd: the output can't be written: {error}")
+            }
+            AuditingFault::NoMemory => write!(f, "indexd: out of memory"),
+        }
+    }
+}
+
+impl From<AllocError> for AuditingFault {
+    fn from(_refused: AllocError) -> AuditingFault {
+        AuditingFault::NoMemory
+    }
+}
+
+impl<T: Drop> From<AllocFailed<T>> for AuditingFault {
+    fn from(_refused: AllocFailed<T>) -> AuditingFault {
+        AuditingFault::NoMemory
+    }
+}
+
+impl From<io::Error> for AuditingFault {
+    fn from(error: io::Error) -> AuditingFault {
+        AuditingFault::Output(error)
+    }
+}
+
+/// The texts of the journals that a folder has: the master's, and those of copies 1, 2 and so on, up to the first that isn't there.
+fn texts_in<R: Files + AllocGlobal>(rt: &R, folder: &str) -> Result<Vec<String>, AuditingFault> {
+    let mut texts = Vec::new(rt.alloc());
+    for node in 0..MOST {
+        let file = path_of(rt.alloc(), folder, node as u64)?;
+        match fs::read_to_string(rt, file.as_str()) {
+            Ok(text) => texts.push(text)?,
+            Err(error) => {
+                if node == 0 || error.kind() != ErrorKind::NotFound {
+                    return Err(AuditingFault::Open(file, error));
+                }
+                return Ok(texts);
+            }
+        }
+    }
+    Ok(texts)
+}
+
+fn unread(alloc: Global, folder: &str, fault: JournalFault) -> AuditingFault {
+    match fault {
+        JournalFault::Line(node, line, wanted) => match path_of(alloc, folder, node) {
+            Ok(file) => AuditingFault::Line(file, line, wanted),
+            Err(_) => AuditingFault::NoMemory,
+        },
+        JournalFault::NoMemory => AuditingFault::NoMemory,
+        JournalFault::Empty => AuditingFault::NoMemory,
+    }
+}
+
+/// What an audit says, with the line of the entry: the first line of a journal is its head.
+fn told(alloc: Global, fault: &AuditFault) -> Result<String, AllocError> {
+    match fault {
+        AuditFault::Uncaused(node, place) => {
+            let line = place.saturating_add(2);
+            let who = name_of(alloc, *node)?;
+            format!(in alloc; "{who}: nothing in the journals causes entry {place} (line {line})")
+        }
+        AuditFault::Differs(node, place) => {
+            let line = place.saturating_add(2);
+            let who = name_of(alloc, *node)?;
+            format!(in alloc;
+                "{who}: entry {place} isn't what it would have answered (line {line})"
+            )
+        }
+        AuditFault::NoMemory => String::from_str(alloc, "out of memory"),
+    }
+}
+
+fn name_of(alloc: Global, node: u64) -> Result<String, AllocError> {
+    if node == 0 {
+        String::from_str(alloc, "the master")
+    } else {
+        format!(in alloc; "copy {node}")
+    }
+}
+
+/// Judges the journals of a folder, and writes `audit ok` where they are those of one run.
+pub(crate) fn judge<R: Files + AllocGlobal, O: Write>(
+    rt: &R,
+    folder: &str,
+    output: &mut O,
+) -> Result<(), AuditingFault> {
+    let alloc = rt.alloc();
+    let texts = texts_in(rt, folder)?;
+    let (mapping, journals) = match read(alloc, &texts) {
+        Ok(found) => found,
+        Err(fault) => return Err(unread(alloc, folder, fault)),
+    };
+    if journals.len() > MOST as usize {
+        return Err(AuditingFault::NoMemory);
+    }
+    match audit(alloc, &mapping, &journals) {
+        Ok(_world) => {
+            output.write_all(b"audit ok\n")?;
+            Ok(output.flush()?)
+        }
+        Err(fault) => Err(AuditingFault::Refused(told(alloc, &fault)?)),
+    }
+}
