@@ -187,6 +187,18 @@ fn serve_command<'a>(alloc: Global) -> Result<Command<'a>, AllocError> {
         "The folder that the index is kept in; where none is given, it is in memory and ends with the server",
     )
     .value_name("DIR");
+    let command = Command::new(alloc, "serve")
+        .about("Serves an index over HTTP, as Elasticsearch's requests ask it")
+        .after_help(KEPT)
+        .arg(port)?
+        .arg(index)?
+        .arg(mapping)?
+        .arg(data)?;
+    with_run(alloc, command)
+}
+
+/// The options of `serve` that say how many copies run, and for how long.
+fn with_run<'a>(alloc: Global, command: Command<'a>) -> Result<Command<'a>, AllocError> {
     let copies = option(
         alloc,
         "copies",
@@ -218,13 +230,7 @@ fn serve_command<'a>(alloc: Global) -> Result<Command<'a>, AllocError> {
     )
     .value_name("N")
     .value_parser(clap::value_parser!(u64).range(0..=86_400_000));
-    Command::new(alloc, "serve")
-        .about("Serves an index over HTTP, as Elasticsearch's requests ask it")
-        .after_help(KEPT)
-        .arg(port)?
-        .arg(index)?
-        .arg(mapping)?
-        .arg(data)?
+    command
         .arg(copies)?
         .arg(connections)?
         .arg(audit)?

@@ -1,14 +1,15 @@
 //! Connections, several at once.
 
 use crate::desk::Desk;
+use crate::noting::Noting;
 use cluster::Client;
 use doc::Mapping;
-use front::{Command, Service, StreamFault, serve_stream};
+use front::{Command, Reply, Service, StreamFault, serve_stream};
 use shard::Group;
 use std::alloc::Global;
 use std::io::{BufReader, Read};
 use std::net::{Shutdown, TcpListener, TcpStream};
-use std::sync::atomic::{AtomicU64, Ordering};
+use std::sync::atomic::{AtomicBool, AtomicU64, Ordering};
 use std::sync::{Mutex, Wait};
 use std::thread::Threads;
 use std::time::{Clock, Duration};
@@ -48,13 +49,13 @@ pub(crate) fn serve_connections<R: Threads + Wait + Clock + Sync, S: Service + S
         alloc,
         AT_ONCE + 1,
         &|lane| {
-            let mut desk = Desk {
+            let desk = Desk {
                 rt,
                 name: name.as_str(),
                 mapping: &mapping,
                 service: &held,
             };
-            queue.run(rt, lane, &mut desk)
+            queue.run(rt, lane, desk)
         },
     )?;
     for end in ends {
@@ -85,14 +86,14 @@ pub(crate) fn serve_group<R: Threads + Wait + Clock + Sync, D: LogDevice + Send>
         alloc,
         AT_ONCE + 1,
         &|lane| {
-            let mut group = Group {
+            let group = Group {
                 rt,
                 alloc,
                 name: index.name,
                 mapping: index.mapping,
                 client: index.client,
             };
-            queue.run(rt, lane, &mut group)
+            queue.run(rt, lane, group)
         },
     )?;
     for end in ends {
@@ -108,7 +109,7 @@ pub(crate) struct Bounds {
     pub(crate) refresh: u64,
 }
 
-/// The connections that come, how many of them have begun, and whether no more are served.
+/// The connections that come, how many of them have begun, whether something was written since the last refresh by time, and whether no more are served.
 #[derive(Drop)]
 struct Queue<'a> {
     alloc: Global,
@@ -116,7 +117,8 @@ struct Queue<'a> {
     begun: AtomicU64,
     most: u64,
     refresh: u64,
-    over: AtomicU64,
+    written: AtomicBool,
+    over: AtomicBool,
 }
 
 impl<'a> Queue<'a> {
@@ -127,18 +129,28 @@ impl<'a> Queue<'a> {
             begun: AtomicU64::new(0),
             most: bounds.connections.unwrap_or(u64::MAX),
             refresh: bounds.refresh,
-            over: AtomicU64::new(0),
+            written: AtomicBool::new(false),
+            over: AtomicBool::new(false),
         }
     }
 
     /// Serves connections, or in the last lane refreshes the index.
-    fn run<C: Clock, S: Service>(&self, clock: &C, lane: usize, service: &mut S) -> io::Result<()> {
+    fn run<C: Clock, S: Service + Drop>(
+        &self,
+        clock: &C,
+        lane: usize,
+        service: S,
+    ) -> io::Result<()> {
+        let mut service = Noting {
+            service,
+            written: &self.written,
+        };
         if lane == AT_ONCE {
-            self.refresh_in_turn(clock, service);
+            self.refresh_in_turn(clock, &mut service);
             return Ok(());
         }
-        let served = self.serve(service);
-        self.over.store(1, Ordering::SeqCst);
+        let served = self.serve(&mut service);
+        self.over.store(true, Ordering::SeqCst);
         served
     }
 
@@ -154,23 +166,33 @@ impl<'a> Queue<'a> {
         Ok(())
     }
 
-    /// Refreshes the index again and again until a lane has no more connections to serve. What is refused is tried again the next time.
+    /// Refreshes the index again and again until a lane has no more connections to serve.
     fn refresh_in_turn<C: Clock, S: Service>(&self, clock: &C, service: &mut S) {
         if self.refresh == 0 {
             return;
         }
         let mut left = self.refresh;
         for _ in 0..u64::MAX {
-            if self.over.load(Ordering::SeqCst) > 0 {
+            if self.over.load(Ordering::SeqCst) {
                 return;
             }
             let tick = left.min(TICK);
             thread::sleep(clock, Duration::from_millis(tick));
             left -= tick;
             if left == 0 {
-                let _ = service.call(Command::Refresh);
+                self.refresh_once(service);
                 left = self.refresh;
             }
+        }
+    }
+
+    /// Refreshes the index where something was written. What is refused is tried again the next time.
+    fn refresh_once<S: Service>(&self, service: &mut S) {
+        if !self.written.swap(false, Ordering::SeqCst) {
+            return;
+        }
+        if let Reply::Refused(_) = service.call(Command::Refresh) {
+            self.written.store(true, Ordering::SeqCst);
         }
     }
 }

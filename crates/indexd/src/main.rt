@@ -14,6 +14,7 @@ mod fault;
 mod index_name;
 mod journal_folder;
 mod names;
+mod noting;
 mod playing;
 mod program;
 mod refusal;
