@@ -14,6 +14,7 @@ if ! [[ $requests =~ ^[1-9][0-9]{2,7}$ ]]; then
 fi
 
 exec python3 - "$program" "$requests" <<'PROGRAM'
+import os
 import socket
 import subprocess
 import sys
@@ -29,8 +30,9 @@ connection.setsockopt(socket.IPPROTO_TCP, socket.TCP_NODELAY, 1)
 
 
 def spent():
-    """Processor time of the server so far, in microseconds."""
-    return int(open(f"/proc/{server.pid}/schedstat").read().split()[0]) / 1000
+    """Processor time of the server's threads so far, in microseconds."""
+    tasks = f"/proc/{server.pid}/task"
+    return sum(int(open(f"{tasks}/{it}/schedstat").read().split()[0]) for it in os.listdir(tasks)) / 1000
 
 
 def ask(request):
