@@ -1,51 +1,70 @@
 -- The master with its journal.
-use Rattle.std.specs.Prelude.{◌≡◌, ℕ, List, [], ◌∷◌, ◌++◌, Result, Ok, Err}
+use Rattle.std.specs.Prelude.{◌≡◌, ◌⊎◌, ℕ, true, List, [], ◌∷◌, ◌++◌, Option, Some, None, Result, Ok, Err}
 use Rattle.audit.specs.declared.journal.Ruling.{Ruling}
 use Rattle.audit.specs.Audit.{begins_open}
-use Rattle.audit.specs.Rulings.{AreLegal, MayRule, ruled_at, ruler_after}
+use Rattle.audit.specs.Rulings.{AreLegal, IsLegalRuling, next_ruler, ruler_after}
 use Rattle.master.specs.declared.fault.MasterFault.{MasterFault}
 use Rattle.master.specs.declared.fault.MasterFault.TheVariants.{OldTerm, NotInSync, IsPrimary, Gone, Log, NoMemory, Full}
 use Rattle.master.specs.declared.state.Decision.{Decision}
 use Rattle.master.specs.declared.state.Request.{Request}
 use Rattle.master.specs.declared.state.State.{State}
+use Rattle.master.specs.Log.{kept_state}
 use Rattle.master.specs.Logged.{Logged}
 
--- what the master was when its journal began, its entries, and the master with its log
+-- what the master was when its journal began, its entries, the entry of a decision that its log failed to keep, and the master with its log
 pub record RuledData : Type 0 where
   pub opening : State
   pub rulings : List Ruling
+  pub unsure : Option Ruling
   pub master : Logged
+
+-- the log has a decision all the same that it failed to keep
+pub record IsFound (s : State) (log : List ℕ) (r : Ruling) : Type 0 where
+  pub legal : IsLegalRuling (begins_open s) r
+  pub left : State
+  pub after : next_ruler (begins_open s) r ≡ begins_open left
+  pub kept : kept_state log ≡ Ok left
+
+-- the log of a closed master keeps its state, or also the decision that it failed to keep
+abbrev pub MayKeep : State → List ℕ → Option Ruling → Type 0
+MayKeep s log None = kept_state log ≡ Ok s
+MayKeep s log (Some r) = (kept_state log ≡ Ok s) ⊎ IsFound s log r
 
 -- the journal is legal, and the master is what it says
 pub record IsRuled (r : RuledData) : Type 0 where
   pub legal : AreLegal (begins_open r.opening) r.rulings
-  pub after : ruler_after (begins_open r.opening) r.rulings ≡ record { state = r.master.state; closed = r.master.closed }
-
--- the answer is one that the master may give, and leaves it so
-pub record Rules (old new : Logged) (request : Request) (answer : Result Decision MasterFault) : Type 0 where
-  pub legal : MayRule old.state old.closed request answer
-  pub left : ruled_at old.state old.closed request answer ≡ record { state = new.state; closed = new.closed }
+  pub after : ruler_after (begins_open r.opening) r.rulings ≡ begins_open r.master.state
+  pub shut : r.master.closed ≡ true → MayKeep r.master.state r.master.log r.unsure
 
 abbrev pub ruling : ℕ → Request → Result Decision MasterFault → Ruling
 ruling pass request answer = record { pass = pass; request = request; answer = answer }
 
+-- a closed master was opened again, and its log had the decision that failed
+pub record IsEntered (old : RuledData) (rulings : List Ruling) : Type 0 where
+  pub closed : old.master.closed ≡ true
+  pub entry : Ruling
+  pub unsure : old.unsure ≡ Some entry
+  pub more : rulings ≡ old.rulings ++ entry ∷ []
+
+-- nothing of the journal has changed, but that a decision is in it which a closed master's log has
+pub record IsUnasked (old new : RuledData) : Type 0 where
+  pub opening : new.opening ≡ old.opening
+  pub rulings : (new.rulings ≡ old.rulings) ⊎ IsEntered old new.rulings
+
 -- one request is one entry more
 pub record IsRuling (old new : RuledData) (pass : ℕ) (request : Request) (answer : Result Decision MasterFault) : Type 0 where
   pub opening : new.opening ≡ old.opening
-  pub rulings : new.rulings ≡ old.rulings ++ ruling pass request answer ∷ []
+  pub before : List Ruling
+  pub unasked : (before ≡ old.rulings) ⊎ IsEntered old before
+  pub rulings : new.rulings ≡ before ++ ruling pass request answer ∷ []
 
--- nothing of the journal has changed
-pub record IsUnasked (old new : RuledData) : Type 0 where
-  pub opening : new.opening ≡ old.opening
-  pub rulings : new.rulings ≡ old.rulings
-
--- a refusal is an entry too, but for want of memory
+-- a refusal is an entry too, but for want of memory and a log that fails
 abbrev pub IsUnruled : RuledData → RuledData → ℕ → Request → MasterFault → Type 0
 IsUnruled old new pass request OldTerm = IsRuling old new pass request (Err OldTerm)
 IsUnruled old new pass request NotInSync = IsRuling old new pass request (Err NotInSync)
 IsUnruled old new pass request IsPrimary = IsRuling old new pass request (Err IsPrimary)
 IsUnruled old new pass request Gone = IsRuling old new pass request (Err Gone)
-IsUnruled old new pass request (Log f) = IsRuling old new pass request (Err (Log f))
+IsUnruled old new pass request (Log f) = IsUnasked old new
 IsUnruled old new pass request Full = IsRuling old new pass request (Err Full)
 IsUnruled old new pass request NoMemory = IsUnasked old new
 

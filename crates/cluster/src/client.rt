@@ -2,6 +2,7 @@
 ghost use Rattle.std.specs.Prelude.{◌≡◌, IfOk, IfErr};
 ghost use Rattle.master.specs.declared.state.Request.TheVariants.{Promote};
 ghost use Rattle.master.specs.declared.state.State.{State as MasterState};
+ghost use Rattle.node.specs.Reading.{IsGotAt};
 ghost use Rattle.cluster.specs.Ruled.{IsDecided, IsKnown};
 ghost use Rattle.cluster.specs.Confirmed.{Acknowledges, IsAnswerTo, IsBare, IsConfirmed, IsEndOf, IsRefusalBy, IsWriteRefused};
 
@@ -14,9 +15,10 @@ use crate::post::{Answered, Ending, Post};
 use crate::shared::Shared;
 use crate::shown::Shown;
 use crossbeam_channel::{Receiver, bounded};
+use doc::DocId;
 use master::{Decision, MasterFault, Request, State};
-use node::Receipt;
-use replica::{Input, Write, Written};
+use node::{Got, Receipt};
+use replica::{Answer, Input, Write, Written};
 use std::alloc::Global;
 use std::sync::{Arc, Wait};
 use translog::LogDevice;
@@ -55,6 +57,20 @@ impl<D: LogDevice> Client<D> {
         self.send(rt, copy, Post::Write(write, first, second))?;
         let receipt = received(rt, &answers)?;
         Ok(Begun { receipt, endings })
+    }
+
+    /// What a copy has of an id, of all its records. It waits for those that asked before, and leaves no entry.
+    pub fn get<R: Wait>(&self, rt: &R, copy: u32, id: DocId) -> Result<Answer, ClusterFault>
+        ensures { IfOk result (IsGotAt copy id) }
+    {
+        let asked = id.copy(self.alloc)?;
+        let (to, answers) = bounded(self.alloc, 1)?;
+        self.send(rt, copy, Post::Get(asked, to))?;
+        match answers.recv(rt) {
+            Ok(Ok(got)) => answer_in(got, copy, &id),
+            Ok(Err(fault)) => Err(ClusterFault::from(fault)),
+            Err(_) => Err(ClusterFault::NoMemory),
+        }
     }
 
     /// Has a copy do a get or a refresh, and waits for its entry.
@@ -173,6 +189,16 @@ fn answered(receipt: Receipt, copy: u32, input: &Input) -> Result<Receipt, Clust
         Some(fault) => Err(ClusterFault::Copy(fault)),
         None => Ok(receipt),
     }
+}
+
+/// What was read, where it is of this copy and this id.
+fn answer_in(got: Got, copy: u32, id: &DocId) -> Result<Answer, ClusterFault>
+    ensures { IfOk result (IsGotAt copy id.now) }
+{
+    if got.node() != copy || !got.id().is(id) {
+        return Err(ClusterFault::Stray(got.place()));
+    }
+    Ok(got.into_answer())
 }
 
 /// Waits until a write is confirmed, or its copy leads no more.

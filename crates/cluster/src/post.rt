@@ -2,7 +2,8 @@
 
 use crate::shown::Shown;
 use crossbeam_channel::Sender;
-use node::{NodeFault, Receipt};
+use doc::DocId;
+use node::{Got, NodeFault, Receipt};
 use op::Msg;
 use replica::{Input, Write};
 use std::alloc::Global;
@@ -31,6 +32,8 @@ pub(crate) enum Post {
     Report(u32),
     /// The term of which another copy was made the primary.
     Depose(u64),
+    /// To tell what the copy has of an id.
+    Get(DocId, Sender<Result<Got, NodeFault>, Global>),
     /// To hand out what the copy shows.
     Show(Sender<Result<Shown, NodeFault>, Global>),
     Stop,

@@ -1,8 +1,13 @@
 //! The master, with its journal.
-ghost use Rattle.std.specs.Prelude.{◌≡◌, [], true, false, IfOk, IfErr, Ok, Err};
+ghost use Rattle.std.specs.Prelude.{◌≡◌, [], true, false, None, IfOk, IfErr, OnOk, Ok, Err};
 ghost use Rattle.audit.specs.Audit.{IsLawful};
 ghost use Rattle.audit.specs.declared.journal.Journal.TheVariants.{OfMaster};
-ghost use Rattle.cluster.specs.Ruled.{IsDecided, IsKnown, IsRuling, IsUnruled, Rules};
+ghost use Rattle.cluster.specs.Ruled.{IsDecided, IsKnown, IsRuling, IsUnasked, IsUnruled};
+ghost use Rattle.master.specs.Decide.{decision_of, master_step};
+ghost use Rattle.master.specs.Fault.{fault_of, is_log};
+ghost use Rattle.translog.specs.Device.{count_after};
+ghost use Rattle.translog.specs.Fault as log;
+ghost use Rattle.translog.specs.Fault.{errs_with, is_device};
 
 use audit::{Journal, Ruling, Rulings};
 use master::{Decision, Master, MasterFault, Request, State};
@@ -15,6 +20,8 @@ use translog::{LogDevice, LogFault};
 pub struct Ruled<D: LogDevice> {
     opening: State,
     rulings: Vec<Ruling>,
+    /// The entry of a decision that the log failed to keep: where the master is closed the log may have it all the same.
+    unsure: Option<Ruling>,
     master: Master<D>,
 }
 
@@ -23,21 +30,22 @@ impl<D: LogDevice> Model for Ruled<D> {
 
     ghost Value = { RuledData };
 
-    ghost view = { λ r. record { opening = r.opening; rulings = r.rulings.items; master = r.master } };
+    ghost view = { λ r. record { opening = r.opening; rulings = r.rulings.items; unsure = r.unsure; master = r.master } };
 
-    ghost invariant = { λ r. IsRuled (record { opening = r.opening; rulings = r.rulings.items; master = r.master }) };
+    ghost invariant = { λ r. IsRuled (record { opening = r.opening; rulings = r.rulings.items; unsure = r.unsure; master = r.master }) };
 }
 
 impl<D: LogDevice> Ruled<D> {
     /// A master whose journal begins.
     pub fn begin(alloc: Global, master: Master<D>) -> Result<Ruled<D>, AllocError>
         requires { master.closed ≡ false }
-        ensures { IfOk result (λ r. r ≡ record { opening = master.state; rulings = []; master = master }) }
+        ensures { IfOk result (λ r. r ≡ record { opening = master.state; rulings = []; unsure = None; master = master }) }
     {
         let opening = master.state().copy(alloc)?;
         Ok(Ruled {
             opening,
             rulings: Vec::new(alloc),
+            unsure: None,
             master,
         })
     }
@@ -51,7 +59,8 @@ impl<D: LogDevice> Ruled<D> {
         self.master.state()
     }
 
-    /// One request, which is one entry of the journal, also where the master refuses. Want of memory leaves none.
+    /// One request, which is one entry of the journal, also where the master refuses. Want of memory and a fault of its log leave none. A
+    /// master whose log has failed is opened again first, so it refuses for its log only where that fails again.
     #[tactic(auto, using(crate::proofs::Rulings::decided_in))]
     pub fn ask(
         &mut self,
@@ -62,37 +71,110 @@ impl<D: LogDevice> Ruled<D> {
         ensures ok { IfOk result (λ d. IsRuling self.old self.new pass request (Ok d)) }
         ensures err { IfErr result (IsUnruled self.old self.new pass request) }
         ensures decided { IfOk result (IsDecided request) }
+        ensures open { OnOk result (self.new.master.closed ≡ false) }
+        ensures counts { self.new.master.failures ≡ count_after (errs_with is_log result) self.old.master.failures }
     {
+        if let Err(fault) = self.settle(alloc) {
+            return Err(fault);
+        }
         let answer = self.enter(alloc, pass, request);
         let _ = &self.opening;
         answer
     }
 
-    #[tactic(auto, using(crate::proofs::Rulings::ruled_more))]
+    /// Opens the master again where its log has failed. Where the log has the decision that failed, that is an entry now.
+    fn settle(&mut self, alloc: Global) -> Result<(), MasterFault>
+        ensures unasked { IsUnasked self.old self.new }
+        ensures open { OnOk result (self.new.master.closed ≡ false) }
+        ensures cause { IfErr result (λ e. fault_of e ≡ None) }
+        ensures counts { self.new.master.failures ≡ count_after (errs_with is_log result) self.old.master.failures }
+    {
+        if !self.master.is_closed() {
+            return Ok(());
+        }
+        self.rulings.reserve(1)?;
+        let known = self.master.state().copy(alloc)?;
+        if let Err(fault) = self.master.reopen(alloc) {
+            return Err(of_log(fault));
+        }
+        if self.master.state().is(&known) {
+            return Ok(());
+        }
+        if let Some(ruling) = self.unsure.take() {
+            self.rulings.push_reserved(ruling);
+        }
+        Ok(())
+    }
+
+    /// One request of a master that is open.
     fn enter(&mut self, alloc: Global, pass: u64, request: Request) -> Result<Decision, MasterFault>
+        requires { self.old.master.closed ≡ false }
         ensures ok { IfOk result (λ d. IsRuling self.old self.new pass request (Ok d)) }
         ensures err { IfErr result (IsUnruled self.old self.new pass request) }
+        ensures open { OnOk result (self.new.master.closed ≡ false) }
+        ensures counts { self.new.master.failures ≡ count_after (errs_with is_log result) self.old.master.failures }
+    {
+        match self.master.preview(alloc, request) {
+            Ok(looked) => self.decide(alloc, pass, request, looked),
+            Err(MasterFault::NoMemory) => Err(MasterFault::NoMemory),
+            Err(fault) => self.refuse(pass, request, fault),
+        }
+    }
+
+    /// Makes a decision that was looked at, which is the journal's.
+    fn decide(
+        &mut self,
+        alloc: Global,
+        pass: u64,
+        request: Request,
+        looked: Decision,
+    ) -> Result<Decision, MasterFault>
+        requires open { self.old.master.closed ≡ false }
+        requires looked { decision_of (master_step self.old.master.state request) ≡ Ok looked }
+        ensures ok { IfOk result (λ d. IsRuling self.old self.new pass request (Ok d)) }
+        ensures err { IfErr result (IsUnruled self.old self.new pass request) }
+        ensures open { OnOk result (self.new.master.closed ≡ false) }
+        ensures counts { self.new.master.failures ≡ count_after (errs_with is_log result) self.old.master.failures }
     {
         self.rulings.reserve(1)?;
-        match decided(&mut self.master, alloc, request) {
-            Ok((kept, given)) => {
-                self.rulings.push_reserved(Ruling {
-                    pass,
-                    request,
-                    answer: Ok(kept),
-                });
-                Ok(given)
+        let ruling = Ruling {
+            pass,
+            request,
+            answer: Ok(looked),
+        };
+        match self.master.step(alloc, request) {
+            Ok(made) => {
+                self.rulings.push_reserved(ruling);
+                Ok(made)
             }
-            Err(MasterFault::NoMemory) => Err(MasterFault::NoMemory),
             Err(fault) => {
-                self.rulings.push_reserved(Ruling {
-                    pass,
-                    request,
-                    answer: Err(copied(&fault)),
-                });
+                self.unsure = Some(ruling);
                 Err(fault)
             }
         }
+    }
+
+    /// Enters a refusal of the table.
+    fn refuse(
+        &mut self,
+        pass: u64,
+        request: Request,
+        fault: MasterFault,
+    ) -> Result<Decision, MasterFault>
+        requires open { self.old.master.closed ≡ false }
+        requires refused { fault_of fault ≡ Some fault }
+        requires cause { master_step self.old.master.state request ≡ Err fault }
+        ensures ok { IfOk result (λ d. IsRuling self.old self.new pass request (Ok d)) }
+        ensures err { IfErr result (IsUnruled self.old self.new pass request) }
+        ensures open { OnOk result (self.new.master.closed ≡ false) }
+        ensures counts { self.new.master.failures ≡ count_after (errs_with is_log result) self.old.master.failures }
+    {
+        self.rulings.push(Ruling {
+            pass,
+            request,
+            answer: Err(copied(&fault)),
+        })?;
+        Err(fault)
     }
 
     /// The journal, which is legal.
@@ -103,7 +185,7 @@ impl<D: LogDevice> Ruled<D> {
         let Ruled {
             opening,
             rulings,
-            master: _master,
+            ..
         } = self;
         Journal::OfMaster(opening, Rulings::from_vec(rulings))
     }
@@ -130,20 +212,14 @@ pub(crate) fn copied(fault: &MasterFault) -> MasterFault
     }
 }
 
-/// One request of the master: its decision, for the journal and for the caller. The journal's is there before the decision is made.
-fn decided<D: LogDevice>(
-    master: &mut Master<D>,
-    alloc: Global,
-    request: Request,
-) -> Result<(Decision, Decision), MasterFault>
-    ensures same { IfOk result (λ ds. ds.0 ≡ ds.1) }
-    ensures ok { IfOk result (λ ds. Rules master.old master.new request (Ok ds.1)) }
-    ensures err { IfErr result (λ e. Rules master.old master.new request (Err e)) }
+/// A log that couldn't be opened, as a fault of the master.
+fn of_log(fault: LogFault) -> MasterFault
+    requires { log.fault_of fault ≡ None }
+    ensures cause { fault_of result ≡ None }
+    ensures device { is_log result ≡ is_device fault }
 {
-    if master.is_closed() {
-        return Err(MasterFault::Log(LogFault::Device));
+    match fault {
+        LogFault::NoMemory => MasterFault::NoMemory,
+        other => MasterFault::Log(other),
     }
-    let looked = master.preview(alloc, request)?;
-    let made = master.step(alloc, request)?;
-    Ok((looked, made))
 }

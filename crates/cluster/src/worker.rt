@@ -10,7 +10,8 @@ use crate::shared::Shared;
 use crate::shown::Shown;
 use crate::waits::Waits;
 use crossbeam_channel::Sender;
-use node::{Held, NodeFault, Pass, Receipt};
+use doc::DocId;
+use node::{Got, Held, NodeFault, Pass, Receipt};
 use op::Msg;
 use replica::{CopyFault, Input, Write};
 use std::alloc::Global;
@@ -82,6 +83,7 @@ impl<D: LogDevice, G: Gate> Worker<D, G> {
             Post::Hand(message, tries) => self.take(rt, message, tries),
             Post::Report(copy) => self.report(rt, copy),
             Post::Depose(term) => self.depose(term),
+            Post::Get(id, to) => self.get(rt, id, &to),
             Post::Show(to) => self.show(rt, &to),
             Post::Stop => {}
         }
@@ -218,6 +220,11 @@ impl<D: LogDevice, G: Gate> Worker<D, G> {
         if self.held.copy().term() < self.deposed {
             self.waits.end();
         }
+    }
+
+    fn get<R: Wait>(&mut self, rt: &R, id: DocId, to: &Sender<Result<Got, NodeFault>, Global>) {
+        let got = self.held.get(self.alloc, id);
+        let _ = to.send(rt, got);
     }
 
     fn show<R: Wait>(&mut self, rt: &R, to: &Sender<Result<Shown, NodeFault>, Global>) {

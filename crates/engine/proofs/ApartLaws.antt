@@ -157,7 +157,7 @@ module _ (ids : List Id) where
       ∙ elim (not (is_among ids q)) as (λ b. option_or (cond b (document_at p q) None) (cond b (document_at (woven ps) q) None) ≡ cond b (option_or (document_at p q) (document_at (woven ps) q)) None) [ true ↦ refl | false ↦ refl ]
       ∙ ap (λ o. cond (not (is_among ids q)) o None) (sym (find-woven_from p ps q))
 
-append-woven : (n : ℕ) (ps : List Documents) (q : Id) → option_or (document_at (woven (take n ps)) q) (document_at (woven (drop n ps)) q) ≡ document_at (woven ps) q
+pub append-woven : (n : ℕ) (ps : List Documents) (q : Id) → option_or (document_at (woven (take n ps)) q) (document_at (woven (drop n ps)) q) ≡ document_at (woven ps) q
 append-woven zero ps q = refl
 append-woven (suc n) [] q = refl
 append-woven (suc n) (p ∷ ps) q =

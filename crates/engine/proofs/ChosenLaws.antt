@@ -16,7 +16,8 @@ use Rattle.std.proofs.lemmas.List.{length_push}
 use Rattle.marks.specs.Lists.{zip_with, places, places_from}
 use Rattle.doc.specs.Id.{Id, id_cmp, is_id}
 use Rattle.op.specs.Documents.{Documents}
-use Rattle.engine.specs.Parts.{chosen, is_among}
+use Rattle.segment.specs.Merged.{chosen}
+use Rattle.engine.specs.Parts.{is_among}
 use Rattle.engine.proofs.PartLaws.{Item, true_T, both, first, second, less, turned}
 
 slice_after : {A : Type 0} (front : List A) (x : A) (rest : List A) (n : ℕ) → n ≡ length front → slice_get (front ++ x ∷ rest) n ≡ Some x

@@ -7,7 +7,8 @@ use Rattle.doc.specs.Mapping.{MappingData}
 use Rattle.doc.specs.Document.{DocData, all_values}
 use Rattle.engine.specs.declared.documents.Entry.{Entry}
 use Rattle.engine.specs.declared.block.Shown.{Shown}
-use Rattle.engine.specs.Shown.{shown_view, read_under}
+use Rattle.segment.specs.Merged.{read_under}
+use Rattle.engine.specs.Shown.{shown_view}
 use Rattle.query.specs.Query.{Query}
 use Rattle.query.specs.Meaning.{means}
 use Rattle.engine.specs.Answer.{is_found}

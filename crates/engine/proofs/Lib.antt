@@ -1,6 +1,5 @@
 pub mod PlaceLaws
 pub mod KeptLaws
-pub mod ShownLaws
 pub mod IndexLaws
 pub mod DocumentMap
 pub mod FoundLaws
@@ -11,3 +10,4 @@ pub mod RefreshLaws
 pub mod ShareLaws
 pub mod SnapshotLaws
 pub mod PageLaws
+pub mod SwapLaws

@@ -9,7 +9,8 @@ use Rattle.segment.proofs.Joins.{length-zip}
 use Rattle.segment.proofs.Steps.{places-below}
 use Rattle.doc.specs.Id.{Id}
 use Rattle.engine.specs.Answer.{SnapshotData}
-use Rattle.engine.specs.Parts.{chosen, documents_of_parts, is_among, without, woven}
+use Rattle.segment.specs.Merged.{chosen}
+use Rattle.engine.specs.Parts.{documents_of_parts, is_among, without, woven}
 use Rattle.engine.proofs.PartLaws.{Item, drop-take}
 use Rattle.engine.proofs.ChosenLaws.{chosen-places, chosen-counted, chosen-filter, copied}
 use Rattle.engine.proofs.FoundLaws.{each-some}

@@ -8,12 +8,6 @@ use Rattle.std.specs.FinMap.Entries.{put, where_key, is_sorted}
 use Rattle.doc.specs.Id.{Id, id_cmp, is_id}
 use Rattle.op.specs.Documents.{Document, Documents, document_at}
 
--- the elements whose mark is true
-abbrev pub chosen : {A : Type 0} → List A → List Bool → List A
-chosen [] bs = []
-chosen (x ∷ xs) [] = []
-chosen (x ∷ xs) (b ∷ bs) = if b then x ∷ chosen xs bs else chosen xs bs
-
 -- the documents of both; where both have an id, that of the first
 abbrev pub merged : Documents → Documents → Documents
 merged [] es = es

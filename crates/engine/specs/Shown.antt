@@ -4,8 +4,6 @@ use Rattle.std.specs.Prelude.{◌≡◌, ℕ, true, List, map, Vec}
 use Rattle.std.specs.declared.alloc.Global.{Global}
 use Rattle.std.specs.FinMap.Entries.{is_sorted}
 use Rattle.doc.specs.Id.{Id, id_cmp}
-use Rattle.doc.specs.Mapping.{MappingData}
-use Rattle.doc.specs.Document.{DocData, all_values}
 use Rattle.op.specs.Documents.{Document, Documents}
 use Rattle.engine.specs.declared.block.Shown.{Shown}
 use Rattle.engine.specs.declared.snapshot.Hit.{Hit}
@@ -28,10 +26,6 @@ seen rs = map (λ r. shown_view r.now) rs
 -- the documents of each of some lists
 abbrev pub seen_all : List (Vec (Bor Shown) Global) → List Documents
 seen_all vs = map (λ v. seen v.items) vs
-
--- a source read under a mapping: with its values where it fits, and else without
-abbrev pub read_under : MappingData → List ℕ → DocData
-read_under m source = record { source = source; values = all_values m source }
 
 abbrev pub hit_view : Hit → Id × List ℕ
 hit_view h = (h.id, h.source)

@@ -8,17 +8,18 @@ ghost use Rattle.doc.specs.Id.{Id, id_cmp, is_id};
 ghost use Rattle.op.specs.Documents.{Document};
 ghost use Rattle.query.specs.View.{query_view};
 ghost use Rattle.marks.specs.Lists.{zip_with, places};
+ghost use Rattle.segment.specs.Merged.{read_under};
 ghost use Rattle.engine.specs.Answer.{is_found};
 ghost use Rattle.engine.specs.Entry.{entry_view};
 ghost use Rattle.engine.specs.Parts.{is_among};
-ghost use Rattle.engine.specs.Shown.{shown_view, read_under};
+ghost use Rattle.engine.specs.Shown.{shown_view};
 
 use crate::documents::Entry;
-use doc::{Doc, DocFault, DocId, Mapping, Source};
+use doc::{Doc, DocId, Mapping, Source};
 use marks::Marks;
 use query::Query;
 use search::{FoundPlaces, find, find_all};
-use segment::Segment;
+use segment::{Segment, read_kept};
 use std::alloc::{AllocError, Global};
 use std::cmp::Ordering;
 use std::marker::Model;
@@ -239,18 +240,7 @@ fn docs_of(alloc: Global, mapping: &Mapping, entries: &[Entry<'_>]) -> Result<Ve
 {
     let mut docs = Vec::new(alloc);
     for entry in entries {
-        docs.push(doc_of(alloc, mapping, entry.source)?)?;
+        docs.push(read_kept(alloc, mapping, entry.source)?)?;
     }
     Ok(docs)
-}
-
-/// The document of a text that is kept: with its values where it fits the mapping, and else without.
-fn doc_of(alloc: Global, mapping: &Mapping, source: &Source) -> Result<Doc, AllocError>
-    ensures { IfOk result (λ d. d ≡ read_under mapping.now source.now) }
-{
-    match Doc::read(alloc, mapping, source.as_str().as_bytes()) {
-        Ok(doc) => Ok(doc),
-        Err(DocFault::NoMemory) => Err(AllocError),
-        Err(_) => Doc::bare(alloc, mapping, source),
-    }
 }

@@ -17,6 +17,7 @@ use crate::history::{Applied, Found, History};
 use crate::listed::Listed;
 use crate::snapshot::Snapshot;
 use crate::staged::{SnapshotChange, Staged};
+use crate::swapping::{Merged, Merging};
 use doc::{DocId, Mapping};
 use op::{Body, Op, Record};
 use std::alloc::{AllocError, Global};
@@ -61,7 +62,7 @@ impl Engine {
     {
         let mapping = Arc::new(alloc, mapping)?;
         let history = History::of(alloc, records)?;
-        let snapshot = snapshot_of(alloc, &mapping, &history)?;
+        let snapshot = snapshot_of(alloc, &mapping, 0, &history)?;
         let point = history.len();
         Ok(Engine {
             mapping,
@@ -120,7 +121,8 @@ impl Engine {
             }
             SnapshotChange::Reopen(records) => {
                 let reopened = History::of(alloc, records)?;
-                let snapshot = snapshot_of(alloc, &self.mapping, &reopened)?;
+                let number = self.snapshot.next_number();
+                let snapshot = snapshot_of(alloc, &self.mapping, number, &reopened)?;
                 let point = reopened.len();
                 Ok(Staged {
                     history: Some(reopened),
@@ -139,7 +141,12 @@ impl Engine {
             return Ok(Arc::try_clone(&self.snapshot)?);
         }
         let Some(ids) = self.history.ids_since(alloc, self.point)? else {
-            return snapshot_of(alloc, &self.mapping, &self.history);
+            return snapshot_of(
+                alloc,
+                &self.mapping,
+                self.snapshot.next_number(),
+                &self.history,
+            );
         };
         let entries = documents_at(alloc, &self.history, &ids)?;
         let snapshot = self.snapshot.with(alloc, &ids, &entries)?;
@@ -161,6 +168,29 @@ impl Engine {
         }
         self.snapshot = snapshot;
         self.point = point;
+    }
+
+    /// Begins a merge of all parts that searches look through. It changes nothing.
+    pub fn begin_merge(&self) -> Result<Merging, AllocError>
+        ensures { IfOk result (λ m. m ≡ record { mapping = self.now.mapping; documents = documents (shown self.now.records self.now.point) }) }
+    {
+        let snapshot = Arc::try_clone(&self.snapshot)?;
+        Ok(Merging { snapshot })
+    }
+
+    /// Puts a merged part in place of those that it is made of: documents that aren't live in them any more aren't live in it. Where one of
+    /// these parts isn't there any more, as after a restart, it is `false` and all parts stay. What the engine has and what searches show
+    /// stays in any case.
+    pub fn swap_merged(&mut self, alloc: Global, merged: Merged) -> Result<bool, AllocError>
+        ensures { self.new ≡ self.old }
+    {
+        match self.snapshot.swapped(alloc, &merged)? {
+            Some(snapshot) => {
+                self.snapshot = Arc::new(alloc, snapshot)?;
+                Ok(true)
+            }
+            None => Ok(false),
+        }
     }
 
     /// How many records searches show.
@@ -264,11 +294,12 @@ impl Engine {
 fn snapshot_of(
     alloc: Global,
     mapping: &Arc<Mapping, Global>,
+    number: u64,
     history: &History,
 ) -> Result<Arc<Snapshot, Global>, AllocError>
     ensures { IfOk result (λ s. arc_value s ≡ record { mapping = arc_value mapping.now; documents = documents (operations history.now) }) }
 {
     let mapping = Arc::try_clone(mapping)?;
-    let snapshot = Snapshot::of(alloc, mapping, history.operations())?;
+    let snapshot = Snapshot::of(alloc, mapping, number, history.operations())?;
     Ok(Arc::new(alloc, snapshot)?)
 }

@@ -13,9 +13,11 @@ mod paging;
 mod part;
 pub mod snapshot;
 pub mod staged;
+pub mod swapping;
 
 pub use engine::{Engine, Last};
 pub use history::{Applied, Found};
 pub use listed::Listed;
 pub use snapshot::{Hit, Hits, Snapshot};
 pub use staged::{SnapshotChange, Staged};
+pub use swapping::{Merged, Merging};

@@ -23,6 +23,7 @@ use std::sync::Arc;
 /// Documents that were put into one segment, and which of them are live: those that no later part has, and that weren't deleted.
 #[derive(Drop)]
 pub(crate) struct Part {
+    number: u64,
     block: Arc<Block, Global>,
     live: Marks,
     /// Where it is set, no document is dead.
@@ -32,7 +33,8 @@ pub(crate) struct Part {
 impl Model for Part {
     ghost use Rattle.std.specs.Arc.{arc_value};
     ghost use Rattle.engine.specs.Answer.{SnapshotData};
-    ghost use Rattle.engine.specs.Parts.{chosen, IsPart};
+    ghost use Rattle.segment.specs.Merged.{chosen};
+    ghost use Rattle.engine.specs.Parts.{IsPart};
 
     ghost Value = { SnapshotData };
 
@@ -60,6 +62,7 @@ impl Part {
     pub(crate) fn of(
         alloc: Global,
         mapping: &Arc<Mapping, Global>,
+        number: u64,
         entries: &[Entry<'_>],
     ) -> Result<Part, AllocError>
         requires { is_sorted id_cmp (map entry_view entries.now) ≡ true }
@@ -69,10 +72,34 @@ impl Part {
         let live = Marks::all(alloc, block.len())?;
         let block = Arc::new(alloc, block)?;
         Ok(Part {
+            number,
             block,
             live,
             all_live: true,
         })
+    }
+
+    /// The number that no other part of a copy has or had.
+    pub(crate) fn number(&self) -> u64 {
+        self.number
+    }
+
+    /// The same part under another number.
+    pub(crate) fn numbered(self, number: u64) -> Part
+        ensures { result ≡ self }
+    {
+        let Part {
+            number: _,
+            block,
+            live,
+            all_live,
+        } = self;
+        Part {
+            number,
+            block,
+            live,
+            all_live,
+        }
     }
 
     /// How many documents were put into it, live or not.
@@ -154,6 +181,7 @@ impl Part {
         let all_live = live.count() == len;
         let block = Arc::try_clone(&self.block)?;
         Ok(Part {
+            number: self.number,
             block,
             live,
             all_live,

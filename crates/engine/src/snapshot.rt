@@ -1,5 +1,5 @@
 //! What searches show.
-ghost use Rattle.std.specs.Prelude.{◌≡◌, ◌<◌, ◌≤◌, ◌+◌, ◌^◌, true, All, map, take, drop, filter, length, IfOk};
+ghost use Rattle.std.specs.Prelude.{◌≡◌, ◌<◌, ◌≤◌, ◌+◌, ◌^◌, true, All, map, take, drop, filter, length, IfOk, IfSome};
 ghost use Rattle.std.specs.Arc.{arc_value};
 ghost use Rattle.std.specs.FinMap.Entries.{is_sorted};
 ghost use Rattle.doc.specs.Id.{Id, id_cmp};
@@ -16,6 +16,7 @@ use crate::documents::{Entry, documents_of};
 use crate::merging::{merge, merge_owned};
 use crate::paging::{behind, find_pivot, page_behind};
 use crate::part::{Part, Share};
+use crate::swapping::{Merged, newer_than, next_number, numbers_of, showing};
 use doc::{DocId, Mapping, Source};
 use op::Op;
 use query::{Page, Query};
@@ -70,16 +71,17 @@ pub struct Hits {
 }
 
 impl Snapshot {
-    /// The documents that operations in ascending order make, in one part.
+    /// The documents that operations in ascending order make, in one part of this number.
     pub(crate) fn of(
         alloc: Global,
         mapping: Arc<Mapping, Global>,
+        number: u64,
         operations: &[Op],
     ) -> Result<Snapshot, AllocError>
         ensures { IfOk result (λ s. s ≡ record { mapping = arc_value mapping; documents = documents operations.now }) }
     {
         let entries = documents_of(alloc, operations)?;
-        let part = Part::of(alloc, &mapping, &entries)?;
+        let part = Part::of(alloc, &mapping, number, &entries)?;
         let mut parts = Vec::new(alloc);
         parts.push(part)?;
         Ok(Snapshot { mapping, parts })
@@ -113,10 +115,53 @@ impl Snapshot {
         let mut newer = parts_without(alloc, &self.parts, ids)?;
         let taken = taken_in(&newer, entries.len());
         let mut parts = newer.split_off(taken)?;
-        let part = joined(alloc, &self.mapping, entries, &newer)?;
+        let part = joined(alloc, &self.mapping, self.next_number(), entries, &newer)?;
         parts.insert(0, part)?;
         let mapping = Arc::try_clone(&self.mapping)?;
         Ok(Snapshot { mapping, parts })
+    }
+
+    /// The number of the next part. It is above those of all parts, and one of them has the greatest that was ever given.
+    pub(crate) fn next_number(&self) -> u64 {
+        next_number(&self.parts)
+    }
+
+    /// One part of all documents, and the numbers of the parts that it is made of.
+    pub(crate) fn merged(&self, alloc: Global) -> Result<Merged, AllocError>
+        ensures { IfOk result (λ m. m ≡ self.now) }
+    {
+        let part = joined(alloc, &self.mapping, 0, &[], &self.parts)?;
+        let bases = numbers_of(alloc, &self.parts)?;
+        let mapping = Arc::try_clone(&self.mapping)?;
+        Ok(Merged {
+            mapping,
+            bases,
+            part,
+        })
+    }
+
+    /// The same with a merged part in place of those that it is made of, where these are the oldest parts. What isn't live in them any more
+    /// isn't live in it.
+    pub(crate) fn swapped(
+        &self,
+        alloc: Global,
+        merged: &Merged,
+    ) -> Result<Option<Snapshot>, AllocError>
+        ensures { IfOk result (λ o. IfSome o (λ s. s ≡ self.now)) }
+    {
+        let Some(newer) = newer_than(&self.parts, &merged.bases) else {
+            return Ok(None);
+        };
+        if !self.mapping.is(&merged.mapping) {
+            return Ok(None);
+        }
+        let Some(part) = showing(alloc, &merged.part, &self.parts[newer..])? else {
+            return Ok(None);
+        };
+        let mut parts = parts_without(alloc, &self.parts[..newer], &[])?;
+        parts.push(part.numbered(self.next_number()))?;
+        let mapping = Arc::try_clone(&self.mapping)?;
+        Ok(Some(Snapshot { mapping, parts }))
     }
 }
 
@@ -256,6 +301,7 @@ fn taken_in(parts: &[Part], documents: usize) -> usize
 fn joined(
     alloc: Global,
     mapping: &Arc<Mapping, Global>,
+    number: u64,
     entries: &[Entry<'_>],
     parts: &[Part],
 ) -> Result<Part, AllocError>
@@ -265,11 +311,11 @@ fn joined(
 {
     let older = entries_of_parts(alloc, parts)?;
     let all = merge(alloc, entries, &older)?;
-    Part::of(alloc, mapping, &all)
+    Part::of(alloc, mapping, number, &all)
 }
 
 /// The documents of parts, in byte order of their ids.
-fn entries_of_parts(alloc: Global, parts: &[Part]) -> Result<Vec<Entry<'_>>, AllocError>
+pub(crate) fn entries_of_parts(alloc: Global, parts: &[Part]) -> Result<Vec<Entry<'_>>, AllocError>
     requires { AllInOrder (documents_of_parts parts.now) }
     ensures { IfOk result (λ v. map entry_view v.items ≡ woven (documents_of_parts parts.now)) }
 {

@@ -1,5 +1,5 @@
 -- What a request asks.
-use Rattle.std.specs.Prelude.{ℕ, ◌==◌, ◌&&◌, ◌||◌, not, Bool, true, false, codes, length, is_some, is_none, List, Option, Some, None, Result, Ok, Err, if◌then◌else◌}
+use Rattle.std.specs.Prelude.{ℕ, ◌^◌, ◌==◌, ◌&&◌, ◌||◌, not, nat_lt, Bool, true, false, codes, length, is_some, is_none, List, Option, Some, None, Result, Ok, Err, if◌then◌else◌}
 use Rattle.serde_json.specs.Data.{Data}
 use Rattle.serde_json.specs.Read.{read}
 use Rattle.doc.specs.Document.{DocData, doc_of}
@@ -14,15 +14,16 @@ use Rattle.front.specs.declared.command.Change.{Change}
 use Rattle.front.specs.declared.command.Change.TheVariants as change
 use Rattle.front.specs.declared.command.Condition.{Condition}
 use Rattle.front.specs.declared.target.Endpoint.{Endpoint}
-use Rattle.front.specs.declared.target.Endpoint.TheVariants.{Document, Create, Search, Count, Refresh, Bulk}
+use Rattle.front.specs.declared.target.Endpoint.TheVariants.{Document, Create, Search, Count, Refresh, Bulk, Promote}
 use Rattle.front.specs.declared.target.Method.{Method}
 use Rattle.front.specs.declared.target.Method.TheVariants.{Delete, Get, Post, Put, Other}
 use Rattle.front.specs.declared.target.Parameters.{Parameters}
-use Rattle.front.specs.Command.{Command, write, get, search, count, refresh}
+use Rattle.front.specs.Command.{Command, write, get, search, count, refresh, promote}
 use Rattle.front.specs.Fault.{Fault, of_document, of_query, no_index, bad_method, bad_parameter, bad_bulk}
 use Rattle.front.specs.BulkReading.{items_in}
 use Rattle.front.specs.Item.{Item, Asked, one, many}
 use Rattle.wire.specs.Framing.{Request}
+use Rattle.wire.specs.Number.{number_of}
 use Rattle.wire.specs.Pieces.{cut_at, text_of}
 use Rattle.front.specs.Target.{check, route_of, is_served, is_allowed, method_of, parameters_of}
 
@@ -60,6 +61,7 @@ fits Bulk m p = is_none p.create && is_none p.seq && is_none p.term
 fits Search m p = has_none p
 fits Count m p = has_none p
 fits Refresh m p = has_none p
+fits Promote m p = has_none p
 
 abbrev pub condition_of : Option ℕ → Option ℕ → Option Condition
 condition_of (Some seq) (Some term) = Some (record { seq = seq; term = term })
@@ -117,6 +119,14 @@ count_of mapping body = do
   q ← in_query (counted_of mapping d)
   Ok (count q)
 
+-- a promotion of the copy that a number is, from 1 up, of 32 bits at most
+abbrev pub promoting : Option ℕ → Result Command Fault
+promoting None = Err bad_parameter
+promoting (Some n) = if nat_lt 0 n && nat_lt n (2 ^ 32) then Ok (promote n) else Err bad_parameter
+
+abbrev pub promote_of : List ℕ → Result Command Fault
+promote_of id = promoting (number_of id)
+
 abbrev pub command_of : MappingData → Endpoint → Method → List ℕ → Parameters → List ℕ → Result Command Fault
 command_of mapping Document Get id p body = get_of id
 command_of mapping Document Delete id p body = delete_of id p
@@ -127,6 +137,7 @@ command_of mapping Create m id p body = put_of mapping true id p body
 command_of mapping Search m id p body = search_of mapping body
 command_of mapping Count m id p body = count_of mapping body
 command_of mapping Refresh m id p body = Ok refresh
+command_of mapping Promote m id p body = promote_of id
 command_of mapping Bulk m id p body = Err bad_bulk
 
 -- the index that items without one have
@@ -149,6 +160,7 @@ asked_of mapping Create m id p body named = one_of (command_of mapping Create m 
 asked_of mapping Search m id p body named = one_of (command_of mapping Search m id p body)
 asked_of mapping Count m id p body named = one_of (command_of mapping Count m id p body)
 asked_of mapping Refresh m id p body named = one_of (command_of mapping Refresh m id p body)
+asked_of mapping Promote m id p body named = one_of (command_of mapping Promote m id p body)
 
 -- what a request asks, or its first fault: of the route, the index, the method, the parameters, the id, the body
 unfoldable pub ask : List ℕ → MappingData → Request → Result Asked Fault

@@ -11,13 +11,13 @@ use Rattle.front.specs.declared.reply.Hit.{Hit}
 use Rattle.front.specs.declared.reply.Outcome.{Outcome}
 use Rattle.front.specs.declared.reply.Outcome.TheVariants.{Created, Updated, Deleted, NotFound}
 use Rattle.front.specs.declared.reply.Refusal.{Refusal}
-use Rattle.front.specs.declared.reply.Refusal.TheVariants.{NotPrimary, VersionConflict, WindowFull, OldTerm, NotSynced, BeyondWindow, Mismatch, Closed, Log, NoMemory, WrongAddress, Exhausted, NoSuchCopy, NoSuchMessage}
+use Rattle.front.specs.declared.reply.Refusal.TheVariants.{NotPrimary, VersionConflict, WindowFull, OldTerm, NotSynced, BeyondWindow, Mismatch, Closed, Log, NoMemory, WrongAddress, Exhausted, NoSuchCopy, NoSuchMessage, NotInSync, Gone, IsPrimary, Full}
 use Rattle.front.specs.declared.target.Endpoint.{Endpoint}
-use Rattle.front.specs.declared.target.Endpoint.TheVariants.{Document, Create, Search, Count, Refresh, Bulk}
-use Rattle.front.specs.Command.{Command, write, get, search, count, refresh}
+use Rattle.front.specs.declared.target.Endpoint.TheVariants.{Document, Create, Search, Count, Refresh, Bulk, Promote}
+use Rattle.front.specs.Command.{Command, write, get, search, count, refresh, promote}
 use Rattle.wire.specs.Fault.{bad_head, transfer_coding, body_too_large}
 use Rattle.front.specs.Fault.{Fault, of_head, no_route, no_index, bad_method, bad_parameter, bad_bulk, of_document, of_query}
-use Rattle.front.specs.Reply.{Reply, wrote, got, hits, counted, refreshed, refused}
+use Rattle.front.specs.Reply.{Reply, wrote, got, hits, counted, refreshed, promoted, refused}
 
 abbrev pub number_of : Status → List ℕ
 number_of status.Good = codes "200"
@@ -55,6 +55,7 @@ methods_of Bulk = codes "POST, PUT"
 methods_of Search = codes "GET, POST"
 methods_of Count = codes "GET, POST"
 methods_of Refresh = codes "GET, POST"
+methods_of Promote = codes "POST"
 
 abbrev pub allow_of : Fault → List ℕ
 allow_of (bad_method k) = codes "allow: " ++ (methods_of k ++ codes "\r\n")
@@ -100,6 +101,10 @@ refusal_name WrongAddress = codes "WrongAddress"
 refusal_name Exhausted = codes "Exhausted"
 refusal_name NoSuchCopy = codes "NoSuchCopy"
 refusal_name NoSuchMessage = codes "NoSuchMessage"
+refusal_name NotInSync = codes "NotInSync"
+refusal_name Gone = codes "Gone"
+refusal_name IsPrimary = codes "IsPrimary"
+refusal_name Full = codes "Full"
 
 abbrev pub refusal_kind : Refusal → Status × List ℕ
 refusal_kind VersionConflict = (status.Conflict, codes "version_conflict_engine_exception")
@@ -185,6 +190,9 @@ counted_body n = codes "{\"_shards\":{\"failed\":0,\"skipped\":0,\"successful\":
 unfoldable pub refreshed_body : ℕ → List ℕ
 refreshed_body n = codes "{\"_shards\":" ++ (shards n ++ codes "}")
 
+unfoldable pub promoted_body : ℕ → ℕ → List ℕ
+promoted_body copy term = codes "{\"acknowledged\":true,\"primary\":" ++ (decimal copy ++ (codes ",\"primary_term\":" ++ (decimal term ++ codes "}")))
+
 -- what a page is about
 pub data Subject : Type 0 where
   written : List ℕ → Subject
@@ -192,6 +200,7 @@ pub data Subject : Type 0 where
   searching : Subject
   counting : Subject
   refreshing : Subject
+  promoting : Subject
 
 abbrev pub subject_of : Command → Subject
 subject_of (write w) = written w.id
@@ -199,6 +208,7 @@ subject_of (get id) = sought id
 subject_of (search q p) = searching
 subject_of (count q) = counting
 subject_of refresh = refreshing
+subject_of (promote copy) = promoting
 
 -- the page of a reply; a reply of another kind than the command's is told as a refusal
 abbrev pub reply_page : List ℕ → Subject → Reply → List ℕ
@@ -208,4 +218,5 @@ reply_page index (sought id) (got f) = got_page index id f
 reply_page index searching (hits total hs) = response status.Good [] (hits_body index total hs)
 reply_page index counting (counted n) = response status.Good [] (counted_body n)
 reply_page index refreshing (refreshed n) = response status.Good [] (refreshed_body n)
+reply_page index promoting (promoted copy term) = response status.Good [] (promoted_body copy term)
 reply_page index s r = refusal_page Mismatch

@@ -8,7 +8,7 @@ use Rattle.percent_encoding.specs.Percent.{percent_decode}
 use Rattle.form_urlencoded.specs.Form.{raw_pairs, decode}
 use Rattle.doc.specs.Outcome.{◌>>=◌}
 use Rattle.front.specs.declared.target.Endpoint.{Endpoint}
-use Rattle.front.specs.declared.target.Endpoint.TheVariants.{Document, Create, Search, Count, Refresh, Bulk}
+use Rattle.front.specs.declared.target.Endpoint.TheVariants.{Document, Create, Search, Count, Refresh, Bulk, Promote}
 use Rattle.front.specs.declared.target.Method.{Method}
 use Rattle.front.specs.declared.target.Method.TheVariants.{Delete, Get, Post, Put, Other}
 use Rattle.front.specs.declared.target.Parameters.{Parameters}
@@ -29,7 +29,10 @@ endpoint_of_two name =
     else (if bytes_eq name (codes "_bulk") then Some Bulk else None)))
 
 abbrev pub endpoint_of_three : List ℕ → Option Endpoint
-endpoint_of_three name = if bytes_eq name (codes "_doc") then Some Document else (if bytes_eq name (codes "_create") then Some Create else None)
+endpoint_of_three name =
+    if bytes_eq name (codes "_doc") then Some Document
+    else (if bytes_eq name (codes "_create") then Some Create
+    else (if bytes_eq name (codes "_promote") then Some Promote else None))
 
 abbrev pub routed : Option Endpoint → Option (List ℕ) → List ℕ → Result Route Fault
 routed None index id = Err no_route
@@ -82,6 +85,8 @@ is_allowed Count m = false
 is_allowed Refresh Get = true
 is_allowed Refresh Post = true
 is_allowed Refresh m = false
+is_allowed Promote Post = true
+is_allowed Promote m = false
 
 abbrev pub refresh_of : List ℕ → Option Bool
 refresh_of value = if length value == 0 || bytes_eq value (codes "true") then Some true else (if bytes_eq value (codes "false") then Some false else None)

@@ -21,7 +21,7 @@ use doc::{Doc, DocId, Mapping};
 use query::{CountBody, QueryFault, SearchBody};
 use serde_json::Value;
 use std::alloc::Global;
-use wire::{Request, cut_at, text_of};
+use wire::{Request, cut_at, number_of, text_of};
 
 /// What a request asks: one command, or many writes, each with a refresh or not.
 #[derive(Drop)]
@@ -177,7 +177,9 @@ fn fits(endpoint: Endpoint, method: Method, parameters: Parameters) -> bool
         Endpoint::Create | Endpoint::Bulk => parameters.create.is_none()
             && parameters.seq.is_none()
             && parameters.term.is_none(),
-        Endpoint::Search | Endpoint::Count | Endpoint::Refresh => has_none(parameters),
+        Endpoint::Search | Endpoint::Count | Endpoint::Refresh | Endpoint::Promote => {
+            has_none(parameters)
+        }
     }
 }
 
@@ -219,6 +221,7 @@ fn command_of(
         Endpoint::Search => search_of(alloc, mapping, body),
         Endpoint::Count => count_of(alloc, mapping, body),
         Endpoint::Refresh => Ok(Command::Refresh),
+        Endpoint::Promote => promote_of(id),
         Endpoint::Bulk => Err(RequestFault::BadBulk),
     }
 }
@@ -315,6 +318,19 @@ fn count_of(alloc: Global, mapping: &Mapping, body: &[u8]) -> Result<Command, Re
     let value = value_of(alloc, body)?;
     let body = CountBody::read(alloc, mapping, &value)?;
     Ok(Command::Count(body.query))
+}
+
+/// The copy of a path is a number from 1 up, of 32 bits at most.
+fn promote_of(id: &str) -> Result<Command, RequestFault>
+    ensures { Gives fault_of command_view result (spec.promote_of id.now) }
+{
+    let Some(number) = number_of(id) else {
+        return Err(RequestFault::BadParameter);
+    };
+    if number == 0 || number > u32::MAX as u64 {
+        return Err(RequestFault::BadParameter);
+    }
+    Ok(Command::Promote(number as u32))
 }
 
 fn value_of(alloc: Global, body: &[u8]) -> Result<Value, RequestFault>

@@ -38,4 +38,6 @@ pub enum Command {
     /// How many documents a query means.
     Count(Query),
     Refresh,
+    /// This copy is to be the primary.
+    Promote(u32),
 }

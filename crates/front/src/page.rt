@@ -75,6 +75,7 @@ pub(crate) enum Subject {
     Searched,
     Counted,
     Refreshed,
+    Promoted,
 }
 
 impl Subject {
@@ -88,6 +89,7 @@ impl Subject {
             Command::Search(_) => Subject::Searched,
             Command::Count(_) => Subject::Counted,
             Command::Refresh => Subject::Refreshed,
+            Command::Promote(_) => Subject::Promoted,
         })
     }
 }
@@ -124,6 +126,7 @@ fn methods_of(endpoint: Endpoint) -> &'static str
         Endpoint::Document => "DELETE, GET, POST, PUT",
         Endpoint::Create | Endpoint::Bulk => "POST, PUT",
         Endpoint::Search | Endpoint::Count | Endpoint::Refresh => "GET, POST",
+        Endpoint::Promote => "POST",
     }
 }
 
@@ -227,6 +230,10 @@ impl Refusal {
             Refusal::Exhausted => "Exhausted",
             Refusal::NoSuchCopy => "NoSuchCopy",
             Refusal::NoSuchMessage => "NoSuchMessage",
+            Refusal::NotInSync => "NotInSync",
+            Refusal::Gone => "Gone",
+            Refusal::IsPrimary => "IsPrimary",
+            Refusal::Full => "Full",
         }
     }
 
@@ -447,6 +454,13 @@ fn refreshed_body(alloc: Global, count: u64) -> Result<String, AllocError>
     format!(in alloc; "{{\"_shards\":{shards}}}")
 }
 
+#[tactic(auto, unfolding(crate::specs::Page::promoted_body))]
+fn promoted_body(alloc: Global, copy: u32, term: u64) -> Result<String, AllocError>
+    ensures { IfOk result (λ t. string_bytes t ≡ spec.promoted_body copy term) }
+{
+    format!(in alloc; "{{\"acknowledged\":true,\"primary\":{copy},\"primary_term\":{term}}}")
+}
+
 /// The page of a reply.
 pub(crate) fn reply_page(
     alloc: Global,
@@ -470,6 +484,10 @@ pub(crate) fn reply_page(
         }
         (Subject::Refreshed, Reply::Refreshed(count)) => {
             let body = refreshed_body(alloc, *count)?;
+            response(alloc, Status::Good, "", body.as_str())
+        }
+        (Subject::Promoted, Reply::Promoted(copy, term)) => {
+            let body = promoted_body(alloc, *copy, *term)?;
             response(alloc, Status::Good, "", body.as_str())
         }
         _ => refusal_page(alloc, Refusal::Mismatch),

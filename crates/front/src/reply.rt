@@ -37,7 +37,7 @@ pub struct Hit {
     pub source: Source,
 }
 
-/// Why a service refuses a command, by the names of a copy's refusals and of an index's. `WindowFull` is told as 429, `VersionConflict` as 409, and each
+/// Why a service refuses a command, by the names of a copy's refusals, of the master's and of an index's. `WindowFull` is told as 429, `VersionConflict` as 409, and each
 /// other as 503, for a client that may try again.
 #[derive(Clone, Copy, Debug, PartialEq, Eq)]
 pub enum Refusal {
@@ -55,6 +55,10 @@ pub enum Refusal {
     Exhausted,
     NoSuchCopy,
     NoSuchMessage,
+    NotInSync,
+    Gone,
+    IsPrimary,
+    Full,
 }
 
 /// What a service answers.
@@ -67,5 +71,7 @@ pub enum Reply {
     Counted(u64),
     /// How many copies were refreshed.
     Refreshed(u64),
+    /// The copy that is the primary from now on, and of which term.
+    Promoted(u32, u64),
     Refused(Refusal),
 }

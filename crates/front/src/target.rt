@@ -12,7 +12,8 @@ use percent_encoding::percent_decode;
 use std::alloc::{AllocError, Global};
 use wire::cut_at;
 
-/// What a path asks for, by the names of the Elasticsearch reference: `_doc`, `_create`, `_search`, `_count`, `_refresh`, `_bulk`.
+/// What a path asks for, by the names of the Elasticsearch reference: `_doc`, `_create`, `_search`, `_count`, `_refresh`, `_bulk`; and
+/// `_promote`, which is this project's.
 #[derive(Clone, Copy, Debug, PartialEq, Eq)]
 pub(crate) enum Endpoint {
     Document,
@@ -21,6 +22,7 @@ pub(crate) enum Endpoint {
     Count,
     Refresh,
     Bulk,
+    Promote,
 }
 
 /// A method, told apart by case (RFC 9110, section 9.1).
@@ -33,7 +35,7 @@ pub(crate) enum Method {
     Other,
 }
 
-/// What a path names. The index and the id are bytes: whether they are text is judged in its place in the order of faults.
+/// What a path names. The index and the id (or the number of a copy) are bytes: whether they are text is judged in its place in the order of faults.
 #[derive(Drop)]
 pub(crate) struct Route {
     pub(crate) endpoint: Endpoint,
@@ -80,6 +82,7 @@ impl Endpoint {
             (Endpoint::Create | Endpoint::Bulk, Method::Post | Method::Put) => true,
             (Endpoint::Search | Endpoint::Count | Endpoint::Refresh, Method::Get | Method::Post) =>
                 true,
+            (Endpoint::Promote, Method::Post) => true,
             _ => false,
         }
     }
@@ -108,6 +111,8 @@ fn endpoint_of_three(name: &[u8]) -> Option<Endpoint>
         Some(Endpoint::Document)
     } else if is(name, "_create") {
         Some(Endpoint::Create)
+    } else if is(name, "_promote") {
+        Some(Endpoint::Promote)
     } else {
         None
     }

@@ -19,6 +19,9 @@ pub data Command : Type 0 where
   get : (copy : ℕ) (id : List ℕ) → Command
   refresh : (copy : ℕ) → Command
   restart : (copy : ℕ) → Command
+  -- the beginning of a merge of a copy's parts, and its end
+  merge : (copy : ℕ) → Command
+  swap : (copy : ℕ) → Command
   search : (copy : ℕ) (body : List ℕ) → Command
   deliver : (message : ℕ) → Command
   promote : (copy : ℕ) → Command
@@ -72,6 +75,14 @@ refresh_of text = option_map refresh (number_of text)
 abbrev pub restart_of : List ℕ → Option Command
 restart_of text = option_map restart (number_of text)
 
+-- `merge C`
+abbrev pub merge_of : List ℕ → Option Command
+merge_of text = option_map merge (number_of text)
+
+-- `swap C`
+abbrev pub swap_of : List ℕ → Option Command
+swap_of text = option_map swap (number_of text)
+
 -- `search C JSON`
 abbrev pub search_of : List ℕ → Option Command
 search_of text = option_map (λ at. search at.0 at.1) (number_then text)
@@ -116,12 +127,14 @@ command_named word text =
     if bytes_eq word (codes "get") then get_of text else (
     if bytes_eq word (codes "refresh") then refresh_of text else (
     if bytes_eq word (codes "restart") then restart_of text else (
+    if bytes_eq word (codes "merge") then merge_of text else (
+    if bytes_eq word (codes "swap") then swap_of text else (
     if bytes_eq word (codes "search") then search_of text else (
     if bytes_eq word (codes "deliver") then deliver_of text else (
     if bytes_eq word (codes "promote") then promote_of text else (
     if bytes_eq word (codes "fail") then fail_of text else (
     if bytes_eq word (codes "torn") then torn_of text else (
-    if bytes_eq word (codes "tornput") then tornput_of text else None))))))))))))))
+    if bytes_eq word (codes "tornput") then tornput_of text else None))))))))))))))))
 
 -- a word alone
 abbrev pub command_alone : List ℕ → Option Command

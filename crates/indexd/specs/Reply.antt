@@ -24,6 +24,9 @@ pub data Reply : Type 0 where
   delivered : (repeated : Bool) → (before : ℕ) → (sent : Option Msg) → Reply
   -- the point of a copy whose step was torn
   torn : (point : ℕ) → Reply
+  -- a merge is begun, and it is over
+  merging : Reply
+  merged : Reply
   hits : engine.Answer → Reply
 
 abbrev pub outcome_name : Outcome → List ℕ
@@ -105,6 +108,8 @@ printed (answered a before ms os) = answer_line a ++ (msg_lines before ms ++ ack
 printed (decided given before m) = given_line given ++ sent_lines before m
 printed (delivered repeated before m) = delivered_line repeated ++ sent_lines before m
 printed (torn n) = codes "torn\npoint " ++ (decimal n ++ codes "\n")
+printed merging = codes "merging\n"
+printed merged = codes "merged\n"
 printed (hits a) = codes "hits " ++ (decimal a.total ++ (ids_text a.hits ++ codes "\n"))
 
 -- the line of a refusal

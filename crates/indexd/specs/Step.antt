@@ -21,9 +21,9 @@ use Rattle.world.specs.declared.event.Event.TheVariants.{Write as Writes, Get, R
 use Rattle.world.specs.declared.event.EventAnswer.{EventAnswer}
 use Rattle.world.specs.declared.event.EventAnswer.TheVariants.{Answered, Decided, Delivered, Torn, Refused, RefusedByMaster, NoSuchCopy, NoSuchMessage}
 use Rattle.world.specs.World.{World, copy_in, new_world, world_step}
-use Rattle.indexd.specs.Command.{Command, LineWrite, index, create, delete, opening, write, get, refresh, restart, search, deliver, promote, allocate, fail, torn_delivery, torn_put}
+use Rattle.indexd.specs.Command.{Command, LineWrite, index, create, delete, opening, write, get, refresh, restart, merge, swap, search, deliver, promote, allocate, fail, torn_delivery, torn_put}
 use Rattle.indexd.specs.Refusal.{Refusal, not_open, already_open, bad_count, no_such_copy, no_such_message, of_doc, of_query, of_copy, of_master, in_doc, in_query}
-use Rattle.indexd.specs.Reply.{Reply, opened, answered, decided, delivered, torn, hits}
+use Rattle.indexd.specs.Reply.{Reply, opened, answered, decided, delivered, torn, merging, merged, hits}
 
 -- the master, the copies and their messages, where the index is open
 abbrev pub State : Type 0
@@ -103,6 +103,11 @@ search_at w copy body = do
   q ← in_query (body_of c.mapping d)
   Ok (w, hits (answer c.mapping (shown c.records c.point) q.0 q.1))
 
+-- a merge of a copy's parts leaves the world as it is, whether or not what it is made of is still there when it is over
+abbrev pub merged_at : World → Option Copy → Reply → Step World
+merged_at w None r = Err no_such_copy
+merged_at w (Some c) r = Ok (w, r)
+
 -- a command to an index that is open; `fail` is a report of the master's primary
 abbrev pub step_open : World → Command → Step World
 step_open w (opening copies mapping) = Err already_open
@@ -110,6 +115,8 @@ step_open w (write copy id change) = write_at w (id_named copy) id change
 step_open w (get copy id) = get_at w (id_named copy) id
 step_open w (refresh copy) = taken w (Refresh (id_named copy))
 step_open w (restart copy) = taken w (Restart (id_named copy))
+step_open w (merge copy) = merged_at w (copy_in w.copies (id_named copy)) merging
+step_open w (swap copy) = merged_at w (copy_in w.copies (id_named copy)) merged
 step_open w (search copy body) = search_at w (id_named copy) body
 step_open w (deliver message) = taken w (Deliver message)
 step_open w (promote copy) = taken w (Promote (id_named copy))
@@ -144,6 +151,8 @@ step_unopened (write copy id change) = Err not_open
 step_unopened (get copy id) = Err not_open
 step_unopened (refresh copy) = Err not_open
 step_unopened (restart copy) = Err not_open
+step_unopened (merge copy) = Err not_open
+step_unopened (swap copy) = Err not_open
 step_unopened (search copy body) = Err not_open
 step_unopened (deliver message) = Err not_open
 step_unopened (promote copy) = Err not_open

@@ -9,11 +9,11 @@ use Rattle.master.specs.Fault as master
 use Rattle.indexd.specs.declared.command.LineWrite.{LineWrite}
 use Rattle.indexd.specs.declared.command.LineWrite.TheVariants.{Index, Create, Delete}
 use Rattle.indexd.specs.declared.command.Command.{Command}
-use Rattle.indexd.specs.declared.command.Command.TheVariants.{Open, Write, Get, Refresh, Restart, Search, Deliver, Promote, Allocate, Fail, TornDelivery, TornPut}
+use Rattle.indexd.specs.declared.command.Command.TheVariants.{Open, Write, Get, Refresh, Restart, Merge, Swap, Search, Deliver, Promote, Allocate, Fail, TornDelivery, TornPut}
 use Rattle.indexd.specs.declared.refusal.Refusal.{Refusal}
 use Rattle.indexd.specs.declared.refusal.Refusal.TheVariants.{BadLine, NotOpen, AlreadyOpen, BadCount, NoSuchCopy, NoSuchMessage, Doc, Query, Copy, Master, NoMemory}
 use Rattle.indexd.specs.declared.reply.Reply.{Reply}
-use Rattle.indexd.specs.declared.reply.Reply.TheVariants.{Opened, Answered, Decided, Delivered, Torn, Hits}
+use Rattle.indexd.specs.declared.reply.Reply.TheVariants.{Opened, Answered, Decided, Delivered, Torn, Merging, Merged, Hits}
 use Rattle.indexd.specs.Command as command
 use Rattle.indexd.specs.Refusal as refusal
 use Rattle.indexd.specs.Reply as reply
@@ -29,6 +29,8 @@ command_view (Write copy id change) = command.write copy id.now (line_write_view
 command_view (Get copy id) = command.get copy id.now
 command_view (Refresh copy) = command.refresh copy
 command_view (Restart copy) = command.restart copy
+command_view (Merge copy) = command.merge copy
+command_view (Swap copy) = command.swap copy
 command_view (Search copy body) = command.search copy body.now
 command_view (Deliver message) = command.deliver message
 command_view (Promote copy) = command.promote copy
@@ -57,4 +59,6 @@ reply_view (Answered a before sent acknowledged) = reply.answered a before sent 
 reply_view (Decided given before sent) = reply.decided given before sent
 reply_view (Delivered repeated before sent) = reply.delivered repeated before sent
 reply_view (Torn point) = reply.torn point
+reply_view Merging = reply.merging
+reply_view Merged = reply.merged
 reply_view (Hits h) = reply.hits (hits_view h)

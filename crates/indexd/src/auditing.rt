@@ -1,7 +1,8 @@
 //! Judging the journals that a folder keeps.
 
 use crate::journal_folder::path_of;
-use audit::{AuditFault, audit};
+use crate::verdict;
+use crate::verdict::{VerdictFault, tell};
 use journals::{JournalFault, read};
 use std::alloc::{AllocError, AllocFailed, Global};
 use std::fmt::Display;
@@ -19,9 +20,8 @@ pub(crate) enum AuditingFault {
     Open(String, io::Error),
     /// A file, the line in it, and what is wrong there.
     Line(String, u64, &'static str),
-    /// What the audit says, in words.
-    Refused(String),
-    Output(io::Error),
+    /// What the audit says.
+    Verdict(VerdictFault),
     NoMemory,
 }
 
@@ -30,10 +30,11 @@ impl Display for AuditingFault {
         match self {
             AuditingFault::Open(file, error) => write!(f, "indexd: {file}: {error}"),
             AuditingFault::Line(file, line, wanted) => write!(f, "indexd: {file}:{line}: {wanted}"),
-            AuditingFault::Refused(text) => write!(f, "audit: {text}"),
-            AuditingFault::Output(error) => {
-                write!(f, "indexd: the output can't be written: {error}")
+            AuditingFault::Verdict(VerdictFault::Refused(fault)) => {
+                write!(f, "audit: ")?;
+                tell(fault, f)
             }
+            AuditingFault::Verdict(fault) => write!(f, "indexd: {fault}"),
             AuditingFault::NoMemory => write!(f, "indexd: out of memory"),
         }
     }
@@ -48,12 +49,6 @@ impl From<AllocError> for AuditingFault {
 impl<T: Drop> From<AllocFailed<T>> for AuditingFault {
     fn from(_refused: AllocFailed<T>) -> AuditingFault {
         AuditingFault::NoMemory
-    }
-}
-
-impl From<io::Error> for AuditingFault {
-    fn from(error: io::Error) -> AuditingFault {
-        AuditingFault::Output(error)
     }
 }
 
@@ -86,38 +81,13 @@ fn unread(alloc: Global, folder: &str, fault: JournalFault) -> AuditingFault {
     }
 }
 
-/// What an audit says, with the line of the entry: the first line of a journal is its head.
-fn told(alloc: Global, fault: &AuditFault) -> Result<String, AllocError> {
-    match fault {
-        AuditFault::Uncaused(node, place) => {
-            let line = place.saturating_add(2);
-            let who = name_of(alloc, *node)?;
-            format!(in alloc; "{who}: nothing in the journals causes entry {place} (line {line})")
-        }
-        AuditFault::Differs(node, place) => {
-            let line = place.saturating_add(2);
-            let who = name_of(alloc, *node)?;
-            format!(in alloc;
-                "{who}: entry {place} isn't what it would have answered (line {line})"
-            )
-        }
-        AuditFault::NoMemory => String::from_str(alloc, "out of memory"),
-    }
-}
-
-fn name_of(alloc: Global, node: u64) -> Result<String, AllocError> {
-    if node == 0 {
-        String::from_str(alloc, "the master")
-    } else {
-        format!(in alloc; "copy {node}")
-    }
-}
-
-/// Judges the journals of a folder, and writes `audit ok` where they are those of one run.
-pub(crate) fn judge<R: Files + AllocGlobal, O: Write>(
+/// Judges the journals of a folder, and writes the verdict.
+pub(crate) fn judge<R: Files + AllocGlobal, O: Write, E: Write>(
     rt: &R,
     folder: &str,
+    explains: bool,
     output: &mut O,
+    errors: &mut E,
 ) -> Result<(), AuditingFault> {
     let alloc = rt.alloc();
     let texts = texts_in(rt, folder)?;
@@ -125,14 +95,7 @@ pub(crate) fn judge<R: Files + AllocGlobal, O: Write>(
         Ok(found) => found,
         Err(fault) => return Err(unread(alloc, folder, fault)),
     };
-    if journals.len() > MOST as usize {
-        return Err(AuditingFault::NoMemory);
-    }
-    match audit(alloc, &mapping, &journals) {
-        Ok(_world) => {
-            output.write_all(b"audit ok\n")?;
-            Ok(output.flush()?)
-        }
-        Err(fault) => Err(AuditingFault::Refused(told(alloc, &fault)?)),
-    }
+    verdict::judge(alloc, &mapping, &journals, explains, output, errors).map_err(
+        AuditingFault::Verdict,
+    )
 }

@@ -24,6 +24,8 @@ pub(crate) enum Command<'a> {
     Get(u64, &'a str),
     Refresh(u64),
     Restart(u64),
+    Merge(u64),
+    Swap(u64),
     Search(u64, &'a str),
     Deliver(u64),
     Promote(u64),
@@ -76,6 +78,8 @@ fn command_named<'a>(word: &str, rest: &'a str) -> Option<Command<'a>>
         "get" => get_of(rest),
         "refresh" => refresh_of(rest),
         "restart" => restart_of(rest),
+        "merge" => merge_of(rest),
+        "swap" => swap_of(rest),
         "search" => search_of(rest),
         "deliver" => deliver_of(rest),
         "promote" => promote_of(rest),
@@ -155,6 +159,20 @@ fn restart_of(rest: &str) -> Option<Command<'_>>
 {
     let copy = number_of(rest)?;
     Some(Command::Restart(copy))
+}
+
+fn merge_of(rest: &str) -> Option<Command<'_>>
+    ensures { option_map command_view result ≡ spec.merge_of rest.now }
+{
+    let copy = number_of(rest)?;
+    Some(Command::Merge(copy))
+}
+
+fn swap_of(rest: &str) -> Option<Command<'_>>
+    ensures { option_map command_view result ≡ spec.swap_of rest.now }
+{
+    let copy = number_of(rest)?;
+    Some(Command::Swap(copy))
 }
 
 fn search_of(rest: &str) -> Option<Command<'_>>

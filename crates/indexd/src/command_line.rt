@@ -16,6 +16,8 @@ const LINES: &str = "Lines of a script (words parted by one space; JSON is the r
   get C ID                        found SEQ TERM VERSION SOURCE, or missing
   refresh C                       point N: searches show the first N writes
   restart C                       point N: the copy is opened again
+  merge C                         merging: a merge of what searches look through
+  swap C                          merged: that merge is put in place, if it can be
   search C JSON                   hits TOTAL ID ..
   deliver K                       taken, stale or repeated: message K arrives
   promote C                       C is to be the primary of a new term
@@ -68,7 +70,10 @@ the output can't be written; 2 for a bad command line.";
 
 /// What stands behind the options of `audit` in `--help`.
 const JUDGED: &str =
-    "Prints `audit ok`, or on standard error the node and the first entry that no run has.
+    "Prints `audit ok`; or `audit failed`, with `Differs` for an entry that the node wouldn't
+have answered or `Uncaused` for one that nothing causes, the node (0 is the master) and
+the place of the entry, from 0 on. Standard error has it in words, and where it is a
+terminal the entry itself, and what the model answers there.
 
 Exit status: 0; 1 where the journals are those of no run, or can't be read; 2 for a
 bad command line.";
@@ -126,6 +131,7 @@ fn settings_of<'a>(options: &ArgMatches<'a>) -> Settings<'a> {
         journals: options.get_str("journals"),
         refresh: options.get_one::<u64>("refresh-ms").unwrap_or(1_000),
         connections: options.get_one::<u64>("connections"),
+        at_terminal: false,
     }
 }
 

@@ -364,7 +364,7 @@ impl<'a, R: Files<File = File> + AllocGlobal> Folder<'a, R> {
             opened(alloc, mapping, copy)?
         };
         let mut shard = Shard::over(alloc, name, master, copy)?;
-        if !shard.lead() {
+        if !shard.lead()? {
             return Err(DataFault::NotLed);
         }
         Ok(shard)

@@ -16,7 +16,7 @@ use world::World;
 const SHOWN: usize = 60;
 
 /// The lines of a script, by their first word.
-const FORMS: [(&str, &str); 16] = [
+const FORMS: [(&str, &str); 18] = [
     ("open", "open COPIES MAPPING"),
     ("put", "put COPY ID JSON"),
     ("create", "create COPY ID JSON"),
@@ -26,6 +26,8 @@ const FORMS: [(&str, &str); 16] = [
     ("get", "get COPY ID"),
     ("refresh", "refresh COPY"),
     ("restart", "restart COPY"),
+    ("merge", "merge COPY"),
+    ("swap", "swap COPY"),
     ("search", "search COPY JSON"),
     ("deliver", "deliver MESSAGE"),
     ("promote", "promote COPY"),
@@ -107,7 +109,7 @@ fn bad_line(alloc: Global, line: &[u8]) -> Result<String, AllocError> {
         None => {
             let word = cut(alloc, word)?;
             format!(in alloc;
-                "{word:?} is no word of a script; a line begins with open, put, create, del, putif, delif, get, refresh, restart, search, deliver, promote, allocate, fail, torn or tornput"
+                "{word:?} is no word of a script; a line begins with open, put, create, del, putif, delif, get, refresh, restart, merge, swap, search, deliver, promote, allocate, fail, torn or tornput"
             )
         }
     }

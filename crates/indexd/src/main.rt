@@ -13,8 +13,10 @@ mod explaining;
 mod fault;
 mod index_name;
 mod journal_folder;
+mod model_answer;
 mod names;
 mod noting;
+mod opening;
 mod playing;
 mod program;
 mod refusal;
@@ -22,6 +24,7 @@ mod reply;
 mod serving;
 mod step;
 mod telling;
+mod verdict;
 mod writing;
 
 pub use fault::ReplayFault;

@@ -68,9 +68,15 @@ where
 {
     match task_of(rt.alloc(), words) {
         Ok(Task::Replay(played)) => run(rt, played, terminals, input, output, errors),
-        Ok(Task::Serve(settings)) => run_server(rt, settings, output, errors),
+        Ok(Task::Serve(settings)) => {
+            let settings = Settings {
+                at_terminal: terminals.errors,
+                ..settings
+            };
+            run_server(rt, settings, output, errors)
+        }
         Ok(Task::Dump(dumped)) => run_dump(rt, dumped, output, errors),
-        Ok(Task::Audit(folder)) => run_audit(rt, folder, output, errors),
+        Ok(Task::Audit(folder)) => run_audit(rt, folder, terminals.errors, output, errors),
         Err(error) => explain(&error, output, errors),
     }
 }
@@ -127,12 +133,13 @@ fn run_dump<R: Files<File = File> + AllocGlobal, O: Write, E: Write>(
 fn run_audit<R: Files + AllocGlobal, O: Write, E: Write>(
     rt: &R,
     folder: &str,
+    explains: bool,
     output: &mut O,
     errors: &mut E,
 ) -> u8
     ensures { result < 2 }
 {
-    match judge(rt, folder, output) {
+    match judge(rt, folder, explains, output, errors) {
         Ok(()) => 0,
         Err(fault) => {
             let _ = writeln!(errors, "{fault}");

@@ -17,6 +17,10 @@ pub(crate) enum Reply {
     Decided(Option<u32>, u64, Option<Msg>),
     Delivered(bool, u64, Option<Msg>),
     Torn(u64),
+    /// A merge is begun.
+    Merging,
+    /// A merge is over.
+    Merged,
     Hits(Hits),
 }
 
@@ -42,6 +46,8 @@ impl Reply {
                 sent.as_ref(),
             ),
             Reply::Torn(point) => format!(in alloc; "torn\npoint {point}\n"),
+            Reply::Merging => String::from_str(alloc, "merging\n"),
+            Reply::Merged => String::from_str(alloc, "merged\n"),
             Reply::Hits(hits) => found(alloc, hits),
         }
     }

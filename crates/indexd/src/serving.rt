@@ -5,7 +5,9 @@ use crate::data_fault::DataFault;
 use crate::data_folder::{KeptFolder, KeptIndex, MappingFile, open_folder, open_index};
 use crate::index_name::is_index_name;
 use crate::journal_folder::{KeepFault, keep_journals};
-use audit::{AuditFault, Journal, audit};
+use crate::opening::OpeningLine;
+use crate::verdict;
+use crate::verdict::VerdictFault;
 use cluster::{Cluster, ClusterFault, Devices, InFolder, InMemory, Open, Unopened};
 use doc::{DocFault, Mapping};
 use front::Service;
@@ -45,6 +47,8 @@ pub(crate) struct Settings<'a> {
     pub(crate) journals: Option<&'a str>,
     /// After how many milliseconds the index is refreshed again; 0 for never.
     pub(crate) refresh: u64,
+    /// Whether standard error is a terminal: the opening of large logs is shown there, and an entry that doesn't pass the audit.
+    pub(crate) at_terminal: bool,
 }
 
 impl<'a> Settings<'a> {
@@ -73,7 +77,7 @@ pub(crate) enum ServeFault {
     Output(io::Error),
     Connection(io::Error),
     Journals(KeepFault),
-    Audit(AuditFault),
+    Audit(VerdictFault),
     NoMemory,
 }
 
@@ -178,11 +182,14 @@ where
     check(settings)?;
     let mapping = mapping_of(rt, settings.mapping)?;
     let Some(folder) = settings.data else {
-        return serve_memory(rt, settings, mapping.as_ref(), output);
+        return serve_memory(rt, settings, mapping.as_ref(), output, errors);
     };
     if settings.copies == 1 {
         let name = String::from_str(alloc, settings.index)?;
-        match open_index(rt, folder, name, mapping.as_ref()) {
+        let line = OpeningLine::begin(rt, alloc, folder, settings.at_terminal, errors);
+        let opened = open_index(rt, folder, name, mapping.as_ref());
+        line.end(errors);
+        match opened {
             Ok(kept) => return serve_kept(rt, settings, kept, output),
             Err(DataFault::SeveralCopies) => {}
             Err(fault) => return Err(ServeFault::from(fault)),
@@ -192,11 +199,12 @@ where
 }
 
 /// Serves a new index in memory.
-fn serve_memory<R, O>(
+fn serve_memory<R, O, E>(
     rt: &R,
     settings: Settings<'_>,
     mapping: Option<&MappingFile>,
     output: &mut O,
+    errors: &mut E,
 ) -> Result<(), ServeFault>
 where
     R: Files<File = File>
@@ -211,9 +219,10 @@ where
         + Drop
         + 'static,
     O: Write,
+    E: Write,
 {
     if settings.copies > 1 || settings.audit {
-        return serve_copies(rt, settings, mapping, output);
+        return serve_copies(rt, settings, mapping, output, errors);
     }
     let alloc = rt.alloc();
     let name = String::from_str(alloc, settings.index)?;
@@ -281,11 +290,12 @@ fn refused(fault: DocFault) -> ServeFault {
 }
 
 /// Serves a new index of copies on threads of their own, in memory.
-fn serve_copies<R, O>(
+fn serve_copies<R, O, E>(
     rt: &R,
     settings: Settings<'_>,
     mapping: Option<&MappingFile>,
     output: &mut O,
+    errors: &mut E,
 ) -> Result<(), ServeFault>
 where
     R: Files<File = File>
@@ -300,6 +310,7 @@ where
         + Drop
         + 'static,
     O: Write,
+    E: Write,
 {
     let alloc = rt.alloc();
     let fields = fields_of(alloc, mapping)?;
@@ -318,7 +329,15 @@ where
         keep_journals(rt, folder, mapping, &journals)?;
     }
     if settings.audit {
-        audited(alloc, &fields, &journals, output)?;
+        verdict::judge(
+            alloc,
+            &fields,
+            &journals,
+            settings.at_terminal,
+            output,
+            errors,
+        )
+        .map_err(ServeFault::Audit)?;
     }
     Ok(())
 }
@@ -355,7 +374,10 @@ where
     } = open_folder(rt, folder, mapping)?;
     let copies = settings.copies.max(1).min(5) as u8;
     let devices = InFolder::new(*rt, String::from_str(alloc, folder)?);
-    let mut cluster = Cluster::open(rt, alloc, fields.copy(alloc)?, copies, devices, Open)?;
+    let line = OpeningLine::begin(rt, alloc, folder, settings.at_terminal, errors);
+    let opened = Cluster::open(rt, alloc, fields.copy(alloc)?, copies, devices, Open);
+    line.end(errors);
+    let mut cluster = opened?;
     let lacking = lacking(rt, &cluster, settings.copies)?;
     for copy in cluster.unopened() {
         let _ = writeln!(errors, "indexd: {copy}; it leaves the index");
@@ -409,28 +431,6 @@ fn fields_of(alloc: Global, mapping: Option<&MappingFile>) -> Result<Mapping, Se
             Mapping::from_value(alloc, &empty).map_err(refused)
         }
     }
-}
-
-/// Says whether what the copies did is a run of the model.
-fn audited<O: Write>(
-    alloc: Global,
-    mapping: &Mapping,
-    journals: &[Journal],
-    output: &mut O,
-) -> Result<(), ServeFault> {
-    if journals.len() > u32::MAX as usize {
-        return Err(ServeFault::NoMemory);
-    }
-    match audit(alloc, mapping, journals) {
-        Ok(_world) => said(output, "audit ok").map_err(ServeFault::Output),
-        Err(AuditFault::NoMemory) => Err(ServeFault::NoMemory),
-        Err(fault) => Err(ServeFault::Audit(fault)),
-    }
-}
-
-fn said<O: Write>(output: &mut O, line: &str) -> io::Result<()> {
-    writeln!(output, "{line}")?;
-    output.flush()
 }
 
 /// Takes the port, and serves the connections that come to it.

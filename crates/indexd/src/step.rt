@@ -4,9 +4,9 @@ ghost use Rattle.serde_json.specs.Read.{read};
 ghost use Rattle.serde_json.specs.View.{view};
 ghost use Rattle.doc.specs.Fault.{fault_of};
 ghost use Rattle.doc.specs.Outcome.{Gives};
-ghost use Rattle.world.specs.World.{new_world};
+ghost use Rattle.world.specs.World.{copy_in, new_world};
 ghost use Rattle.indexd.specs.Refused.{IsRefused};
-ghost use Rattle.indexd.specs.Reply.{opened};
+ghost use Rattle.indexd.specs.Reply.{opened, merging, merged};
 ghost use Rattle.indexd.specs.Step as spec;
 ghost use Rattle.indexd.specs.View.{line_write_view, command_view, refusal_of, reply_view};
 
@@ -91,6 +91,8 @@ fn step_open(alloc: Global, world: &mut World, command: Command<'_>) -> Result<R
         Command::Get(copy, id) => get(alloc, world, id_named(copy), id),
         Command::Refresh(copy) => take(alloc, world, Event::Refresh(id_named(copy))),
         Command::Restart(copy) => take(alloc, world, Event::Restart(id_named(copy))),
+        Command::Merge(copy) => merge(world, id_named(copy)),
+        Command::Swap(copy) => swap(alloc, world, id_named(copy)),
         Command::Search(copy, body) => search(alloc, world, id_named(copy), body),
         Command::Deliver(message) => take(alloc, world, Event::Deliver(message)),
         Command::Promote(copy) => take(alloc, world, Event::Promote(id_named(copy))),
@@ -248,6 +250,30 @@ fn get(alloc: Global, world: &mut World, copy: u32, id: &str) -> Result<Reply, R
     }
     let id = DocId::new(alloc, id)?;
     take(alloc, world, Event::Get(copy, id))
+}
+
+/// Begins a merge at a copy.
+fn merge(world: &mut World, copy: u32) -> Result<Reply, Refusal>
+    ensures gives { Gives refusal_of (λ r. (world.new, reply_view r)) result (spec.merged_at world.old (copy_in world.old.copies copy) merging) }
+    ensures stays { OnErr result (world.new ≡ world.old) }
+{
+    if world.begin_merge(copy)? {
+        Ok(Reply::Merging)
+    } else {
+        Err(Refusal::NoSuchCopy)
+    }
+}
+
+/// Ends the merge that was begun at a copy.
+fn swap(alloc: Global, world: &mut World, copy: u32) -> Result<Reply, Refusal>
+    ensures gives { Gives refusal_of (λ r. (world.new, reply_view r)) result (spec.merged_at world.old (copy_in world.old.copies copy) merged) }
+    ensures stays { OnErr result (world.new ≡ world.old) }
+{
+    if world.swap_merged(alloc, copy)? {
+        Ok(Reply::Merged)
+    } else {
+        Err(Refusal::NoSuchCopy)
+    }
 }
 
 #[tactic(auto, unfolding(crate::specs::Step::search_at))]

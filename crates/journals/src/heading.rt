@@ -1,5 +1,6 @@
 //! What the journals of a new index begin with.
 ghost use Rattle.std.specs.Prelude.{◌≡◌, IfOk};
+ghost use Rattle.audit.specs.Opening.{born};
 
 use audit::{Journal, Opening};
 use doc::Mapping;
@@ -58,7 +59,7 @@ pub fn opening_of(
     copies: u32,
     node: u32,
 ) -> Result<Opening, AllocError>
-    ensures { IfOk result (λ o. o.mapping ≡ mapping.now) }
+    ensures { IfOk result (λ o. o ≡ born mapping.now copies node) }
 {
     let mapping = mapping.copy(alloc)?;
     if node <= copies {

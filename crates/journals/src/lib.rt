@@ -2,11 +2,10 @@
 #![tactic(auto)]
 
 pub mod heading;
-mod parsing;
 pub mod reading;
-mod spelling;
 pub mod writing;
 
 pub use heading::{HeadFault, copies_of, opening_of};
 pub use reading::{JournalFault, read};
+pub use writing::entries::{copy_answer_value, entry_value, master_answer_value};
 pub use writing::write;

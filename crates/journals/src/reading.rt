@@ -1,20 +1,28 @@
 //! Journals from their text.
-ghost use Rattle.std.specs.Prelude.{All, IfOk};
-ghost use Rattle.audit.specs.Passing.{IsOfMapping};
+ghost use Rattle.std.specs.Prelude.{◌≡◌, [], map, string_bytes, IfOk, Ok};
+ghost use Rattle.doc.specs.Mapping.{mapping_of as mapping_data};
+ghost use Rattle.journals.specs.Entries.{AreTexts, IsHead, IsHeaded, IsRead, IsTextOf, IsTextOfNode, TellsDeed, TellsHead, TellsRuling};
+ghost use Rattle.serde_json.specs.View.{view};
+
+use crate::reading::entries::{deed_of, member, ruling_of, value_of};
+
+mod answered;
+mod asked;
+mod entries;
+mod items;
+mod wrong;
 
 use crate::heading::opening_of;
-use crate::parsing::{
-    Wrong, answer_of, check_length, copy_at, copy_of, fault_of, input_of, items_of, log_fault_of,
-    message_of, messages_of, number_at, number_of, ops_of, text_at,
-};
-use audit::{Deed, Deeds, Journal, Ruling, Rulings};
+use crate::reading::items::{copy_of, natural_of};
+use crate::reading::wrong::Wrong;
+use audit::{Deeds, Journal, Rulings};
 use doc::{DocFault, Mapping};
-use master::{Decision, MasterFault, Request, State};
-use replica::{CopyFault, Output};
+use master::State;
 use serde_json::Value;
 use std::alloc::{AllocError, AllocFailed, Global};
 use std::fmt;
 use std::fmt::Display;
+use wire::cut_at;
 
 /// Why texts aren't journals.
 #[derive(Debug, Drop)]
@@ -64,50 +72,45 @@ impl<T: Drop> From<AllocFailed<T>> for JournalFault {
 #[derive(Drop)]
 struct Head {
     copies: u8,
-    mapping: Value,
+    mapping: Mapping,
 }
 
-fn fault_at(node: u64, line: u64, wrong: Wrong) -> JournalFault {
+fn fault_at(node: u32, line: u64, wrong: Wrong) -> JournalFault {
     match wrong {
         Wrong::NoMemory => JournalFault::NoMemory,
-        Wrong::Wanted(wanted) => JournalFault::Line(node, line, wanted),
+        Wrong::Wanted(wanted) => JournalFault::Line(node as u64, line, wanted),
     }
 }
 
-fn value_of(alloc: Global, line: &str) -> Result<Value, Wrong> {
-    match Value::from_str(alloc, line) {
-        Ok(value) => Ok(value),
-        Err(error) => if error.is_memory() {
-            Err(Wrong::NoMemory)
-        } else {
-            Err(Wrong::Wanted("no JSON"))
-        },
-    }
-}
+// ---- first lines
 
-fn member<'a>(value: &'a Value, name: &'static str) -> Result<&'a Value, Wrong> {
-    match value.get(name) {
-        Some(member) => Ok(member),
-        None => Err(Wrong::Wanted("a member is missing")),
-    }
-}
-
-fn head_of(alloc: Global, line: &str, node: u32) -> Result<Head, Wrong> {
+/// The first line of a node's text.
+fn head_of(alloc: Global, node: u32, line: &[u8]) -> Result<Head, Wrong>
+    ensures { IfOk result (λ h. IsHead h.copies node h.mapping line.now) }
+{
     let value = value_of(alloc, line)?;
-    if copy_of(member(&value, "node")?)? != node {
+    head_in(alloc, node, &value)
+}
+
+fn head_in(alloc: Global, node: u32, value: &Value) -> Result<Head, Wrong>
+    ensures { IfOk result (λ h. TellsHead h.copies node h.mapping (view value.now)) }
+{
+    if copy_of(member(value, "node")?)? != node {
         return Err(Wrong::Wanted("this is the journal of another node"));
     }
-    let copies = number_of(member(&value, "copies")?)?;
+    let copies = natural_of(member(value, "copies")?)?;
     if copies == 0 || copies > 5 {
         return Err(Wrong::Wanted("an index begins with one copy to five"));
     }
     Ok(Head {
         copies: copies as u8,
-        mapping: member(&value, "mapping")?.clone()?,
+        mapping: mapping_of(alloc, member(value, "mapping")?)?,
     })
 }
 
-fn mapping_of(alloc: Global, value: &Value) -> Result<Mapping, Wrong> {
+fn mapping_of(alloc: Global, value: &Value) -> Result<Mapping, Wrong>
+    ensures { IfOk result (λ m. mapping_data (view value.now) ≡ Ok m) }
+{
     match Mapping::from_value(alloc, value) {
         Ok(mapping) => Ok(mapping),
         Err(DocFault::NoMemory) => Err(Wrong::NoMemory),
@@ -115,220 +118,122 @@ fn mapping_of(alloc: Global, value: &Value) -> Result<Mapping, Wrong> {
     }
 }
 
-// ---- entries of copies
-
-fn deed_of(alloc: Global, line: &str) -> Result<Deed, Wrong> {
-    let value = value_of(alloc, line)?;
-    Ok(Deed {
-        pass: number_of(member(&value, "pass")?)?,
-        input: input_of(alloc, member(&value, "asked")?)?,
-        answer: answered_of(alloc, &value)?,
-    })
-}
-
-fn answered_of(alloc: Global, value: &Value) -> Result<Result<Output, CopyFault>, Wrong> {
-    let items = items_of(member(value, "answered")?)?;
-    if text_at(items, 0)? == "refused" {
-        return Ok(Err(fault_of(items)?));
-    }
-    let Ok(members) = usize::try_from(number_of(member(value, "members")?)?) else {
-        return Err(Wrong::Wanted("a number of copies is wanted"));
-    };
-    Ok(Ok(Output {
-        answer: answer_of(alloc, items)?,
-        sent: messages_of(alloc, member(value, "sent")?)?,
-        acknowledged: ops_of(alloc, member(value, "acknowledged")?)?,
-        members,
-    }))
-}
-
-// ---- entries of the master
-
-fn request_of(value: &Value) -> Result<Request, Wrong> {
-    let items = items_of(value)?;
-    let word = text_at(items, 0)?;
-    check_length(
-        items,
-        match word {
-            "allocate" => 1,
-            "promote" => 2,
-            _ => 3,
-        },
-    )?;
-    match word {
-        "allocate" => Ok(Request::Allocate),
-        "promote" => Ok(Request::Promote(copy_at(items, 1)?)),
-        "synced" => Ok(Request::Synced(number_at(items, 1)?, copy_at(items, 2)?)),
-        "fail" => Ok(Request::Fail(number_at(items, 1)?, copy_at(items, 2)?)),
-        _ => Err(Wrong::Wanted("no master is asked this")),
-    }
-}
-
-fn decided_of(alloc: Global, value: &Value) -> Result<Result<Decision, MasterFault>, Wrong> {
-    let items = items_of(member(value, "answered")?)?;
-    match text_at(items, 0)? {
-        "refused" => Ok(Err(denial_of(items)?)),
-        "decided" => Ok(Ok(decision_of(alloc, value, items, false)?)),
-        "repeated" => Ok(Ok(decision_of(alloc, value, items, true)?)),
-        _ => Err(Wrong::Wanted("no master answers this")),
-    }
-}
-
-fn decision_of(
-    alloc: Global,
-    value: &Value,
-    items: &[Value],
-    repeated: bool,
-) -> Result<Decision, Wrong> {
-    let given = if items.len() < 2 {
-        None
-    } else {
-        check_length(items, 2)?;
-        Some(copy_at(items, 1)?)
-    };
-    let sent = match value.get("sent") {
-        Some(message) => Some(message_of(alloc, message)?),
-        None => None,
-    };
-    Ok(Decision {
-        given,
-        sent,
-        repeated,
-    })
-}
-
-fn denial_of(items: &[Value]) -> Result<MasterFault, Wrong> {
-    let word = text_at(items, 1)?;
-    if word == "Log" {
-        return Ok(MasterFault::Log(log_fault_of(items)?));
-    }
-    check_length(items, 2)?;
-    match word {
-        "OldTerm" => Ok(MasterFault::OldTerm),
-        "NotInSync" => Ok(MasterFault::NotInSync),
-        "IsPrimary" => Ok(MasterFault::IsPrimary),
-        "Gone" => Ok(MasterFault::Gone),
-        "NoMemory" => Ok(MasterFault::NoMemory),
-        "Full" => Ok(MasterFault::Full),
-        _ => Err(Wrong::Wanted("no master refuses so")),
-    }
-}
-
-fn ruling_of(alloc: Global, line: &str) -> Result<Ruling, Wrong> {
-    let value = value_of(alloc, line)?;
-    Ok(Ruling {
-        pass: number_of(member(&value, "pass")?)?,
-        request: request_of(member(&value, "asked")?)?,
-        answer: decided_of(alloc, &value)?,
-    })
-}
-
-// ---- journals
-
-/// The lines of a text behind the first, which says whose journal it is.
-fn parted(text: &str) -> (&str, &str) {
-    match text.split_once('\n') {
-        Some((first, rest)) => (first, rest),
-        None => (text, ""),
-    }
-}
-
-fn rulings_of(alloc: Global, text: &str) -> Result<Rulings, JournalFault> {
-    let mut items = Vec::new(alloc);
-    let mut line: u64 = 1;
-    for entry in text.lines() {
-        line = line.saturating_add(1);
-        match ruling_of(alloc, entry) {
-            Ok(ruling) => items.push(ruling)?,
-            Err(wrong) => return Err(fault_at(0, line, wrong)),
-        }
-    }
-    Ok(Rulings::from_vec(items))
-}
-
-fn deeds_of(alloc: Global, node: u64, text: &str) -> Result<Deeds, JournalFault> {
-    let mut items = Vec::new(alloc);
-    let mut line: u64 = 1;
-    for entry in text.lines() {
-        line = line.saturating_add(1);
-        match deed_of(alloc, entry) {
-            Ok(deed) => items.push(deed)?,
-            Err(wrong) => return Err(fault_at(node, line, wrong)),
-        }
-    }
-    Ok(Deeds::from_vec(items))
-}
-
-/// The journal of a copy of an index with this mapping, which begins with so many copies.
-fn copy_journal(
-    alloc: Global,
-    mapping: &Mapping,
-    top: &Head,
-    node: u32,
-    text: &str,
-) -> Result<Journal, JournalFault>
-    ensures { IfOk result (IsOfMapping mapping.now) }
+/// Whether the first line of a node's text says the same of the index as that of the master's.
+fn check_head(alloc: Global, top: &Head, node: u32, line: &[u8]) -> Result<(), Wrong>
+    ensures { IfOk result (λ _. IsHead top.now.copies node top.now.mapping line.now) }
 {
-    let (first, rest) = parted(text);
-    if let Err(wrong) = check_head(alloc, top, node, first) {
-        return Err(fault_at(node as u64, 1, wrong));
-    }
-    let opening = opening_of(alloc, mapping, top.copies as u32, node)?;
-    let deeds = deeds_of(alloc, node as u64, rest)?;
-    Ok(Journal::OfCopy(opening, deeds))
-}
-
-/// Whether the head of a copy's journal says the same of the index as that of the master's.
-fn check_head(alloc: Global, top: &Head, node: u32, line: &str) -> Result<(), Wrong> {
-    let head = head_of(alloc, line, node)?;
-    if head.copies != top.copies || head.mapping != top.mapping {
+    let head = head_of(alloc, node, line)?;
+    if head.copies != top.copies || !head.mapping.is(&top.mapping) {
         return Err(Wrong::Wanted("this is the journal of another index"));
     }
     Ok(())
 }
 
-fn copy_journals(
-    alloc: Global,
-    mapping: &Mapping,
-    top: &Head,
-    master: Journal,
-    texts: &[String],
-) -> Result<Vec<Journal>, JournalFault>
-    requires { IsOfMapping mapping.now master }
-    ensures { IfOk result (λ js. All (IsOfMapping mapping.now) js.items) }
+// ---- journals
+
+/// What stands behind the last newline: nothing.
+fn check_end(node: u32, line: u64, rest: &[u8]) -> Result<(), JournalFault>
+    ensures { IfOk result (λ _. rest.now ≡ []) }
+{
+    if rest.is_empty() {
+        Ok(())
+    } else {
+        Err(JournalFault::Line(node as u64, line, "the line has no end"))
+    }
+}
+
+fn rulings_of(alloc: Global, text: &[u8]) -> Result<Rulings, JournalFault>
+    ensures { IfOk result (IsTextOf TellsRuling text.now) }
 {
     let mut found = Vec::new(alloc);
-    found.push(master)?;
-    let mut node: u32 = 0;
-    for text in texts {
-        node = node.saturating_add(1);
-        let own = copy_journal(alloc, mapping, top, node, text.as_str())?;
-        found.push(own)?;
+    let mut rest = text;
+    let mut line: u64 = 2;
+    'lines: loop {
+        let (entry, behind) = cut_at(rest, b'\n');
+        let Some(behind) = behind else {
+            check_end(0, line, entry)?;
+            return Ok(Rulings::from_vec(found));
+        };
+        match ruling_of(alloc, entry) {
+            Ok(ruling) => found.push(ruling)?,
+            Err(wrong) => return Err(fault_at(0, line, wrong)),
+        }
+        rest = behind;
+        line = line.saturating_add(1);
+    }
+}
+
+fn deeds_of(alloc: Global, node: u32, text: &[u8]) -> Result<Deeds, JournalFault>
+    ensures { IfOk result (IsTextOf TellsDeed text.now) }
+{
+    let mut found = Vec::new(alloc);
+    let mut rest = text;
+    let mut line: u64 = 2;
+    'lines: loop {
+        let (entry, behind) = cut_at(rest, b'\n');
+        let Some(behind) = behind else {
+            check_end(node, line, entry)?;
+            return Ok(Deeds::from_vec(found));
+        };
+        match deed_of(alloc, entry) {
+            Ok(deed) => found.push(deed)?,
+            Err(wrong) => return Err(fault_at(node, line, wrong)),
+        }
+        rest = behind;
+        line = line.saturating_add(1);
+    }
+}
+
+/// The journal of a node, the master's or a copy's.
+fn journal_of(alloc: Global, top: &Head, node: u32, text: &[u8]) -> Result<Journal, JournalFault>
+    ensures { IfOk result (IsTextOfNode top.now.copies top.now.mapping node text.now) }
+{
+    let (first, rest) = cut_at(text, b'\n');
+    let Some(rest) = rest else {
+        return Err(JournalFault::Line(node as u64, 1, "the line has no end"));
+    };
+    if let Err(wrong) = check_head(alloc, top, node, first) {
+        return Err(fault_at(node, 1, wrong));
+    }
+    if node == 0 {
+        let state = State::begin(alloc, top.copies)?;
+        return Ok(Journal::OfMaster(state, rulings_of(alloc, rest)?));
+    }
+    let opening = opening_of(alloc, &top.mapping, top.copies as u32, node)?;
+    Ok(Journal::OfCopy(opening, deeds_of(alloc, node, rest)?))
+}
+
+fn journals_of(alloc: Global, top: &Head, texts: &[String]) -> Result<Vec<Journal>, JournalFault>
+    ensures { IfOk result (λ js. AreTexts top.now.copies top.now.mapping 0 (map string_bytes texts.now) js.items) }
+{
+    let mut found = Vec::new(alloc);
+    'nodes: for place in 0..texts.len() {
+        let Ok(node) = u32::try_from(place) else {
+            return Err(JournalFault::Line(place as u64, 1, "there are too many journals"));
+        };
+        found.push(journal_of(alloc, top, node, texts[place].as_bytes())?)?;
     }
     Ok(found)
 }
 
-fn top_of(alloc: Global, line: &str) -> Result<(Head, Mapping), Wrong> {
-    let head = head_of(alloc, line, 0)?;
-    let mapping = mapping_of(alloc, &head.mapping)?;
-    Ok((head, mapping))
+fn top_of(alloc: Global, text: &[u8]) -> Result<Head, JournalFault> {
+    let (first, _) = cut_at(text, b'\n');
+    match head_of(alloc, 0, first) {
+        Ok(head) => Ok(head),
+        Err(wrong) => Err(fault_at(0, 1, wrong)),
+    }
 }
 
 /// The mapping of the index, and the journals that the texts are: the first is the master's, the next that of copy 1, and so on. What can't be
 /// read is refused, by its node and line.
 pub fn read(alloc: Global, texts: &[String]) -> Result<(Mapping, Vec<Journal>), JournalFault>
-    ensures { IfOk result (λ r. All (IsOfMapping r.0) r.1.items) }
+    ensures { IfOk result (λ r. IsRead (map string_bytes texts.now) r.0 r.1.items) }
 {
-    let Some((first, others)) = texts.split_first() else {
+    let Some(first) = texts.first() else {
         return Err(JournalFault::Empty);
     };
-    let (line, rest) = parted(first.as_str());
-    let (top, mapping) = match top_of(alloc, line) {
-        Ok(found) => found,
-        Err(wrong) => return Err(fault_at(0, 1, wrong)),
-    };
-    let state = State::begin(alloc, top.copies)?;
-    let master = Journal::OfMaster(state, rulings_of(alloc, rest)?);
-    let journals = copy_journals(alloc, &mapping, &top, master, others)?;
+    let top = top_of(alloc, first.as_bytes())?;
+    let journals = journals_of(alloc, &top, texts)?;
+    let Head { copies: _, mapping } = top;
     Ok((mapping, journals))
 }

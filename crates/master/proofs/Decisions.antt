@@ -12,7 +12,7 @@ use Rattle.translog.specs.Device.{AddsFront, count_after}
 use Rattle.translog.specs.declared.fault.LogFault.{LogFault}
 use Rattle.translog.specs.Fault.{errs_with, fault_of, is_device}
 use Rattle.translog.specs.Frames.{framed, contents_in, AreContents, IsLog, IsUnopened, LosesNothing}
-use Rattle.translog.proofs.FramesLaws.{contents_in_log, whole_log, torn_frame}
+use Rattle.translog.proofs.FramesLaws.{contents_in_log, contents_stay, whole_log, torn_frame}
 use Rattle.op.specs.declared.message.Msg.{Msg}
 use Rattle.master.specs.declared.entry.Entry.{Entry}
 use Rattle.master.specs.declared.fault.MasterFault.{MasterFault}
@@ -110,9 +110,18 @@ frame_more bytes cs c log lt =
       small = contents-push cs c log.small lt;
     }
 
+-- what a log keeps where nothing of it is lost
+pub kept_stays : (old new : List ℕ) → LosesNothing header old new → kept_state new ≡ kept_state old
+unfolding kept_state
+kept_stays old new left = rw (contents_stay header old new refl left) refl
+
 -- what a log of whole frames keeps
 pub kept_log : (bytes : List ℕ) (m : State) → IsLogOf bytes m → kept_state bytes ≡ Ok m
 kept_log bytes m log = found_kept header bytes log.contents refl (ap (contents_in header) log.frames.whole ∙ whole_log header log.contents refl log.frames.small) ∙ log.state
+
+-- a log keeps one state
+pub same_kept : (bytes : List ℕ) (m n : State) → kept_state bytes ≡ Ok m → kept_state bytes ≡ Ok n → n ≡ m
+same_kept bytes m n one two = cc
 
 module _ (bytes : List ℕ) (m : State) (request : Request) (d : Decided) (log : IsLogOf bytes m) (is : master_step m request ≡ Ok d)
     (reads : entry_of (spelled (entry_for request)) ≡ Some (entry_for request)) (small : length (spelled (entry_for request)) < 2 ^ 32) where
@@ -133,10 +142,10 @@ module _ (bytes : List ℕ) (m : State) (request : Request) (d : Decided) (log :
   kept_whole k le = ap (λ l. kept_state (bytes ++ l)) (take_all k (frame_for (entry_for request)) (omega (arith, le))) ∙ kept_log (bytes ++ frame_for (entry_for request)) d.state entry_more
 
   -- a front of its frame leaves what was kept, or all of it what the request leaves
-  pub front_kept : (new : List ℕ) → AddsFront bytes (frame_for (entry_for request)) new → (kept_state new ≡ kept_state bytes) ⊎ (kept_state new ≡ Ok d.state)
+  pub front_kept : (new : List ℕ) → AddsFront bytes (frame_for (entry_for request)) new → (kept_state new ≡ Ok m) ⊎ (kept_state new ≡ Ok d.state)
   front_kept new added =
       elim (cases_lt added.0 (4 + length (spelled (entry_for request)))) [
-        | inl lt ↦ inl (ap kept_state added.1 ∙ torn_log lt ∙ sym (kept_log bytes m log))
+        | inl lt ↦ inl (ap kept_state added.1 ∙ torn_log lt)
         | inr le ↦ inr (ap kept_state added.1 ∙ kept_whole added.0 le)
       ]
     where

@@ -70,7 +70,7 @@ pub record IsClosed (old new : Logged) (step : MasterStep) : Type 0 where
   pub decided : Decided
   pub is : step ≡ Ok decided
   pub once : decided.decision.repeated ≡ false
-  pub log : (kept_state new.log ≡ kept_state old.log) ⊎ (kept_state new.log ≡ Ok decided.state)
+  pub log : (kept_state new.log ≡ Ok old.state) ⊎ (kept_state new.log ≡ Ok decided.state)
   pub counts : new.failures ≡ count_after true old.failures
 
 -- nothing has changed

@@ -115,10 +115,12 @@ impl<D: LogDevice> Master<D> {
         Ok(decision)
     }
 
-    /// Opens the log again, as after a failed append: the state is that of the decisions that it keeps. After a refusal the state stays, and
-    /// requests are refused until the log is opened.
+    /// Opens the log again, as after a failed append: the state is that of the decisions that it keeps, which for a master that isn't closed is
+    /// the state that it has. After a refusal the state stays, and requests are refused until the log is opened.
     pub fn reopen(&mut self, alloc: Global) -> Result<(), LogFault>
         ensures state { Gives fault_of (λ _. self.new.state) result (kept_state self.old.log) }
+        ensures keeps { kept_state self.new.log ≡ kept_state self.old.log }
+        ensures same { self.old.closed ≡ false → OnOk result (self.new.state ≡ self.old.state) }
         ensures opened { OnOk result (self.new.closed ≡ false) }
         ensures left { OnOk result (LosesNothing header self.old.log self.new.log) }
         ensures counts { OnOk result (self.new.failures ≡ self.old.failures) }

@@ -2,3 +2,4 @@ pub mod Replays
 pub mod Halves
 pub mod Calls
 pub mod Receipts
+pub mod Readings

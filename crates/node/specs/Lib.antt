@@ -5,3 +5,4 @@ pub mod Held
 pub mod Telling
 pub mod Stands
 pub mod Gathered
+pub mod Reading

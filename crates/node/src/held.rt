@@ -2,15 +2,19 @@
 ghost use Rattle.std.specs.Prelude.{◌≡◌, [], false, IfOk, IfErr, IfSome, IfNone, IsOk};
 ghost use Rattle.audit.specs.Journal.{IsLegal, open_at};
 ghost use Rattle.audit.specs.declared.journal.Journal.TheVariants.{OfCopy};
+ghost use Rattle.node.specs.Reading.{IsGotFrom, IsUngot};
 ghost use Rattle.node.specs.Stands.{IsDenied, IsStray, LastStands};
 ghost use Rattle.node.specs.Held.{IsCall, IsHeld, IsLastOf, IsRefusal};
 
 use crate::fault::NodeFault;
+use crate::got::Got;
 use crate::pass::{Pass, Receipt};
+use crate::reading::read;
 use crate::standing::stands_at;
 use crate::telling::{Inputs, Spot, tell};
 use audit::{Deed, Deeds, Journal, Opening};
-use replica::{Copy, Input};
+use doc::DocId;
+use replica::{Copy, CopyFault, Input};
 use std::alloc::Global;
 use std::marker::Model;
 use translog::LogDevice;
@@ -114,6 +118,26 @@ impl<D: LogDevice> Held<D> {
         self.deeds.push_reserved(told.own);
         pass.receipts.push_reserved(told.kept);
         told.given
+    }
+
+    /// What the copy has of an id, of all its records; it makes no entry. `Closed` where the copy is closed.
+    pub fn get(&mut self, alloc: Global, id: DocId) -> Result<Got, NodeFault>
+        ensures got { IfOk result (IsGotFrom self.old id) }
+        ensures same { self.new ≡ self.old }
+        ensures refused { IfErr result (IsUngot self.old) }
+    {
+        if self.copy.snapshot().is_none() {
+            return Err(NodeFault::Copy(CopyFault::Closed));
+        }
+        let asked = id.copy(alloc)?;
+        let place = self.deeds.len() as u64;
+        let answer = read(&mut self.copy, alloc, asked)?;
+        Ok(Got {
+            node: self.node,
+            place,
+            id,
+            answer,
+        })
     }
 
     /// The journal, for which the copy is given up.

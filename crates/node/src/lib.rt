@@ -4,12 +4,15 @@
 mod acting;
 pub mod fault;
 pub mod gathering;
+pub mod got;
 pub mod held;
 pub mod pass;
+mod reading;
 mod standing;
 mod telling;
 
 pub use fault::NodeFault;
 pub use gathering::{Stray, gathered};
+pub use got::Got;
 pub use held::Held;
 pub use pass::{Pass, Receipt};

@@ -8,7 +8,8 @@ use anyhow::Result;
 use cluster::{Cluster, Open};
 use doc::Mapping;
 use std::alloc::Global;
-use std::sync::Wait;
+use std::sync::atomic::AtomicBool;
+use std::sync::{Arc, Wait};
 use std::thread::Threads;
 
 /// One run: the append of a number fails on the log of a node.
@@ -19,7 +20,12 @@ fn run_one<R: Threads + Wait + Print + Copy + Send + Sync + Drop + 'static>(
     node: u32,
     bad: u64,
 ) -> Result<()> {
-    let devices = OneShaky { alloc, node, bad };
+    let devices = OneShaky {
+        alloc,
+        node,
+        bad,
+        has_failed: Arc::new(alloc, AtomicBool::new(false))?,
+    };
     let cluster = Cluster::start(rt, alloc, mapping.copy(alloc)?, 3, devices, Open).map_err(told)?;
     let written = write_at_once(rt, alloc, cluster.client(), 0)?;
     let primary = cluster.client().primary(rt);

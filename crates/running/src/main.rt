@@ -1,10 +1,12 @@
 //! Runs copies on threads, and has their journals judged. What it prints is the same whatever order the threads take.
 #![tactic(auto)]
 
+mod beside;
 mod changing;
 mod copying;
 mod crowd;
 mod failing;
+mod in_turn;
 mod judging;
 mod shaky;
 mod writing;
@@ -20,6 +22,8 @@ fn main(rt: HostRuntime) -> Result<()> {
     let alloc = rt.alloc();
     let mapping = Mapping::from_value(alloc, &Value::from_str(alloc, MAPPING)?)?;
     crowd::run(&rt, alloc, &mapping)?;
+    beside::run(&rt, alloc, &mapping)?;
     failing::run(&rt, alloc, &mapping)?;
+    in_turn::run(&rt, alloc, &mapping)?;
     changing::run(&rt, alloc, &mapping)
 }

@@ -3,15 +3,18 @@ ghost use Rattle.std.specs.Prelude.{◌-◌, vec_len, vec_capacity, false};
 
 use cluster::Devices;
 use std::alloc::{AllocError, Global};
+use std::sync::Arc;
+use std::sync::atomic::{AtomicBool, Ordering};
 use translog::{DeviceFault, Failed, LogDevice, LogFault};
 
-/// Bytes in memory. Its appends are counted from 1, and the one of a number fails, once, after it has added half of its piece.
+/// Bytes in memory. Its appends are counted from 1, and the one of a number fails, once, after it has added half of its piece, and tells so.
 #[derive(Drop)]
 pub(crate) struct Shaky {
     bytes: Vec<u8>,
     appends: u64,
     bad: u64,
     failures: u64,
+    has_failed: Arc<AtomicBool, Global>,
 }
 
 impl LogDevice for Shaky {
@@ -32,6 +35,9 @@ impl LogDevice for Shaky {
         let fails = self.appends == self.bad;
         let len = if fails { piece.len() / 2 } else { piece.len() };
         let added = self.bytes.extend_from_slice(&piece[..len]);
+        if fails {
+            self.has_failed.store(true, Ordering::SeqCst);
+        }
         if fails || added.is_err() {
             self.failures = self.failures.saturating_add(1);
             return Err(Failed);
@@ -59,6 +65,7 @@ pub(crate) struct OneShaky {
     pub(crate) alloc: Global,
     pub(crate) node: u32,
     pub(crate) bad: u64,
+    pub(crate) has_failed: Arc<AtomicBool, Global>,
 }
 
 impl Devices<Shaky> for OneShaky {
@@ -68,6 +75,7 @@ impl Devices<Shaky> for OneShaky {
             appends: 0,
             bad: if node == self.node { self.bad } else { 0 },
             failures: 0,
+            has_failed: Arc::try_clone(&self.has_failed)?,
         })
     }
 }

@@ -14,3 +14,4 @@ pub mod PostedLaws
 pub mod BuiltLaws
 pub mod SpanLaws
 pub mod Scans
+pub mod MergedLaws

@@ -4,3 +4,4 @@ pub mod Term
 pub mod Posted
 pub mod Spans
 pub mod Limits
+pub mod Merged

@@ -4,10 +4,12 @@
 mod building;
 pub mod column;
 mod limits;
+pub mod merging;
 mod posting;
 pub mod segment;
 mod spans;
 mod term;
 
 pub use column::Column;
+pub use merging::{LiveSegment, merge, read_kept};
 pub use segment::Segment;

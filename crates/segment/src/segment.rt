@@ -75,6 +75,13 @@ impl Segment {
         self.sources.len()
     }
 
+    /// The texts of its documents.
+    pub(crate) fn sources(&self) -> &[Source]
+        ensures { result.now ≡ self.now.sources }
+    {
+        &self.sources
+    }
+
     /// The column of a field.
     fn column(&self, name: &str) -> Option<&Column>
         ensures { IsColumnOr self.now.mapping.fields (map (all_values self.now.mapping) self.now.sources) name.now (option_map (λ c. c.now) result) }

@@ -1,5 +1,5 @@
 -- What an index of one copy answers a command, and what its copy is after it.
-use Rattle.std.specs.Prelude.{◌≡◌, ◌≢◌, ◌⊎◌, ℕ, Bool, true, false, List, map, length, Option, Some, None, option_map, Result, Ok, Err}
+use Rattle.std.specs.Prelude.{◌≡◌, ◌≢◌, ◌⊎◌, ◌==◌, if◌then◌else◌, ℕ, Bool, true, false, List, map, length, Option, Some, None, option_map, Result, Ok, Err}
 use Rattle.serde_json.specs.Data.{Data}
 use Rattle.doc.specs.Fault as doc
 use Rattle.doc.specs.Id.{Id}
@@ -32,8 +32,8 @@ use Rattle.front.specs.declared.reply.Hit.{Hit}
 use Rattle.front.specs.declared.reply.Outcome.{Outcome}
 use Rattle.front.specs.declared.reply.Outcome.TheVariants.{Created, Updated, Deleted, NotFound}
 use Rattle.front.specs.declared.reply.Refusal.{Refusal}
-use Rattle.front.specs.declared.reply.Refusal.TheVariants.{NotPrimary, VersionConflict, WindowFull, OldTerm, NotSynced, BeyondWindow, Mismatch, Closed, Log, NoMemory, WrongAddress, Exhausted}
-use Rattle.front.specs.Command.{Command, write, get, search, count, refresh}
+use Rattle.front.specs.declared.reply.Refusal.TheVariants.{NotPrimary, VersionConflict, WindowFull, OldTerm, NotSynced, BeyondWindow, Mismatch, Closed, Log, NoMemory, WrongAddress, Exhausted, IsPrimary, NotInSync}
+use Rattle.front.specs.Command.{Command, write, get, search, count, refresh, promote}
 use Rattle.front.specs.Reply.{Reply, wrote, got, hits, counted, refreshed, refused}
 
 -- the mapping that a JSON value is, and the copy of a new index under it
@@ -109,6 +109,10 @@ refreshed_after true c = copy_step c input.Refresh >>= λ s. Ok s.copy
 abbrev pub written : Copy → Write → Asked
 written c w = copy_step c (input_of w) >>= λ s. refreshed_after w.refresh s.copy >>= λ d. Ok (d, reply_of (members_of s.copy.role) s.answer)
 
+-- why one copy isn't promoted: it leads already, and there is no other
+abbrev pub promotion_refusal : ℕ → ℕ → Refusal
+promotion_refusal own copy = if copy == own then IsPrimary else NotInSync
+
 -- a search and a count see the copy's records up to its refresh point
 abbrev pub asked : Copy → Command → Asked
 asked c (write w) = written c w
@@ -116,6 +120,7 @@ asked c (get id) = taken c (input.Get id)
 asked c (search q page) = Ok (c, hits_of (answer c.mapping (shown c.records c.point) q page))
 asked c (count q) = Ok (c, counted (length (found (record { mapping = c.mapping; documents = documents (shown c.records c.point) }) q)))
 asked c refresh = taken c input.Refresh
+asked c (promote copy) = Ok (c, refused (promotion_refusal c.id copy))
 
 -- a refusal leaves the copy as it was
 abbrev pub told : Copy → Asked → Copy × Reply
@@ -134,6 +139,7 @@ IsPartOf (get id) c d = d ≡ c
 IsPartOf (search q page) c d = d ≡ c
 IsPartOf (count q) c d = d ≡ c
 IsPartOf refresh c d = d ≡ c
+IsPartOf (promote copy) c d = d ≡ c
 
 -- whether memory is wanting, or the copy's log has failed
 abbrev pub is_failure : Reply → Bool
@@ -152,6 +158,7 @@ HasFailedIn (get id) s t = ⊥
 HasFailedIn (search q page) s t = ⊥
 HasFailedIn (count q) s t = ⊥
 HasFailedIn refresh s t = ⊥
+HasFailedIn (promote copy) s t = ⊥
 
 -- the reply to a command, and the copy after it
 pub record IsAnswered (s : Logged) (c : Command) (r : Reply) (t : Logged) : Type 0 where

@@ -1,19 +1,27 @@
 -- How a copy is made ready for a command: a closed one is opened again, and one that is to write is made the primary.
-use Rattle.std.specs.Prelude.{◌≡◌, ◌⊎◌, ◌&&◌, ℕ, Bool, true, false, not, Some, Ok}
+use Rattle.std.specs.Prelude.{◌≡◌, ◌≢◌, ◌⊎◌, ◌&&◌, ℕ, Bool, true, false, not, Some, Ok, Err}
 use Rattle.op.specs.declared.message.Msg.{Msg}
+use Rattle.translog.specs.Device.{count_after}
+use Rattle.translog.specs.Fault.{Fault}
+use Rattle.master.specs.declared.fault.MasterFault.{MasterFault}
+use Rattle.master.specs.declared.fault.MasterFault.TheVariants as master
 use Rattle.master.specs.declared.state.Decision.{Decision}
 use Rattle.master.specs.declared.state.Request.TheVariants.{Promote}
-use Rattle.master.specs.declared.state.State.{State}
 use Rattle.master.specs.Decide.{master_step}
+use Rattle.master.specs.Log.{kept_state}
+use Rattle.master.specs.Logged as ruler
+use Rattle.master.specs.Logged.{IsDone, IsRefused}
 use Rattle.replica.specs.declared.fault.CopyFault.{CopyFault}
+use Rattle.replica.specs.declared.fault.CopyFault.TheVariants as copy
 use Rattle.replica.specs.declared.input.Input.TheVariants.{Restart, Take}
 use Rattle.replica.specs.declared.output.Output.{Output}
 use Rattle.replica.specs.declared.role.Role.{Role}
 use Rattle.replica.specs.declared.role.Role.TheVariants.{Empty, Replica, Primary}
-use Rattle.replica.specs.Logged.{Logged, IsRefusal, IsReopened}
+use Rattle.replica.specs.Logged.{Logged, IsRefusal, IsReopened, IsSame}
 use Rattle.replica.specs.Step.{copy_step, stepped}
-use Rattle.front.specs.Command.{Command, write, get, search, count, refresh}
-use Rattle.front.specs.Reply.{Reply}
+use Rattle.front.specs.Command.{Command, write, get, search, count, refresh, promote}
+use Rattle.front.specs.declared.reply.Refusal.TheVariants.{NoMemory}
+use Rattle.front.specs.Reply.{Reply, refused}
 use Rattle.shard.specs.Answering.{IsAnswered}
 
 abbrev pub is_write : Command → Bool
@@ -22,11 +30,14 @@ is_write (get id) = false
 is_write (search q page) = false
 is_write (count q) = false
 is_write refresh = false
+is_write (promote copy) = false
 
 abbrev pub is_primary : Role → Bool
 is_primary Empty = false
 is_primary Replica = false
 is_primary (Primary lead) = true
+
+-- ---- a copy that is closed
 
 -- the copy has the records that its log keeps
 pub record IsOpen (s t : Logged) : Type 0 where
@@ -34,9 +45,10 @@ pub record IsOpen (s t : Logged) : Type 0 where
   pub found : IsReopened s t output
   pub stays_open : t.closed ≡ false
 
--- the copy couldn't be opened
+-- the copy couldn't be opened, for another cause than want of memory
 pub record IsUnopened (s t : Logged) : Type 0 where
   pub fault : CopyFault
+  pub cause : fault ≢ copy.NoMemory
   pub refusal : IsRefusal s t (copy_step s.copy Restart) fault
 
 -- a copy that is closed restarts
@@ -44,46 +56,111 @@ pub record IsReopening (s t : Logged) : Type 0 where
   pub stays : s.closed ≡ false → t ≡ s
   pub restarts : s.closed ≡ true → IsOpen s t ⊎ IsUnopened s t
 
--- the message by which a master makes copy r its primary
-pub record IsPromotion (r : ℕ) (m : Msg) : Type 0 where
-  pub old : State
-  pub new : State
-  pub decision : Decision
-  pub decided : master_step old (Promote r) ≡ Ok (record { state = new; decision = decision })
-  pub sent : decision.sent ≡ Some m
+-- ---- the master
 
--- the copy has taken such a message
-pub record IsPromoted (s t : Logged) : Type 0 where
-  pub message : Msg
-  pub told : IsPromotion s.copy.id message
+-- an open master stays as it is, and a closed one is opened: it has the state that its log keeps
+pub record IsAwake (m n : ruler.Logged) : Type 0 where
+  pub now_open : n.closed ≡ false
+  pub stays : m.closed ≡ false → n ≡ m
+  pub opened : m.closed ≡ true → kept_state m.log ≡ Ok n.state
+
+-- a closed master couldn't be opened: its device failed once more, or its log is no master's
+pub record IsShut (m n : ruler.Logged) : Type 0 where
+  pub was_closed : m.closed ≡ true
+  pub stays_closed : n.closed ≡ true
+  pub state : n.state ≡ m.state
+  pub cause : (n.failures ≡ count_after true m.failures) ⊎ ((f : Fault) × (kept_state m.log ≡ Err f))
+
+-- an open master has made copy r the primary, by this message
+pub record IsPromotion (r : ℕ) (m n : ruler.Logged) (message : Msg) : Type 0 where
+  pub decision : Decision
+  pub done : IsDone m n (Promote r) decision (master_step m.state (Promote r))
+  pub sent : decision.sent ≡ Some message
+
+-- an open master has refused to, for another cause than want of memory
+pub record IsDenial (r : ℕ) (m n : ruler.Logged) : Type 0 where
+  pub fault : MasterFault
+  pub cause : fault ≢ master.NoMemory
+  pub refused : IsRefused fault m n (master_step m.state (Promote r))
+
+-- the message by which the master has made copy r the primary; it was opened first where it was closed
+pub record IsTold (r : ℕ) (m n : ruler.Logged) (message : Msg) : Type 0 where
+  pub awake : ruler.Logged
+  pub opened : IsAwake m awake
+  pub promotion : IsPromotion r awake n message
+
+-- the master is open, and has refused to make copy r the primary
+pub record IsDenied (r : ℕ) (m n : ruler.Logged) : Type 0 where
+  pub awake : ruler.Logged
+  pub opened : IsAwake m awake
+  pub denial : IsDenial r awake n
+
+-- no message comes from the master
+abbrev pub IsUntold : ℕ → ruler.Logged → ruler.Logged → Type 0
+IsUntold r m n = IsShut m n ⊎ IsDenied r m n
+
+-- ---- a copy that has to lead
+
+-- the copy has taken a message
+pub record HasTaken (s t : Logged) (message : Msg) : Type 0 where
   pub output : Output
   pub step : copy_step s.copy (Take message) ≡ Ok (stepped t.copy output)
   pub stays_open : t.closed ≡ false
 
--- the copy has refused such a message
-pub record IsUnpromoted (s t : Logged) : Type 0 where
-  pub message : Msg
-  pub told : IsPromotion s.copy.id message
+-- the copy has refused it, for another cause than want of memory
+pub record HasRefused (s t : Logged) (message : Msg) : Type 0 where
   pub fault : CopyFault
+  pub cause : fault ≢ copy.NoMemory
   pub refusal : IsRefusal s t (copy_step s.copy (Take message)) fault
 
--- whether a copy has to be promoted before it is asked
-abbrev pub has_to_lead : Bool → Role → Bool
-has_to_lead writes role = writes && not (is_primary role)
+abbrev pub IsTaking : Logged → Logged → Msg → Type 0
+IsTaking s t message = HasTaken s t message ⊎ HasRefused s t message
 
--- a copy that has to lead and doesn't is promoted, where the master tells it so
-pub record IsLeading (writes : Bool) (s t : Logged) : Type 0 where
-  pub stays : has_to_lead writes s.copy.role ≡ false → t ≡ s
-  pub leads : (t ≡ s) ⊎ (IsPromoted s t ⊎ IsUnpromoted s t)
+-- the copy has taken the message by which the master made it the primary, or refused it
+pub record IsPromoted (s t : Logged) (m n : ruler.Logged) : Type 0 where
+  pub message : Msg
+  pub told : IsTold s.copy.id m n message
+  pub taking : IsTaking s t message
 
--- the copy that is asked, in place of the one that was there
-pub record IsReady (writes : Bool) (s u : Logged) : Type 0 where
+-- the copy is as it was, since the master has no message for it
+pub record IsUnled (s t : Logged) (m n : ruler.Logged) : Type 0 where
+  pub stays : t ≡ s
+  pub untold : IsUntold s.copy.id m n
+
+-- whether a copy has to be promoted before it is asked: it is to write, is open, and isn't the primary
+abbrev pub has_to_lead : Bool → Logged → Bool
+has_to_lead writes s = writes && not (is_primary s.copy.role) && not s.closed
+
+-- a copy that has to lead is told so and takes or refuses it, or the master refuses to
+pub record IsLeading (writes : Bool) (s t : Logged) (m n : ruler.Logged) : Type 0 where
+  pub stays : has_to_lead writes s ≡ false → (t ≡ s) × (n ≡ m)
+  pub leads : has_to_lead writes s ≡ true → IsPromoted s t m n ⊎ IsUnled s t m n
+
+-- ---- a command
+
+-- the copy that is asked, in place of the one that was there, and the master
+pub record IsReady (writes : Bool) (s u : Logged) (m n : ruler.Logged) : Type 0 where
   pub between : Logged
   pub reopened : IsReopening s between
-  pub led : IsLeading writes between u
+  pub led : IsLeading writes between u m n
 
--- the reply to a command, and the copy after it, once the copy is ready
-pub record IsServed (s : Logged) (c : Command) (r : Reply) (t : Logged) : Type 0 where
+-- memory was wanting before the copy was ready: it is as it was, or opened again
+pub record IsUnready (s u : Logged) : Type 0 where
+  pub between : Logged
+  pub reopened : (between ≡ s) ⊎ IsReopening s between
+  pub same : IsSame between u
+
+-- the copy was made ready, and was then asked
+pub record IsAsked (s : Logged) (m : ruler.Logged) (c : Command) (r : Reply) (t : Logged) (n : ruler.Logged) : Type 0 where
   pub asked : Logged
-  pub ready : IsReady (is_write c) s asked
+  pub ready : IsReady (is_write c) s asked m n
   pub answered : IsAnswered asked c r t
+
+-- memory was wanting to make it ready, and that is told
+pub record IsWanting (s : Logged) (r : Reply) (t : Logged) : Type 0 where
+  pub reply : r ≡ refused NoMemory
+  pub unready : IsUnready s t
+
+-- the reply to a command, and the copy and the master after it
+pub record IsServed (s : Logged) (m : ruler.Logged) (c : Command) (r : Reply) (t : Logged) (n : ruler.Logged) : Type 0 where
+  pub served : IsAsked s m c r t n ⊎ IsWanting s r t

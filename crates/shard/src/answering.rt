@@ -48,6 +48,18 @@ pub(crate) fn answer<D: LogDevice>(
         Command::Search(body) => search(alloc, copy, &body),
         Command::Count(query) => count(alloc, copy, &query),
         Command::Refresh => take(alloc, copy, Input::Refresh),
+        Command::Promote(other) => Ok(Reply::Refused(promotion_refusal(copy.id(), other))),
+    }
+}
+
+/// Why one copy isn't promoted: it leads whenever it is to write, and there is no other.
+fn promotion_refusal(own: u32, copy: u32) -> Refusal
+    ensures { result ≡ spec.promotion_refusal own copy }
+{
+    if copy == own {
+        Refusal::IsPrimary
+    } else {
+        Refusal::NotInSync
     }
 }
 
@@ -133,7 +145,13 @@ pub(crate) fn reply_of(output: Output) -> Reply
         acknowledged: _,
         members,
     } = output;
-    let copies = members as u64;
+    reply_in(answer, members as u64)
+}
+
+/// The reply that tells an answer; so many copies have to acknowledge a write.
+pub(crate) fn reply_in(answer: Answer, copies: u64) -> Reply
+    ensures { reply_view result ≡ spec.reply_of copies answer }
+{
     match answer {
         Answer::Wrote(written) => Reply::Wrote(Wrote {
             seq: written.seq,

@@ -2,14 +2,14 @@
 ghost use Rattle.std.specs.Prelude.{◌≡◌, length, IfOk};
 ghost use Rattle.query.specs.View.{query_view};
 ghost use Rattle.engine.specs.Answer.{answer_of, found};
-ghost use Rattle.replica.specs.declared.input.Input.TheVariants as input;
 ghost use Rattle.front.specs.CommandView.{command_view};
 ghost use Rattle.front.specs.Reply as reply;
 ghost use Rattle.front.specs.ReplyView.{reply_view};
 ghost use Rattle.shard.specs.Answering as spec;
-ghost use Rattle.shard.specs.Group.{told_by, IsCounted, IsDone, IsEntered, IsFound, IsRefreshed, IsWritten};
+ghost use Rattle.shard.specs.Group.{told_by, IsCounted, IsDone, IsFound, IsGot, IsRefreshed, IsWritten};
 
-use crate::answering::{hits_of, refusal_of, reply_of, write_of};
+use crate::answering::{hits_of, refusal_of, reply_in, reply_of, write_of};
+use crate::promoting::{is_promotion, promote, refusal_to};
 use cluster::{Client, ClusterFault, Confirmed};
 use doc::{DocId, Mapping};
 use engine::Snapshot;
@@ -18,7 +18,7 @@ use front::command::{Command, Write};
 use front::reply::{Refusal, Reply};
 use node::Receipt;
 use query::{Page, Query, SearchBody};
-use replica::{CopyFault, Input, Output};
+use replica::{CopyFault, Output};
 use std::alloc::Global;
 use std::sync::Wait;
 use translog::LogDevice;
@@ -51,9 +51,10 @@ impl<'a, R: Wait, D: LogDevice> Service for Group<'a, R, D> {
     }
 
     fn call(&mut self, command: Command) -> Reply {
+        let promotes = is_promotion(&command);
         match self.answer(command) {
             Ok(reply) => reply,
-            Err(fault) => Reply::Refused(refusal_by(&fault)),
+            Err(fault) => Reply::Refused(refusal_to(promotes, &fault)),
         }
     }
 }
@@ -69,6 +70,7 @@ impl<'a, R: Wait, D: LogDevice> Group<'a, R, D> {
             Command::Search(body) => self.search(&body),
             Command::Count(query) => self.count(&query),
             Command::Refresh => self.refresh(),
+            Command::Promote(copy) => promote(self.rt, self.client, copy),
         }
     }
 
@@ -85,11 +87,11 @@ impl<'a, R: Wait, D: LogDevice> Group<'a, R, D> {
     }
 
     fn get(&self, id: DocId) -> Result<Reply, ClusterFault>
-        ensures { IfOk result (λ r. IsEntered (input.Get id) (reply_view r)) }
+        ensures { IfOk result (λ r. IsGot id (reply_view r)) }
     {
         let primary = self.client.primary(self.rt);
-        let receipt = self.client.call(self.rt, primary, Input::Get(id))?;
-        Ok(told_in(receipt))
+        let answer = self.client.get(self.rt, primary, id)?;
+        Ok(reply_in(answer, 0))
     }
 
     fn search(&self, body: &SearchBody) -> Result<Reply, ClusterFault>
@@ -168,7 +170,7 @@ fn count_in(alloc: Global, shown: &Snapshot, query: &Query) -> Result<Reply, Clu
 }
 
 /// The refusal that tells why copies give no answer. A write that nobody acknowledges may be kept.
-fn refusal_by(fault: &ClusterFault) -> Refusal {
+pub(crate) fn refusal_by(fault: &ClusterFault) -> Refusal {
     match fault {
         ClusterFault::NoPrimary(_)
         | ClusterFault::Lost(_, _)

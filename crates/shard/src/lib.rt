@@ -3,6 +3,7 @@
 
 mod answering;
 pub mod group;
+mod promoting;
 mod ready;
 pub mod shard;
 

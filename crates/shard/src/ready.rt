@@ -1,27 +1,30 @@
 //! Making a copy ready for a command.
-ghost use Rattle.std.specs.Prelude.{◌≡◌, ◌⊎◌, false, IfSome};
+ghost use Rattle.std.specs.Prelude.{◌≡◌, ◌⊎◌, false, IfNone, IfOk, IfSome, OnErr, OnOk};
 ghost use Rattle.front.specs.CommandView.{command_view};
+ghost use Rattle.replica.specs.Logged.{IsSame};
 ghost use Rattle.shard.specs.Ready as spec;
-ghost use Rattle.shard.specs.Ready.{IsLeading, IsOpen, IsPromoted, IsPromotion, IsReady, IsReopening, IsUnopened, IsUnpromoted};
+ghost use Rattle.shard.specs.Ready.{IsDenial, IsLeading, IsOpen, IsPromotion, IsReady, IsReopening, IsTaking, IsTold, IsUnopened, IsUnready, IsUntold};
 
 use front::Command;
-use master::{Master, Request};
+use master::{Master, MasterFault, Request};
 use op::Msg;
-use replica::{Copy, Input, Role};
-use std::alloc::Global;
-use translog::LogDevice;
+use replica::{Copy, CopyFault, Input, Role};
+use std::alloc::{AllocError, Global};
+use translog::{LogDevice, LogFault};
 
-/// Opens a closed copy again, and has the master make one that is to write its primary. What can't be done is left undone.
+/// Opens a closed copy again, and has the master make one that is to write its primary. What can't be done is left undone; want of memory
+/// is told.
 pub(crate) fn make_ready<D: LogDevice>(
     alloc: Global,
     copy: &mut Copy<D>,
     master: &mut Master<D>,
     writes: bool,
-)
-    ensures { IsReady writes copy.old copy.new }
+) -> Result<(), AllocError>
+    ensures ready { OnOk result (IsReady writes copy.old copy.new master.old master.new) }
+    ensures wanting { OnErr result (IsUnready copy.old copy.new) }
 {
-    reopen(alloc, copy);
-    lead(alloc, copy, master, writes);
+    reopen(alloc, copy)?;
+    lead(alloc, copy, master, writes)
 }
 
 /// Whether a command is a write.
@@ -30,7 +33,11 @@ pub(crate) fn is_write(command: &Command) -> bool
 {
     match command {
         Command::Write(_) => true,
-        Command::Get(_) | Command::Search(_) | Command::Count(_) | Command::Refresh => false,
+        Command::Get(_)
+        | Command::Search(_)
+        | Command::Count(_)
+        | Command::Refresh
+        | Command::Promote(_) => false,
     }
 }
 
@@ -44,64 +51,88 @@ pub(crate) fn is_primary(role: &Role) -> bool
     }
 }
 
-fn reopen<D: LogDevice>(alloc: Global, copy: &mut Copy<D>)
-    ensures { IsReopening copy.old copy.new }
+fn reopen<D: LogDevice>(alloc: Global, copy: &mut Copy<D>) -> Result<(), AllocError>
+    ensures done { OnOk result (IsReopening copy.old copy.new) }
+    ensures wanting { OnErr result (IsSame copy.old copy.new) }
 {
     if copy.snapshot().is_some() {
-        return;
+        return Ok(());
     }
-    restart(alloc, copy);
+    restart(alloc, copy)
 }
 
-fn restart<D: LogDevice>(alloc: Global, copy: &mut Copy<D>)
-    ensures { IsOpen copy.old copy.new ⊎ IsUnopened copy.old copy.new }
+fn restart<D: LogDevice>(alloc: Global, copy: &mut Copy<D>) -> Result<(), AllocError>
+    ensures done { OnOk result (IsOpen copy.old copy.new ⊎ IsUnopened copy.old copy.new) }
+    ensures wanting { OnErr result (IsSame copy.old copy.new) }
 {
     match copy.step(alloc, Input::Restart) {
-        Ok(_) => {}
-        Err(_) => {}
+        Ok(_) => Ok(()),
+        Err(CopyFault::NoMemory) => Err(AllocError),
+        Err(_) => Ok(()),
     }
 }
 
-fn lead<D: LogDevice>(alloc: Global, copy: &mut Copy<D>, master: &mut Master<D>, writes: bool)
-    ensures { IsLeading writes copy.old copy.new }
+fn lead<D: LogDevice>(
+    alloc: Global,
+    copy: &mut Copy<D>,
+    master: &mut Master<D>,
+    writes: bool,
+) -> Result<(), AllocError>
+    ensures done { OnOk result (IsLeading writes copy.old copy.new master.old master.new) }
+    ensures wanting { OnErr result (IsSame copy.old copy.new) }
 {
     if !writes || is_primary(copy.role()) || copy.snapshot().is_none() {
-        return;
+        return Ok(());
     }
-    let Some(message) = promotion(alloc, master, copy.id()) else {
-        return;
-    };
-    take(alloc, copy, message);
+    match promotion(alloc, master, copy.id())? {
+        Some(message) => take(alloc, copy, message),
+        None => Ok(()),
+    }
 }
 
-/// The message by which the master makes a copy its primary. A master that is closed is opened again first.
-fn promotion<D: LogDevice>(alloc: Global, master: &mut Master<D>, id: u32) -> Option<Msg>
-    ensures { IfSome result (IsPromotion id) }
+/// The message by which the master makes a copy its primary, where it does. A master that is closed is opened again first.
+fn promotion<D: LogDevice>(
+    alloc: Global,
+    master: &mut Master<D>,
+    id: u32,
+) -> Result<Option<Msg>, AllocError>
+    ensures told { IfOk result (λ o. IfSome o (IsTold id master.old master.new)) }
+    ensures untold { IfOk result (λ o. IfNone o (IsUntold id master.old master.new)) }
 {
-    if master.is_closed() {
-        if let Err(_) = master.reopen(alloc) {
-            return None;
-        }
+    if !master.is_closed() {
+        return promote(alloc, master, id);
     }
-    promote(alloc, master, id)
+    match master.reopen(alloc) {
+        Ok(()) => promote(alloc, master, id),
+        Err(LogFault::NoMemory) => Err(AllocError),
+        Err(_) => Ok(None),
+    }
 }
 
-fn promote<D: LogDevice>(alloc: Global, master: &mut Master<D>, id: u32) -> Option<Msg>
-    ensures { IfSome result (IsPromotion id) }
+fn promote<D: LogDevice>(
+    alloc: Global,
+    master: &mut Master<D>,
+    id: u32,
+) -> Result<Option<Msg>, AllocError>
+    requires { master.old.closed ≡ false }
+    ensures told { IfOk result (λ o. IfSome o (IsPromotion id master.old master.new)) }
+    ensures denied { IfOk result (λ o. IfNone o (IsDenial id master.old master.new)) }
 {
     match master.step(alloc, Request::Promote(id)) {
-        Ok(decision) => decision.sent,
-        Err(_) => None,
+        Ok(decision) => Ok(decision.sent),
+        Err(MasterFault::NoMemory) => Err(AllocError),
+        Err(_) => Ok(None),
     }
 }
 
-fn take<D: LogDevice>(alloc: Global, copy: &mut Copy<D>, message: Msg)
-    requires open { copy.old.closed ≡ false }
-    requires told { IsPromotion copy.old.copy.id message }
-    ensures { IsPromoted copy.old copy.new ⊎ IsUnpromoted copy.old copy.new }
+fn take<D: LogDevice>(alloc: Global, copy: &mut Copy<D>, message: Msg) -> Result<(), AllocError>
+    requires { copy.old.closed ≡ false }
+    ensures done { OnOk result (IsTaking copy.old copy.new message) }
+    ensures wanting { OnErr result (IsSame copy.old copy.new) }
 {
     match copy.step(alloc, Input::Take(message)) {
-        Ok(_) => {}
-        Err(_) => {}
+        Ok(_) => Ok(()),
+        Err(CopyFault::NoMemory) => Err(AllocError),
+        Err(_) => Ok(()),
     }
 }

@@ -1,15 +1,16 @@
 //! An index of one copy and its master, over devices of one kind.
-ghost use Rattle.std.specs.Prelude.{◌≡◌, ◌&&◌, true, false, not, IfOk, string_bytes};
+ghost use Rattle.std.specs.Prelude.{◌≡◌, ◌&&◌, true, false, not, IfOk, OnErr, OnOk, string_bytes};
 ghost use Rattle.serde_json.specs.View.{view};
 ghost use Rattle.doc.specs.Fault.{fault_of};
 ghost use Rattle.doc.specs.Outcome.{Gives};
 ghost use Rattle.shard.specs.Answering.{begun_under};
 ghost use Rattle.shard.specs.Ready as spec;
-ghost use Rattle.shard.specs.Ready.{IsReady};
+ghost use Rattle.shard.specs.Ready.{IsReady, IsUnready};
 
 use crate::answering::reply_to;
 use crate::ready::{is_primary, is_write, make_ready};
 use doc::{DocFault, Mapping};
+use front::reply::Refusal;
 use front::{Command, Reply, Service};
 use master::Master;
 use replica::Copy;
@@ -72,14 +73,15 @@ impl<D: LogDevice> Shard<D> {
     }
 
     /// Makes the copy ready for writes, and tells whether it is: open, and the primary.
-    pub fn lead(&mut self) -> bool
-        ensures ready { IsReady true self.old.copy self.new.copy }
-        ensures leads { result ≡ (not self.new.copy.closed && spec.is_primary self.new.copy.copy.role) }
+    pub fn lead(&mut self) -> Result<bool, AllocError>
+        ensures ready { OnOk result (IsReady true self.old.copy self.new.copy self.old.master self.new.master) }
+        ensures wanting { OnErr result (IsUnready self.old.copy self.new.copy) }
+        ensures leads { IfOk result (λ b. b ≡ (not self.new.copy.closed && spec.is_primary self.new.copy.copy.role)) }
         ensures name { string_bytes self.new.name ≡ string_bytes self.old.name }
         ensures mapping { self.new.mapping ≡ self.old.mapping }
     {
-        make_ready(self.alloc, &mut self.copy, &mut self.master, true);
-        self.copy.snapshot().is_some() && is_primary(self.copy.role())
+        make_ready(self.alloc, &mut self.copy, &mut self.master, true)?;
+        Ok(self.copy.snapshot().is_some() && is_primary(self.copy.role()))
     }
 }
 
@@ -91,7 +93,7 @@ impl<D: LogDevice> Service for Shard<D> {
 
     ghost fields = { λ s. s.mapping };
 
-    ghost answers = { λ s c r t. IsServed s.copy c r t.copy };
+    ghost answers = { λ s c r t. IsServed s.copy s.master c r t.copy t.master };
 
     fn index(&self) -> &str {
         self.name.as_str()
@@ -103,7 +105,9 @@ impl<D: LogDevice> Service for Shard<D> {
 
     fn call(&mut self, command: Command) -> Reply {
         let writes = is_write(&command);
-        make_ready(self.alloc, &mut self.copy, &mut self.master, writes);
+        if make_ready(self.alloc, &mut self.copy, &mut self.master, writes).is_err() {
+            return Reply::Refused(Refusal::NoMemory);
+        }
         reply_to(self.alloc, &mut self.copy, command)
     }
 }

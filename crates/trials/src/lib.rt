@@ -12,7 +12,7 @@ mod engines;
 #[cfg(test)]
 mod masters;
 #[cfg(test)]
-mod messages;
+mod merges;
 #[cfg(test)]
 mod records;
 #[cfg(test)]

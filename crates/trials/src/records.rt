@@ -32,3 +32,16 @@ pub(crate) fn delete(alloc: Global) -> Result<Record, Fail>
     };
     Ok(Record::Op(0, op))
 }
+
+/// The delete of the document at an id, with the number.
+pub(crate) fn delete_of(alloc: Global, seq: u8, id: &str) -> Result<Record, Fail>
+    ensures { IfOk result IsRecord }
+{
+    let op = Op {
+        seq: u64::from(seq),
+        term: 1,
+        version: 2,
+        body: Body::Delete(DocId::new(alloc, id)?),
+    };
+    Ok(Record::Op(-1, op))
+}

@@ -1,6 +1,6 @@
 -- The place of a copy.
 use Rattle.std.proofs.Common.{◌≡◌, ℕ, zero, suc, ◌+◌, ◌<◌, Bool, true, false, ◌==◌, List, [], ◌∷◌, ◌++◌, length, get_or, set, Option, Some, None, refl, ap, ◌∙◌, arith, if◌then◌else◌}
-use Rattle.std.specs.Prelude.{option_map}
+use Rattle.std.specs.Prelude.{is_some, option_map}
 use Rattle.replica.specs.Copy.{Copy}
 use Rattle.replica.specs.Logged.{Logged}
 use Rattle.world.specs.Nodes.{copies_of, AreOpen}
@@ -88,3 +88,13 @@ pub passed : (b : Bool) (n : ℕ) (o : Option ℕ) → b ≡ false → onward n 
 passed true n o other = absurd cc
 passed false n None other = refl
 passed false n (Some j) other = ap (λ (m : ℕ). Some m) (omega arith)
+
+found_or : (b : Bool) (c : Copy) (o : Option ℕ) (r : Option Copy) (i : ℕ) → ((j : ℕ) → o ≡ Some j → is_some r ≡ true) → (if b then Some 0 else option_map suc o) ≡ Some i → is_some (if b then Some c else r) ≡ true
+found_or true c o r i h e = refl
+found_or false c None r i h e = absurd (cc e)
+found_or false c (Some j) r i h e = h j refl
+
+-- where an id has a place, its copy is there
+pub place_found : (cs : List Copy) (id i : ℕ) → place_in cs id ≡ Some i → is_some (copy_in cs id) ≡ true
+place_found [] id i e = absurd (cc e)
+place_found (c ∷ cs) id i e = found_or (c.id == id) c (place_in cs id) (copy_in cs id) i (place_found cs id) e

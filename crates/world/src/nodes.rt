@@ -1,5 +1,5 @@
 //! The nodes of a world, and the messages between them.
-ghost use Rattle.std.specs.Prelude.{◌≡◌, ◌<◌, ◌≤◌, false, vec_len, vec_capacity, IfOk, IfErr, IfSome, OnOk, OnErr};
+ghost use Rattle.std.specs.Prelude.{◌≡◌, ◌<◌, ◌≤◌, false, vec_len, vec_capacity, IfOk, IfErr, IfSome, OnOk, OnErr, is_some};
 ghost use Rattle.std.specs.Option.{option_map};
 ghost use Rattle.doc.specs.Outcome.{Gives};
 ghost use Rattle.master.specs.Decide.{master_step};
@@ -11,8 +11,9 @@ ghost use Rattle.world.specs.World.{answering, at_copy, at_master, copy_in, deci
 mod copies;
 
 use crate::event::{Event, EventAnswer};
-use crate::nodes::copies::{add_one, added, begun, place_of, step_copy, tear_copy};
+use crate::nodes::copies::{add_one, added, begun, place_of, step_copy, swap_at, tear_copy};
 use doc::Mapping;
+use engine::Merging;
 use master::{Decision, Master, MasterFault, Request, State};
 use op::{Content, Msg, Op};
 use replica::{Copy, CopyFault, Input};
@@ -31,6 +32,15 @@ pub(crate) struct Nodes {
     copies: Vec<OneCopy>,
     messages: Vec<Msg>,
     acknowledged: Vec<Op>,
+    /// Merges that were begun and not put in place yet, one a copy. They are no part of the world: what a copy keeps and shows doesn't hang on them.
+    merges: Vec<Begun>,
+}
+
+/// A merge that was begun at a copy.
+#[derive(Drop)]
+struct Begun {
+    copy: u32,
+    merging: Merging,
 }
 
 impl Model for Nodes {
@@ -68,6 +78,7 @@ impl Nodes {
             copies: begun(alloc, mapping, copies)?,
             messages: Vec::new(alloc),
             acknowledged: Vec::new(alloc),
+            merges: Vec::new(alloc),
         })
     }
 
@@ -133,6 +144,34 @@ impl Nodes {
             Some(place) => Some(&self.copies[place]),
             None => None,
         }
+    }
+
+    /// Begins a merge at a copy, in place of one that was begun there before. `false` where the copy isn't there.
+    pub(crate) fn begin_merge(&mut self, id: u32) -> Result<bool, AllocError>
+        ensures same { self.new ≡ self.old }
+        ensures there { IfOk result (λ b. b ≡ is_some (copy_in self.old.copies id)) }
+    {
+        let Some(copy) = self.copy(id) else {
+            return Ok(false);
+        };
+        let merging = copy.begin_merge()?;
+        let _earlier = taken(&mut self.merges, id);
+        self.merges.push(Begun { copy: id, merging })?;
+        Ok(true)
+    }
+
+    /// Ends the merge that was begun at a copy: it is built, and put in place if what it is made of is still there.
+    pub(crate) fn swap_merged(&mut self, alloc: Global, id: u32) -> Result<bool, AllocError>
+        ensures same { self.new ≡ self.old }
+        ensures there { IfOk result (λ b. b ≡ is_some (copy_in self.old.copies id)) }
+    {
+        let Some(place) = place_of(&self.copies, id) else {
+            return Ok(false);
+        };
+        if let Some(merging) = taken(&mut self.merges, id) {
+            swap_at(alloc, &mut self.copies, place, &merging)?;
+        }
+        Ok(true)
     }
 
     /// A step of a copy.
@@ -270,6 +309,16 @@ impl Nodes {
         let made = self.master.step(alloc, request);
         follow(&mut self.copies, &mut self.messages, copy, decision, made)
     }
+}
+
+/// Takes the merge that was begun at a copy, if there is one.
+fn taken(merges: &mut Vec<Begun>, id: u32) -> Option<Merging> {
+    for at in 0..merges.len() {
+        if merges[at].copy == id {
+            return Some(merges.swap_remove(at).merging);
+        }
+    }
+    None
 }
 
 /// Adds what a decision gives and tells, where it was made.

@@ -1,5 +1,5 @@
 //! A world: what events make of a new index of some copies.
-ghost use Rattle.std.specs.Prelude.{◌≡◌, ◌≤◌, false, length, IfOk, IfErr, IfSome, OnOk, OnErr};
+ghost use Rattle.std.specs.Prelude.{◌≡◌, ◌≤◌, false, length, IfOk, IfErr, IfSome, OnOk, OnErr, is_some};
 ghost use Rattle.std.specs.Option.{option_map};
 ghost use Rattle.world.specs.Held.{Held};
 ghost use Rattle.world.specs.Reached.{IsRefusedRun};
@@ -50,6 +50,23 @@ impl World {
         ensures held { Held self.new }
     {
         self.nodes.step(alloc, event)
+    }
+
+    /// Begins a merge of the parts that searches at a copy look through; one that was begun there before is dropped. `false` where the
+    /// copy isn't there. A merge is no event: the world stays as it is.
+    pub fn begin_merge(&mut self, copy: u32) -> Result<bool, AllocError>
+        ensures same { self.new ≡ self.old }
+        ensures there { IfOk result (λ b. b ≡ is_some (copy_in self.old.copies copy)) }
+    {
+        self.nodes.begin_merge(copy)
+    }
+
+    /// Builds the merge that was begun at a copy, if there is one, and puts it in place if the parts that it is made of are still there.
+    pub fn swap_merged(&mut self, alloc: Global, copy: u32) -> Result<bool, AllocError>
+        ensures same { self.new ≡ self.old }
+        ensures there { IfOk result (λ b. b ≡ is_some (copy_in self.old.copies copy)) }
+    {
+        self.nodes.swap_merged(alloc, copy)
     }
 
     /// The mapping that documents are read under.

@@ -1,5 +1,5 @@
 use Rattle.std.proofs.Common.{◌≡◌, map, take}
-use Rattle.engine.specs.Shown.{read_under}
+use Rattle.segment.specs.Merged.{read_under}
 use Rattle.engine.proofs.block.docs_of.Given as goal
 
 -- the entries so far are read

@@ -1,0 +1,164 @@
+-- What a call leaves of what is shown.
+use Rattle.std.proofs.Common.{◌≡◌, ℕ, suc, Bool, true, false, List, [], ◌∷◌, ◌++◌, length, refl, sym, ap, subst, ◌∙◌, append-nil, Option, Some, None, Result, Ok, Err, IfOk, OnOk, OnErr, ◌⊎◌, ⊎_elim}
+use Rattle.std.specs.Prelude.{IsOk}
+use Rattle.replica.specs.declared.fault.CopyFault.{CopyFault}
+use Rattle.replica.specs.declared.input.Input.{Input}
+use Rattle.replica.specs.declared.input.Input.TheVariants.{Write, Take, Report, Refresh, Get, Restart}
+use Rattle.replica.specs.declared.output.Answer.TheVariants.{Point}
+use Rattle.replica.specs.declared.output.Output.{Output}
+use Rattle.replica.specs.declared.role.Role.{Role}
+use Rattle.replica.specs.declared.role.Role.TheVariants.{Empty, Replica, Primary}
+use Rattle.replica.specs.Copy.{Copy, opened}
+use Rattle.replica.specs.Fault.{is_log}
+use Rattle.replica.specs.Logged.{Logged, is_refresh}
+use Rattle.replica.specs.Step.{Step, Stepped, copy_step, settled_as}
+use Rattle.replica.proofs.Settled.{settled_opened}
+use Rattle.published.specs.declared.listing.Listing.{Listing}
+use Rattle.published.specs.declared.showing.Showing.{Showing}
+use Rattle.published.specs.Line.{Line, line}
+use Rattle.published.specs.Listings.{GoesOn, StartsWith}
+use Rattle.published.specs.Showing.{cell_of, listing}
+use Rattle.published.proofs.Orders.{self-GoesOn, trans-GoesOn, trans-StartsWith}
+use Rattle.audit.specs.declared.journal.Deed.{Deed}
+use Rattle.audit.specs.Journal.{Shut, Standing, after, answered, found, is_kept, left_by, next, open_at, refused_at, reopened}
+use Rattle.node.specs.Held.{JournalData, IsHeld}
+use Rattle.cell.specs.Publishing.{CellData, IsBegun, IsLater, IsPublishedOf, IsShownBy, IsAllShown}
+use Rattle.node.specs.Reading.{standing}
+use Rattle.node.specs.Replay.{IsReplayedAs}
+use Rattle.cell.proofs.Steps.{step-grows}
+
+-- ---- records only get more
+
+same_later : (c : Copy) → IsLater c c
+same_later c = record { mapping = refl; records = ([], sym (append-nil c.records)) }
+
+left_later : (c : Copy) (r : Step) → IfOk r (λ s. IsLater s.copy c) → IsLater (left_by c r) c
+left_later c (Ok s) h = h
+left_later c (Err e) h = same_later c
+
+refused_later : (c : Copy) (place : ℕ) (input : Input) (b : Bool) → IsLater (refused_at c place input b).copy c
+refused_later c place input true = same_later c
+refused_later c place input false = same_later c
+
+reopened_later : (c : Copy) (f : Shut) (b : Bool) → StartsWith f.other c.records → IsLater (reopened c (found c f b)) c
+reopened_later c f true other = record { mapping = refl; records = other }
+reopened_later c f false other = record { mapping = refl; records = ([], sym (append-nil c.records)) }
+
+answered_later : (c : Copy) (shut : Option Shut) (place : ℕ) (input : Input) (r : Result Output CopyFault) (l : Logged) → IsReplayedAs c shut l → IsLater (answered c shut place input r).copy c
+answered_later c None place input (Ok output) l is = left_later c (copy_step c input) (step-grows c input)
+answered_later c None place input (Err e) l is = refused_later c place input (is_log e)
+answered_later c (Some f) place input (Ok output) l is = reopened_later c f (is_kept c f output) is.other
+answered_later c (Some f) place input (Err e) l is = same_later c
+
+-- after one entry more
+at_snoc : (P : Standing → Type 0) (s : Standing) (place : ℕ) (deeds : List Deed) (d : Deed) → ((at : ℕ) → P (next (after s place deeds) at d)) → P (after s place (deeds ++ d ∷ []))
+at_snoc P s place [] d h = h place
+at_snoc P s place (e ∷ deeds) d h = at_snoc P (next s place e) (suc place) deeds d h
+
+-- a call of a copy leaves its records, or adds to them
+pub call_later : (h new : JournalData) (d : Deed) (l : Logged) → IsHeld h l → new ≡ record h { deeds = h.deeds ++ d ∷ [] } → IsLater (standing new).copy (standing h).copy
+call_later h new d l is more =
+    subst (λ (j : JournalData). IsLater (standing j).copy (standing h).copy) (sym more)
+    (at_snoc (λ s. IsLater s.copy (standing h).copy) (open_at h.opening) 0 h.deeds d (λ at. answered_later (standing h).copy (standing h).shut at d.input d.answer l is.replayed))
+
+-- what was published begins the records afterwards too
+pub published_later : (c d : Copy) (p : Line) → IsLater d c → IsPublishedOf c p → IsPublishedOf d p
+published_later c d p later is = record {
+  cell = is.cell;
+  mapping = is.mapping ∙ sym later.mapping;
+  records = trans-StartsWith p.top.records c.records d.records is.records later.records;
+  shown = is.shown;
+}
+
+-- ---- a refresh shows all records
+
+abbrev AllShown : Copy → Type 0
+AllShown c = c.point ≡ length c.records
+
+settled_shown : (s : Stepped) (role : Role) → AllShown s.copy → AllShown (settled_as s role).copy
+settled_shown s Empty is = is
+settled_shown s Replica is = is
+settled_shown s (Primary lead) is = is
+
+refresh_shows : (c : Copy) (input : Input) → is_refresh input ≡ true → AllShown (left_by c (copy_step c input))
+refresh_shows c (Write w) e = absurd (let no : false ≡ true = e in cc)
+refresh_shows c (Take m) e = absurd (let no : false ≡ true = e in cc)
+refresh_shows c (Report r) e = absurd (let no : false ≡ true = e in cc)
+refresh_shows c Refresh e = settled_shown (record { copy = record c { point = length c.records }; answer = Point (length c.records); sent = []; acknowledged = [] }) c.role refl
+refresh_shows c (Get id) e = absurd (let no : false ≡ true = e in cc)
+refresh_shows c Restart e = subst (λ (r : Step). AllShown (left_by c r)) (sym (settled_opened c.id c.birth c.mapping c.records (Point (length c.records)))) refl
+
+answered_shows : (c : Copy) (shut : Option Shut) (place : ℕ) (input : Input) (r : Result Output CopyFault) → is_refresh input ≡ true → IsOk r → AllShown (answered c shut place input r).copy
+answered_shows c None place input (Ok output) e ok = refresh_shows c input e
+answered_shows c None place input (Err f) e ok = absurd cc
+answered_shows c (Some f) place input (Ok output) e ok = refl
+answered_shows c (Some f) place input (Err g) e ok = absurd cc
+
+-- after a refresh or a restart that was accepted the point is at the end
+pub call_shows : (h new : JournalData) (d : Deed) → new ≡ record h { deeds = h.deeds ++ d ∷ [] } → is_refresh d.input ≡ true → IsOk d.answer → (standing new).copy.point ≡ length (standing new).copy.records
+call_shows h new d more e ok =
+    subst (λ (j : JournalData). AllShown (standing j).copy) (sym more)
+    (at_snoc (λ s. AllShown s.copy) (open_at h.opening) 0 h.deeds d (λ at. answered_shows (standing h).copy (standing h).shut at d.input d.answer e ok))
+
+-- ---- what is shown next
+
+-- an open copy is what its journal says
+open_as : (c : Copy) (shut : Option Shut) (l : Logged) → IsReplayedAs c shut l → l.closed ≡ false → l.copy ≡ c
+open_as c None l is opened = is.1
+open_as c (Some f) l is opened = absurd (let no : true ≡ false = sym is.closed ∙ opened in cc)
+
+pub whole_copy : (h : JournalData) (l : Logged) → IsHeld h l → AllShown (standing h).copy → l.closed ≡ false → l.copy.point ≡ length l.copy.records
+whole_copy h l is whole opened = subst (λ (c : Copy). AllShown c) (sym (open_as (standing h).copy (standing h).shut l is.replayed opened)) whole
+
+pub shown_in : (h : JournalData) (l : Logged) (s : Showing) → IsHeld h l → l.closed ≡ false → IsShownBy l.copy s → IsShownBy (standing h).copy s
+shown_in h l s is opened shown = subst (λ (c : Copy). IsShownBy c s) (open_as (standing h).copy (standing h).shut l is.replayed opened) shown
+
+-- it may be published
+pub may_show : (c : Copy) (p : Line) (s : Showing) → IsPublishedOf c p → IsShownBy c s → GoesOn (listing p.book s) p.top
+may_show c p s is shown = record {
+  cell = sym is.cell;
+  mapping = shown.mapping ∙ sym is.mapping;
+  records = subst (λ rs. StartsWith rs p.top.records) (sym shown.records) is.records;
+}
+
+pub begun_published : (c : Copy) (p : Line) (s : Showing) → IsShownBy c s → p ≡ line p.book (listing p.book s) → IsPublishedOf c p
+begun_published c p s shown is = let top : p.top ≡ listing p.book s = ap (λ (x : Line). x.top) is in record {
+  cell = ap (λ (l : Listing). l.cell) top;
+  mapping = ap (λ (l : Listing). l.mapping) top ∙ shown.mapping;
+  records = ([], sym shown.records ∙ (ap (λ (l : Listing). l.records) (sym top) ∙ sym (append-nil p.top.records)));
+  shown = subst (λ (x : Line). GoesOn x.top x.shown) (sym is) (self-GoesOn (listing p.book s));
+}
+
+-- after it was published, or refused
+pub still_published : {A E : Type 0} (c : Copy) (old new : Line) (s : Showing) (r : Result A E) → IsPublishedOf c old → IsShownBy c s → new.book ≡ old.book
+    → OnOk r (new ≡ line old.book (listing old.book s)) → OnErr r (new.shown ≡ old.shown) → OnErr r ((new.top ≡ old.top) ⊎ (new.top ≡ listing old.book s)) → IsPublishedOf c new
+still_published c old new s (Ok x) is shown book ok err top =
+    begun_published c new s shown (ok ∙ ap (λ b. line b (listing b s)) (sym book))
+still_published c old new s (Err e) is shown book ok err top =
+    let on : GoesOn (listing old.book s) old.top = may_show c old s is shown in
+    ⊎_elim (λ same. record {
+      cell = ap (λ (l : Listing). l.cell) same ∙ (is.cell ∙ ap cell_of (sym book));
+      mapping = ap (λ (l : Listing). l.mapping) same ∙ is.mapping;
+      records = subst (λ (l : Listing). StartsWith c.records l.records) (sym same) is.records;
+      shown = subst (λ (l : Listing). GoesOn new.top l) (sym err) (subst (λ (l : Listing). GoesOn l old.shown) (sym same) is.shown);
+    })
+    (λ next. record {
+      cell = ap (λ (l : Listing). l.cell) next ∙ ap cell_of (sym book);
+      mapping = ap (λ (l : Listing). l.mapping) next ∙ shown.mapping;
+      records = ([], sym shown.records ∙ (ap (λ (l : Listing). l.records) (sym next) ∙ sym (append-nil new.top.records)));
+      shown = subst (λ (l : Listing). GoesOn new.top l) (sym err) (subst (λ (l : Listing). GoesOn l old.shown) (sym next) (trans-GoesOn old.shown old.top (listing old.book s) is.shown on));
+    }) top
+
+pub whole_after : {A E : Type 0} (c : CellData) (old : Line) (s : Showing) (r : Result A E) → IsShownBy (standing c.journal).copy s → OnOk r (c.line ≡ line old.book (listing old.book s)) → OnOk r (IsAllShown c)
+whole_after c old s (Ok x) shown is = record {
+  mapping = ap (λ (p : Line). p.shown.mapping) is ∙ shown.mapping;
+  records = ap (λ (p : Line). p.shown.records) is ∙ shown.records;
+}
+whole_after c old s (Err e) shown is = tt
+
+-- what a cell shows that was just made
+pub begun_all : (h : JournalData) (p : Line) (s : Showing) → IsShownBy (standing h).copy s → p ≡ line p.book (listing p.book s) → IsBegun h (record { journal = h; line = p })
+begun_all h p s shown is = record {
+  journal = refl;
+  whole = record { mapping = ap (λ (x : Line). x.shown.mapping) is ∙ shown.mapping; records = ap (λ (x : Line). x.shown.records) is ∙ shown.records };
+}

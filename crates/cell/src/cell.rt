@@ -1,0 +1,154 @@
+//! A copy with its journal, and what it publishes.
+ghost use Rattle.std.specs.Prelude.{◌≡◌, ◌∷◌, [], length, false, IfOk, IfErr, IfSome, IsOk, OnOk, OnErr};
+ghost use Rattle.audit.specs.Journal.{IsLegal, open_at};
+ghost use Rattle.audit.specs.declared.journal.Journal.TheVariants.{OfCopy};
+ghost use Rattle.replica.specs.Logged.{is_refresh};
+ghost use Rattle.node.specs.Held.{IsCall};
+ghost use Rattle.cell.specs.Publishing.{IsBegun, IsKept, IsRefusedCall, IsShownAfter, IsShownBy, IsStepped, IsAllShown};
+ghost use Rattle.node.specs.Reading.{standing};
+ghost use Rattle.node.specs.Stands.{LastStands};
+
+use audit::Journal;
+use node::{Held, NodeFault, Pass, Receipt};
+use published::{Publisher, Searcher, Showing, Unnamed};
+use replica::{Copy, Input};
+use std::alloc::{AllocError, Global};
+use std::marker::Model;
+use std::sync::{Arc, Wait};
+use translog::LogDevice;
+
+/// A copy with its journal, and the publisher of what it shows. Contracts see the journal and the line of what was published, which is always a
+/// beginning of the copy's records. It is not `Drop`: end it by `close`.
+pub struct CopyCell<D: LogDevice> {
+    held: Held<D>,
+    publisher: Publisher,
+}
+
+impl<D: LogDevice> Model for CopyCell<D> {
+    ghost use Rattle.cell.specs.Publishing.{CellData, IsPublished};
+
+    ghost Value = { CellData };
+
+    ghost view = { λ c. record { journal = c.held; line = c.publisher } };
+
+    ghost invariant = { λ c. IsPublished c.held c.publisher };
+}
+
+/// What an open copy shows, where that is all of its records; nothing while it is closed.
+fn showing_of<D: LogDevice>(copy: &Copy<D>) -> Result<Option<Showing>, AllocError>
+    requires { copy.now.closed ≡ false → copy.now.copy.point ≡ length copy.now.copy.records }
+    ensures shown { IfOk result (λ o. IfSome o (IsShownBy copy.now.copy)) }
+    ensures open { IfOk result (λ o. IfSome o (λ s. copy.now.closed ≡ false)) }
+{
+    let Some(snapshot) = copy.snapshot() else {
+        return Ok(None);
+    };
+    Ok(Some(Showing {
+        snapshot: Arc::try_clone(snapshot)?,
+        listed: copy.listed(),
+    }))
+}
+
+/// The same of a copy with its journal.
+fn showing_in<D: LogDevice>(held: &Held<D>) -> Result<Option<Showing>, AllocError>
+    requires { (standing held.now).copy.point ≡ length (standing held.now).copy.records }
+    ensures { IfOk result (λ o. IfSome o (IsShownBy (standing held.now).copy)) }
+{
+    showing_of(held.copy())
+}
+
+/// Whether a step of the input makes searches show all records.
+fn is_refresh(input: &Input) -> bool
+    ensures { result ≡ is_refresh input.now }
+{
+    matches!(input, Input::Refresh | Input::Restart)
+}
+
+impl<D: LogDevice> CopyCell<D> {
+    /// A copy that has made no call, and shows all of its records. A closed copy is refused.
+    #[tactic(auto, using(crate::proofs::Growing::begun_published, crate::proofs::Growing::begun_all))]
+    pub fn begin<R: Wait>(rt: &R, alloc: Global, held: Held<D>) -> Result<CopyCell<D>, AllocError>
+        requires { (standing held).copy.point ≡ length (standing held).copy.records }
+        ensures { IfOk result (IsBegun held) }
+    {
+        let Some(showing) = showing_in(&held)? else {
+            return Err(AllocError);
+        };
+        let publisher = Publisher::begin(rt, alloc, showing)?;
+        Ok(CopyCell { held, publisher })
+    }
+
+    /// The copy with its journal.
+    pub fn held(&self) -> &Held<D>
+        ensures { result.now ≡ self.now.journal }
+    {
+        &self.held
+    }
+
+    /// One call of the copy, as `Held::call` makes it. After a refresh or a restart searches show all records of the copy; where memory is wanting for
+    /// that it is a refusal, though the call was made, and searches show what they showed.
+    #[tactic(auto, using(crate::proofs::Refusing::refused, crate::proofs::Refusing::unshown, crate::proofs::Refusing::call_as, crate::proofs::Refusing::shown_all, crate::proofs::Refusing::shown_same))]
+    pub fn call<R: Wait>(
+        &mut self,
+        rt: &R,
+        alloc: Global,
+        pass: &mut Pass,
+        input: Input,
+    ) -> Result<Receipt, NodeFault>
+        ensures ok { IfOk result (λ r. IsCall self.old.journal self.new.journal pass.old pass.new input r × IsOk r.deed.answer) }
+        ensures stood { IfOk result (λ r. LastStands self.old.journal pass.old) }
+        ensures shown { IfOk result (λ r. IsShownAfter input self.old self.new) }
+        ensures err { IfErr result (IsRefusedCall self.old self.new pass.old pass.new input) }
+    {
+        let shows = is_refresh(&input);
+        let receipt = self.step(alloc, pass, input)?;
+        if shows {
+            self.show(rt, alloc)?;
+        }
+        Ok(receipt)
+    }
+
+    /// The call, before anything is shown.
+    #[tactic(auto, using(crate::proofs::Refusing::step_published, crate::proofs::Refusing::stepped, crate::proofs::Refusing::kept))]
+    fn step(&mut self, alloc: Global, pass: &mut Pass, input: Input) -> Result<Receipt, NodeFault>
+        ensures ok { IfOk result (λ r. IsCall self.old.journal self.new.journal pass.old pass.new input r × IsOk r.deed.answer) }
+        ensures stood { IfOk result (λ r. LastStands self.old.journal pass.old) }
+        ensures stepped { IfOk result (λ r. IsStepped input self.old self.new) }
+        ensures err { IfErr result (IsKept self.old self.new pass.old pass.new input) }
+    {
+        let _copy = self.held.copy();
+        self.held.call(alloc, pass, input)
+    }
+
+    /// Shows all records of the copy.
+    #[tactic(auto, using(crate::proofs::Growing::still_published))]
+    fn show<R: Wait>(&mut self, rt: &R, alloc: Global) -> Result<(), AllocError>
+        requires { (standing self.old.journal).copy.point ≡ length (standing self.old.journal).copy.records }
+        ensures journal { self.new.journal ≡ self.old.journal }
+        ensures ok { OnOk result (IsAllShown self.new) }
+        ensures err { OnErr result (self.new.line.shown ≡ self.old.line.shown) }
+    {
+        let Some(showing) = showing_in(&self.held)? else {
+            return Err(AllocError);
+        };
+        self.publisher.publish(rt, alloc, showing)
+    }
+
+    /// One more reader of what is shown. It is refused where eight are given out.
+    pub fn searcher(&mut self) -> Result<Searcher<Unnamed>, AllocError>
+        ensures same { self.new ≡ self.old }
+        ensures knows { IfOk result (λ s. s ≡ self.old.line.shown ∷ []) }
+    {
+        self.publisher.searcher()
+    }
+
+    /// The journal, for which the copy is given up. Searches show nothing any more, which waits for those that run.
+    pub fn close<R: Wait>(self, rt: &R) -> Journal
+        ensures same { result ≡ OfCopy self.journal.opening self.journal.deeds }
+        ensures legal { IsLegal (open_at self.journal.opening) 0 self.journal.deeds }
+    {
+        let CopyCell { held, publisher } = self;
+        publisher.take(rt);
+        held.into_journal()
+    }
+}

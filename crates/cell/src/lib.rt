@@ -1,0 +1,6 @@
+//! One copy that threads share, with its journal and what it shows to searches that wait for nobody.
+#![tactic(auto)]
+
+mod cell;
+
+pub use cell::CopyCell;

@@ -1,8 +1,0 @@
-use Rattle.std.proofs.Common.{◌∙◌}
-use Rattle.engine.proofs.ShownLaws.{doc_read}
-use Rattle.engine.proofs.block.doc_of.Goals as goal
-
-pub returns-in-Ok : goal.returns-in-Ok
-returns-in-Ok c =
-    let text = c.as_bytes.ensures.value ∙ c.as_str.ensures.text in
-    doc_read c.args.mapping.now c.args.source.now c.in-Ok.doc (rw text at c.in-Ok.ensures.reads) (rw text at c.in-Ok.ensures.source)

@@ -1,0 +1,101 @@
+//! What a node was asked, read from JSON.
+ghost use Rattle.std.specs.Prelude.{◌≡◌, [], ◌∷◌, ◌++◌, map, codes, Some, IfOk};
+ghost use Rattle.serde_json.specs.View.{view};
+ghost use Rattle.journals.specs.Asked as spec;
+
+use crate::reading::items::{copy_of, id_of, message_of, natural_of, source_of, worded};
+use crate::reading::wrong::Wrong;
+use master::Request;
+use replica::{Condition, Input, OpType, Write};
+use serde_json::Value;
+use std::alloc::Global;
+
+/// What a copy was asked.
+#[tactic(auto, unfolding(crate::specs::Asked::input_data))]
+pub(crate) fn input_of(alloc: Global, value: &Value) -> Result<Input, Wrong>
+    ensures { IfOk result (λ i. view value.now ≡ spec.input_data i) }
+{
+    let (word, rest) = worded(value)?;
+    match (word, rest) {
+        ("get", [id]) => Ok(Input::Get(id_of(alloc, id)?)),
+        ("take", [message]) => Ok(Input::Take(message_of(alloc, message)?)),
+        ("report", [id]) => Ok(Input::Report(copy_of(id)?)),
+        ("refresh", []) => Ok(Input::Refresh),
+        ("restart", []) => Ok(Input::Restart),
+        _ => Ok(Input::Write(write_of(alloc, word, rest)?)),
+    }
+}
+
+fn write_of(alloc: Global, word: &str, rest: &[Value]) -> Result<Write, Wrong>
+    ensures { IfOk result (λ w. (word.now ≡ spec.write_word w.kind) × (map view rest.now ≡ spec.write_data w.id w.kind)) }
+{
+    match (word, rest) {
+        ("put", [id, source]) => put_of(alloc, None, id, source),
+        ("putif", [seq, term, id, source]) => {
+            let condition = condition_of(seq, term)?;
+            put_of(alloc, Some(condition), id, source)
+        }
+        ("create", [id, source]) => create_of(alloc, id, source),
+        ("del", [id]) => delete_of(alloc, None, id),
+        ("delif", [seq, term, id]) => {
+            let condition = condition_of(seq, term)?;
+            delete_of(alloc, Some(condition), id)
+        }
+        _ => Err(Wrong::Wanted("no copy is asked this")),
+    }
+}
+
+fn condition_of(seq: &Value, term: &Value) -> Result<Condition, Wrong>
+    ensures { IfOk result (λ c. view seq.now ∷ view term.now ∷ [] ≡ spec.condition_data (Some c)) }
+{
+    Ok(Condition {
+        seq: natural_of(seq)?,
+        term: natural_of(term)?,
+    })
+}
+
+fn put_of(
+    alloc: Global,
+    condition: Option<Condition>,
+    id: &Value,
+    source: &Value,
+) -> Result<Write, Wrong>
+    ensures { IfOk result (λ w. (spec.set_word condition ≡ spec.write_word w.kind) × (spec.condition_data condition ++ (view id.now ∷ view source.now ∷ []) ≡ spec.write_data w.id w.kind)) }
+{
+    Ok(Write {
+        id: id_of(alloc, id)?,
+        kind: OpType::Index(source_of(alloc, source)?, condition),
+    })
+}
+
+fn create_of(alloc: Global, id: &Value, source: &Value) -> Result<Write, Wrong>
+    ensures { IfOk result (λ w. (codes "create" ≡ spec.write_word w.kind) × (view id.now ∷ view source.now ∷ [] ≡ spec.write_data w.id w.kind)) }
+{
+    Ok(Write {
+        id: id_of(alloc, id)?,
+        kind: OpType::Create(source_of(alloc, source)?),
+    })
+}
+
+fn delete_of(alloc: Global, condition: Option<Condition>, id: &Value) -> Result<Write, Wrong>
+    ensures { IfOk result (λ w. (spec.delete_word condition ≡ spec.write_word w.kind) × (spec.condition_data condition ++ (view id.now ∷ []) ≡ spec.write_data w.id w.kind)) }
+{
+    Ok(Write {
+        id: id_of(alloc, id)?,
+        kind: OpType::Delete(condition),
+    })
+}
+
+/// What the master was asked.
+#[tactic(auto, unfolding(crate::specs::Asked::request_data))]
+pub(crate) fn request_of(value: &Value) -> Result<Request, Wrong>
+    ensures { IfOk result (λ r. view value.now ≡ spec.request_data r) }
+{
+    match worded(value)? {
+        ("allocate", []) => Ok(Request::Allocate),
+        ("promote", [id]) => Ok(Request::Promote(copy_of(id)?)),
+        ("synced", [term, id]) => Ok(Request::Synced(natural_of(term)?, copy_of(id)?)),
+        ("fail", [term, id]) => Ok(Request::Fail(natural_of(term)?, copy_of(id)?)),
+        _ => Err(Wrong::Wanted("no master is asked this")),
+    }
+}

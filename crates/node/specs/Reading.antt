@@ -1,0 +1,69 @@
+-- Documents that a copy is asked for without an entry of its journal.
+use Rattle.std.specs.Prelude.{◌≡◌, ℕ, length, Option, None, is_some, true}
+use Rattle.doc.specs.Id.{Id}
+use Rattle.op.specs.Documents.{document_at, documents}
+use Rattle.replica.specs.declared.fault.CopyFault.{CopyFault}
+use Rattle.replica.specs.declared.fault.CopyFault.TheVariants.{NotPrimary, VersionConflict, WindowFull, OldTerm, NotSynced, BeyondWindow, Mismatch, Closed, Log, NoMemory as OutOfMemory, WrongAddress, Exhausted}
+use Rattle.replica.specs.declared.output.Answer.{Answer}
+use Rattle.replica.specs.Copy.{Copy, operations}
+use Rattle.replica.specs.Step.{get_answer}
+use Rattle.audit.specs.Journal.{IsLegal, Standing, after, open_at}
+use Rattle.node.specs.declared.fault.NodeFault.{NodeFault}
+use Rattle.node.specs.declared.fault.NodeFault.TheVariants.{NoMemory, NoSeat, Copy as Refused, Stray}
+use Rattle.node.specs.Held.{JournalData}
+
+-- what a copy has of an id, of all its records
+abbrev pub got_by : Copy → Id → Answer
+got_by c id = get_answer (document_at (documents (operations c)) id)
+
+-- what a journal says of its copy
+abbrev pub standing : JournalData → Standing
+standing h = after (open_at h.opening) 0 h.deeds
+
+-- what was read: the node, how many entries its journal had, the id, and what the copy has of it
+pub record GotData : Type 0 where
+  pub node : ℕ
+  pub place : ℕ
+  pub id : Id
+  pub answer : Answer
+
+-- the copy is open, and this is what it has of the id
+pub record IsRead (h : JournalData) (id : Id) (answer : Answer) : Type 0 where
+  pub open_then : (standing h).shut ≡ None
+  pub has : answer ≡ got_by (standing h).copy id
+
+-- it was read from the copy of this journal
+pub record IsGotFrom (h : JournalData) (id : Id) (g : GotData) : Type 0 where
+  pub node_is : g.node ≡ h.opening.id
+  pub place_is : g.place ≡ length h.deeds
+  pub id_is : g.id ≡ id
+  pub read : IsRead h id g.answer
+
+-- it is what the copy of this id, after a legal journal, has of the document's id
+pub record IsGotAt (node : ℕ) (id : Id) (answer : Answer) : Type 0 where
+  pub journal : JournalData
+  pub legal : IsLegal (open_at journal.opening) 0 journal.deeds
+  pub node_is : journal.opening.id ≡ node
+  pub read : IsRead journal id answer
+
+-- the copy is closed
+abbrev pub IsUnreadable : JournalData → CopyFault → Type 0
+IsUnreadable h Closed = is_some (standing h).shut ≡ true
+IsUnreadable h NotPrimary = ⊥
+IsUnreadable h VersionConflict = ⊥
+IsUnreadable h WindowFull = ⊥
+IsUnreadable h OldTerm = ⊥
+IsUnreadable h NotSynced = ⊥
+IsUnreadable h BeyondWindow = ⊥
+IsUnreadable h Mismatch = ⊥
+IsUnreadable h (Log f) = ⊥
+IsUnreadable h OutOfMemory = ⊥
+IsUnreadable h WrongAddress = ⊥
+IsUnreadable h Exhausted = ⊥
+
+-- why nothing was read: memory is wanting, or the copy is closed
+abbrev pub IsUngot : JournalData → NodeFault → Type 0
+IsUngot h NoMemory = Unit {0}
+IsUngot h NoSeat = ⊥
+IsUngot h (Stray place) = ⊥
+IsUngot h (Refused e) = IsUnreadable h e

@@ -1,0 +1,149 @@
+//! Each append of each log fails in turn, while clients write and a copy joins.
+
+use crate::judging::verdict_of;
+use crate::shaky::{OneShaky, Shaky};
+use crate::writing::{Noted, found, put, told};
+use anyhow::{Result, bail};
+use cluster::{Client, Cluster, ClusterFault, Open};
+use doc::Mapping;
+use std::alloc::Global;
+use std::sync::atomic::{AtomicBool, Ordering};
+use std::sync::{Arc, Wait};
+use std::thread;
+use std::thread::Threads;
+use translog::LogDevice;
+
+/// How many clients there are.
+const WRITERS: usize = 2;
+
+/// How many documents each writes before a copy joins, and behind it.
+const HALF: u64 = 4;
+
+/// No log has more appends in a run.
+const MOST: u64 = 100;
+
+type Running = Cluster<Shaky, OneShaky, Open>;
+
+/// One client's writes.
+fn write_some<R: Wait, D: LogDevice>(
+    rt: &R,
+    alloc: Global,
+    client: &Client<D>,
+    writer: usize,
+    from: u64,
+) -> Result<Vec<Noted>> {
+    let mut written = Vec::new(alloc);
+    for step in 0..HALF {
+        written.push(put(rt, alloc, client, writer, from.saturating_add(step))?)?;
+    }
+    Ok(written)
+}
+
+/// All clients write, each on a thread of its own, and what they wrote is noted.
+fn write_at_once<R: Threads + Wait + Sync, D: LogDevice + Send>(
+    rt: &R,
+    alloc: Global,
+    client: &Client<D>,
+    from: u64,
+    written: &mut Vec<Noted>,
+) -> Result<()> {
+    let parts = thread::map_indices(
+        rt,
+        alloc,
+        WRITERS,
+        &|writer| write_some(rt, alloc, client, writer, from),
+    )?;
+    for part in parts {
+        for noted in part? {
+            written.push(noted)?;
+        }
+    }
+    Ok(())
+}
+
+/// Writes, has a copy join and writes on meanwhile, and looks for all writes. Where the log of the copy or of the master fails no copy may join.
+fn run_over<R: Threads + Wait + Copy + Send + Sync + Drop + 'static>(
+    rt: &R,
+    alloc: Global,
+    mapping: &Mapping,
+    cluster: Running,
+) -> Result<()> {
+    let mut cluster = cluster;
+    let mut written = Vec::new(alloc);
+    write_at_once(rt, alloc, cluster.client(), 0, &mut written)?;
+    let _ = cluster.allocate(rt);
+    write_at_once(rt, alloc, cluster.client(), HALF, &mut written)?;
+    let primary = cluster.client().primary(rt);
+    let count = found(rt, alloc, cluster.client(), primary, &written)?;
+    if count != written.len() {
+        bail!("a confirmed write isn't found");
+    }
+    let journals = cluster.close(rt).map_err(told)?;
+    let verdict = verdict_of(alloc, mapping, journals)?;
+    if verdict.as_str() != "audit ok" {
+        bail!("{verdict}");
+    }
+    Ok(())
+}
+
+/// One run, in which the append of a number fails on the log of a node; whether there was such an append. An index whose log can't be begun isn't started.
+fn fails_at<R: Threads + Wait + Copy + Send + Sync + Drop + 'static>(
+    rt: &R,
+    alloc: Global,
+    mapping: &Mapping,
+    node: u32,
+    bad: u64,
+) -> Result<bool> {
+    let has_failed = Arc::new(alloc, AtomicBool::new(false))?;
+    let devices = OneShaky {
+        alloc,
+        node,
+        bad,
+        has_failed: Arc::try_clone(&has_failed)?,
+    };
+    let started: Result<Running, ClusterFault> = Cluster::start(
+        rt,
+        alloc,
+        mapping.copy(alloc)?,
+        3,
+        devices,
+        Open,
+    );
+    match started {
+        Ok(cluster) => run_over(rt, alloc, mapping, cluster)?,
+        Err(fault) => if !has_failed.load(Ordering::SeqCst) {
+            return Err(told(fault));
+        },
+    }
+    Ok(has_failed.load(Ordering::SeqCst))
+}
+
+/// Each append of the log of a node fails in turn.
+fn run_node<R: Threads + Wait + Print + Copy + Send + Sync + Drop + 'static>(
+    rt: &R,
+    alloc: Global,
+    mapping: &Mapping,
+    node: u32,
+) -> Result<()> {
+    for bad in 1..MOST {
+        if !fails_at(rt, alloc, mapping, node, bad)? {
+            println!(rt;
+                "each append of log {node} fails in turn: each confirmed write is found, audit ok"
+            )?;
+            return Ok(());
+        }
+    }
+    bail!("the log has more appends")
+}
+
+/// Each append of each log fails in turn: the master's, those of the first copies, and that of the copy that joins.
+pub(crate) fn run<R: Threads + Wait + Print + Copy + Send + Sync + Drop + 'static>(
+    rt: &R,
+    alloc: Global,
+    mapping: &Mapping,
+) -> Result<()> {
+    for node in 0..5 {
+        run_node(rt, alloc, mapping, node)?;
+    }
+    Ok(())
+}

@@ -1,0 +1,126 @@
+//! Tests of merges of an engine's parts. An engine is lent to each helper, which so has nothing to give up where it refuses.
+
+use crate::records::{delete_of, index};
+use doc::Mapping;
+use engine::Engine;
+use query::SearchBody;
+use serde_json::Value;
+use std::alloc::Global;
+use std::test::Fail;
+
+/// Writes a document at the id `dN`, N being its number.
+fn write(alloc: Global, engine: &mut Engine, seq: u8) -> Result<(), Fail> {
+    let id = format!(in alloc; "d{seq}")?;
+    let record = index(alloc, seq, id.as_str())?;
+    let _taken = engine.apply(alloc, &record)?;
+    Ok(())
+}
+
+/// Writes documents with the numbers from the first on, and has searches show them.
+fn write_all(alloc: Global, engine: &mut Engine, first: u8, end: u8) -> Result<(), Fail> {
+    for seq in first..end {
+        write(alloc, engine, seq)?;
+    }
+    let _point = engine.refresh(alloc)?;
+    Ok(())
+}
+
+/// Deletes the document at an id, and has searches show that.
+fn delete(alloc: Global, engine: &mut Engine, seq: u8, id: &str) -> Result<(), Fail> {
+    let record = delete_of(alloc, seq, id)?;
+    let _taken = engine.apply(alloc, &record)?;
+    let _point = engine.refresh(alloc)?;
+    Ok(())
+}
+
+fn empty(alloc: Global) -> Result<Engine, Fail> {
+    let json = Value::from_str(alloc, "{}")?;
+    let mapping = Mapping::from_value(alloc, &json)?;
+    Ok(Engine::open(alloc, mapping, Vec::new(alloc))?)
+}
+
+/// Parts of 40 documents and of 12, which neither a delete nor one write more puts together.
+fn write_two_parts(alloc: Global, engine: &mut Engine) -> Result<(), Fail> {
+    write_all(alloc, engine, 10, 50)?;
+    write_all(alloc, engine, 50, 62)
+}
+
+/// Whether a search for all documents finds so many, with the id at the place.
+fn finds(
+    alloc: Global,
+    engine: &Engine,
+    total: u64,
+    place: usize,
+    id: &str,
+) -> Result<bool, Fail> {
+    let json = Value::from_str(alloc, "{\"size\":100}")?;
+    let body = SearchBody::read(alloc, engine.mapping(), &json)?;
+    let hits = engine.snapshot().search(alloc, &body.query, body.page)?;
+    let is_there = match hits.hits.get(place) {
+        Some(hit) => hit.id.as_str() == id,
+        None => false,
+    };
+    Ok(hits.total == total && is_there)
+}
+
+/// Whether a merge is put in place.
+fn is_merged(alloc: Global, engine: &mut Engine) -> Result<bool, Fail> {
+    let merged = engine.begin_merge()?.build(alloc)?;
+    Ok(engine.swap_merged(alloc, merged)?)
+}
+
+/// Whether a merge is put in place beside a delete.
+fn is_merged_beside_a_delete(alloc: Global, engine: &mut Engine) -> Result<bool, Fail> {
+    let merged = engine.begin_merge()?.build(alloc)?;
+    delete(alloc, engine, 62, "d11")?;
+    Ok(engine.swap_merged(alloc, merged)?)
+}
+
+/// Whether a merge is put in place that was begun before another.
+fn is_merged_twice(alloc: Global, engine: &mut Engine) -> Result<bool, Fail> {
+    let late = engine.begin_merge()?.build(alloc)?;
+    if !is_merged_beside_a_delete(alloc, engine)? {
+        return Ok(true);
+    }
+    Ok(engine.swap_merged(alloc, late)?)
+}
+
+/// Whether a merge is put in place that was begun before a restart.
+fn is_merged_over_a_restart(alloc: Global, engine: &mut Engine) -> Result<bool, Fail> {
+    let merged = engine.begin_merge()?.build(alloc)?;
+    let record = index(alloc, 10, "d10")?;
+    engine.reopen(alloc, vec![in alloc; record]?)?;
+    Ok(engine.swap_merged(alloc, merged)?)
+}
+
+#[test]
+fn a_merge_is_put_in_place_once(rt: HostRuntime) -> Result<(), Fail> {
+    let alloc = rt.alloc();
+    let mut engine = empty(alloc)?;
+    write_two_parts(alloc, &mut engine)?;
+    let again = is_merged_twice(alloc, &mut engine)?;
+    assert!(rt; !again);
+    assert!(rt; finds(alloc, &engine, 51, 1, "d12")?);
+    Ok(())
+}
+
+#[test]
+fn documents_that_are_not_live_are_left_out_of_a_merge(rt: HostRuntime) -> Result<(), Fail> {
+    let alloc = rt.alloc();
+    let mut engine = empty(alloc)?;
+    write_two_parts(alloc, &mut engine)?;
+    delete(alloc, &mut engine, 62, "d60")?;
+    assert!(rt; is_merged(alloc, &mut engine)?);
+    assert!(rt; finds(alloc, &engine, 51, 50, "d61")?);
+    Ok(())
+}
+
+#[test]
+fn a_merge_of_what_a_restart_left_is_refused(rt: HostRuntime) -> Result<(), Fail> {
+    let alloc = rt.alloc();
+    let mut engine = empty(alloc)?;
+    write_two_parts(alloc, &mut engine)?;
+    assert!(rt; !is_merged_over_a_restart(alloc, &mut engine)?);
+    assert!(rt; finds(alloc, &engine, 1, 0, "d10")?);
+    Ok(())
+}

@@ -1,0 +1,121 @@
+"""Translogs that are cut or changed, and what opening each of them gives, by docs/FORMATS.md alone."""
+HEADER = b"RSX1"
+GREATEST = 2 ** 63 - 1
+
+
+def number(value, size=8):
+    return (value % 2 ** (8 * size)).to_bytes(size, "little")
+
+
+def operation(seq, term, version, name=None, source=None):
+    """An operation: an index, a delete where there is no source, or nothing where there is no id."""
+    numbers = number(seq) + number(term) + number(version)
+    if name is None:
+        return numbers + b"\0"
+    name = number(len(name), 2) + name
+    return numbers + (b"\2" + name if source is None else b"\1" + name + number(len(source), 4) + source)
+
+
+def frame(content):
+    return number(len(content), 4) + content
+
+
+# An index, a delete, a resync with an operation that does nothing, and a recovery.
+WHOLE = HEADER + b"".join(map(frame, [
+    b"\1" + number(-1) + operation(0, 1, 1, "é".encode(), b'{"n":1}'),
+    b"\1" + number(0) + operation(1, 1, 2, b"a"),
+    b"\2" + number(2) + number(0) + number(2, 4) + operation(1, 2, 0) + operation(2, 1, 3, b"b", b"{}"),
+    b"\3" + number(3) + number(2, 4) + operation(0, 1, 1, b"a", b"{}") + operation(1, 3, 0),
+]))
+
+
+class NoRecord(Exception):
+    pass
+
+
+class Fields:
+    """The fields of a frame, from left to right."""
+
+    def __init__(self, content):
+        self.left = content
+
+    def bytes(self, size):
+        if len(self.left) < size:
+            raise NoRecord
+        taken, self.left = self.left[:size], self.left[size:]
+        return taken
+
+    def number(self, size=8, least=0, greatest=GREATEST):
+        value = int.from_bytes(self.bytes(size), "little")
+        if not least <= value <= greatest:
+            raise NoRecord
+        return value
+
+    def checkpoint(self):
+        value = int.from_bytes(self.bytes(8), "little", signed=True)
+        if value < -1:
+            raise NoRecord
+        return value
+
+    def text(self, size, least, greatest):
+        try:
+            self.bytes(self.number(size, least, greatest)).decode()
+        except UnicodeDecodeError:
+            raise NoRecord from None
+
+    def operation(self):
+        """The number and the term of an operation, and whether it does something."""
+        seq, term, version, kind = self.number(), self.number(least=1), self.number(), self.number(1)
+        if kind > 2 or (version == 0) != (kind == 0):
+            raise NoRecord
+        if kind:
+            self.text(2, 1, 512)
+        if kind == 1:
+            self.text(4, 2, 65_536)
+        return seq, term, kind > 0
+
+    def history(self, term, first):
+        for at in range(self.number(4)):
+            seq, older, _ = self.operation()
+            if seq != first + at or older > term:
+                raise NoRecord
+
+    def record(self):
+        tag = self.number(1)
+        if tag == 1:
+            self.checkpoint()
+            if not self.operation()[2]:
+                raise NoRecord
+        elif tag == 2:
+            term, known = self.number(least=1), self.checkpoint()
+            self.history(term, known + 1)
+        elif tag == 3:
+            self.history(self.number(least=1), 0)
+        else:
+            raise NoRecord
+        if self.left:
+            raise NoRecord
+
+
+def opened(log):
+    """The number of records that opening gives, BadMagic, or Damaged and an offset."""
+    if log[:4] != HEADER[:len(log)]:
+        return "BadMagic"
+    at, records = 4, 0
+    while len(log) - at >= 4:
+        end = at + 4 + int.from_bytes(log[at:at + 4], "little")
+        if end > len(log):
+            break
+        try:
+            Fields(log[at + 4:end]).record()
+        except NoRecord:
+            return f"Damaged {at}"
+        at, records = end, records + 1
+    return str(records)
+
+
+def logs():
+    """The log cut after each of its bytes, and with each of its bytes changed to every other value."""
+    yield from (WHOLE[:size] for size in range(len(WHOLE) + 1))
+    for at, byte in enumerate(WHOLE):
+        yield from (WHOLE[:at] + bytes([other]) + WHOLE[at + 1:] for other in range(256) if other != byte)
