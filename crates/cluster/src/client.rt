@@ -39,13 +39,24 @@ impl<D: LogDevice> Client<D> {
         let primary = self.shared.primary(rt);
         let asked = write.copy(self.alloc)?;
         let begun = self.begin(rt, primary, asked)?;
-        let ended = confirmed(rt, begun, primary, &write);
-        if let Err(ClusterFault::NoPrimary(_)) = &ended {
-            if let Some(fault) = self.shared.unled(rt) {
-                return Err(ClusterFault::from(fault));
+        match confirmed(rt, begun, primary, &write) {
+            Ok(done) => Ok(done),
+            Err(fault) => Err(self.or_unled(rt, &write, fault)),
+        }
+    }
+
+    /// A write's refusal; in place of one for want of a primary the master's fault, where it could make none.
+    fn or_unled<R: Wait>(&self, rt: &R, write: &Write, fault: ClusterFault) -> ClusterFault
+        requires { IsWriteRefused write.now fault }
+        ensures { IsWriteRefused write.now result }
+    {
+        if let ClusterFault::NoPrimary(_) = &fault {
+            if let Some(why) = self.shared.unled(rt) {
+                drop(fault);
+                return ClusterFault::from(why);
             }
         }
-        ended
+        fault
     }
 
     /// Hands a write to a copy, and waits for its entry.
@@ -133,8 +144,7 @@ impl<D: LogDevice> Client<D> {
     fn is_refreshed<R: Wait>(&self, rt: &R, copy: u32) -> Result<bool, ClusterFault> {
         match self.call(rt, copy, Input::Refresh) {
             Ok(_receipt) => Ok(true),
-            Err(ClusterFault::NoMemory) => Err(ClusterFault::NoMemory),
-            Err(_fault) => Ok(false),
+            Err(fault) => passed_over(fault),
         }
     }
 
@@ -165,6 +175,15 @@ impl<D: LogDevice> Client<D> {
 struct Begun {
     receipt: Receipt,
     endings: Receiver<Ending, Global>,
+}
+
+/// A copy that refused is passed over, as not refreshed; want of memory is told.
+fn passed_over(fault: ClusterFault) -> Result<bool, ClusterFault> {
+    if let ClusterFault::NoMemory = &fault {
+        return Err(fault);
+    }
+    drop(fault);
+    Ok(false)
 }
 
 /// The entry that a worker answers with.

@@ -5,6 +5,7 @@ ghost use Rattle.cluster.specs.Journals.{IsLegalJournal};
 ghost use Rattle.cluster.specs.Ruled.{IsDecided};
 
 use crate::bench::{Bench, started};
+use crate::channels::sent;
 use crate::client::Client;
 use crate::devices::Devices;
 use crate::fault::{ClusterFault, OpenFault, Unopened, of_master_log};
@@ -16,13 +17,13 @@ use crate::ruled::Ruled;
 use crate::shared::Shared;
 use crate::worker::Worker;
 use audit::Journal;
-use crossbeam_channel::unbounded;
+use crossbeam_channel::{Receiver, unbounded};
 use doc::Mapping;
 use master::{Decision, Master, MasterFault, Request};
 use node::{Held, Pass};
 use op::CopyIds;
 use replica::{Birth, CopyFault};
-use std::alloc::Global;
+use std::alloc::{AllocError, Global};
 use std::sync::{Arc, Mutex, Wait};
 use std::thread::{JoinHandle, Threads};
 use translog::LogDevice;
@@ -178,10 +179,15 @@ impl<D: LogDevice + Send + 'static, V: Devices<D>, G: Gate + Send + Sync + 'stat
         match done {
             Ok(()) => Ok(self),
             Err(fault) => {
-                let _ = self.close(rt);
+                self.let_go(rt);
                 Err(fault)
             }
         }
+    }
+
+    /// Ends a cluster whose journals nobody wants.
+    fn let_go<R: Threads + Wait>(self, rt: &R) {
+        drop(self.close(rt));
     }
 
     fn launch_all<R: Threads + Wait + Copy + Send + Drop + 'static>(
@@ -235,12 +241,17 @@ impl<D: LogDevice + Send + 'static, V: Devices<D>, G: Gate + Send + Sync + 'stat
                 self.launch(rt, held)?;
                 Ok(true)
             }
-            Err(OpenFault::Copy(CopyFault::NoMemory)) => Err(ClusterFault::NoMemory),
-            Err(fault) => {
-                self.unopened.push(Unopened { copy: id, fault })?;
-                Ok(false)
-            }
+            Err(fault) => self.leave_out(id, fault),
         }
+    }
+
+    /// Notes that a copy didn't open, and why.
+    fn leave_out(&mut self, copy: u32, fault: OpenFault) -> Result<bool, ClusterFault> {
+        if let OpenFault::Copy(CopyFault::NoMemory) = &fault {
+            return Err(ClusterFault::NoMemory);
+        }
+        self.unopened.push(Unopened { copy, fault })?;
+        Ok(false)
     }
 
     /// The copy that its device holds.
@@ -315,22 +326,25 @@ impl<D: LogDevice + Send + 'static, V: Devices<D>, G: Gate + Send + Sync + 'stat
         rt: &R,
         held: Held<D>,
     ) -> Result<Bench<R, D, G>, ClusterFault> {
-        let alloc = self.client.alloc;
         let copy = held.copy().id();
-        let (to, inbox) = unbounded(alloc)?;
-        let worker = Worker::new(
-            alloc,
-            Arc::try_clone(&self.gate)?,
-            Arc::try_clone(&self.client.shared)?,
-            held,
-            Pass::new(alloc, copy as u64),
-        );
-        add_route(rt, &*self.client.shared, Route { copy, to })?;
-        Ok(Bench {
-            rt: *rt,
-            inbox,
-            worker,
-        })
+        let worker = self.worker(held)?;
+        match inbox_of(rt, self.client.alloc, &*self.client.shared, copy) {
+            Ok(inbox) => Ok(Bench {
+                rt: *rt,
+                inbox,
+                worker,
+            }),
+            Err(fault) => Err(fault),
+        }
+    }
+
+    /// A worker for a copy, which no post reaches yet.
+    fn worker(&self, held: Held<D>) -> Result<Worker<D, G>, ClusterFault> {
+        let alloc = self.client.alloc;
+        let gate = another(&self.gate)?;
+        let shared = another(&self.client.shared)?;
+        let pass = Pass::new(alloc, held.copy().id() as u64);
+        Ok(Worker::new(alloc, gate, shared, held, pass))
     }
 
     /// Starts a worker's thread. Where none can be had, posts reach it no more.
@@ -407,6 +421,23 @@ fn journals<D: LogDevice>(
     Ok(journals)
 }
 
+/// Another handle of what is shared.
+fn another<T>(shared: &Arc<T, Global>) -> Result<Arc<T, Global>, AllocError> {
+    Arc::try_clone(shared)
+}
+
+/// The inbox of a copy's worker, which posts reach from now on.
+fn inbox_of<R: Wait, D: LogDevice>(
+    rt: &R,
+    alloc: Global,
+    shared: &Shared<D>,
+    copy: u32,
+) -> Result<Receiver<Post, Global>, ClusterFault> {
+    let (to, inbox) = unbounded(alloc)?;
+    add_route(rt, shared, Route { copy, to })?;
+    Ok(inbox)
+}
+
 fn add_route<R: Wait, D: LogDevice>(
     rt: &R,
     shared: &Shared<D>,
@@ -426,7 +457,7 @@ fn remove_route<R: Wait, D: LogDevice>(rt: &R, shared: &Shared<D>, copy: u32) {
 fn stop<R: Wait, D: LogDevice>(rt: &R, shared: &Shared<D>) {
     let mut routes = shared.routes.lock(rt);
     for route in routes.as_slice() {
-        let _ = route.to.send(rt, Post::Stop);
+        sent(rt, &route.to, Post::Stop);
     }
     routes.clear();
 }

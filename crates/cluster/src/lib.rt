@@ -2,6 +2,7 @@
 #![tactic(auto)]
 
 mod bench;
+mod channels;
 mod checks;
 pub mod client;
 pub mod cluster;

@@ -3,6 +3,7 @@ ghost use Rattle.std.specs.Prelude.{◌≡◌, IfOk};
 ghost use Rattle.master.specs.declared.state.State.{State as MasterState};
 ghost use Rattle.cluster.specs.Ruled.{IsDecided, IsKnown};
 
+use crate::channels::sent;
 use crate::post::{Post, Route};
 use crate::ruled::{Ruled, copied};
 use master::{Decision, MasterFault, Request, State};
@@ -43,7 +44,7 @@ impl<D: LogDevice> Shared<D> {
         let routes = self.routes.lock(rt);
         for route in routes.as_slice() {
             if route.copy == copy {
-                return route.to.send(rt, post).is_ok();
+                return sent(rt, &route.to, post);
             }
         }
         false

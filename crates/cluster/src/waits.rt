@@ -1,5 +1,6 @@
 //! Writes that wait for their acknowledgement.
 
+use crate::channels::sent;
 use crate::copies::copied;
 use crate::post::Ending;
 use crossbeam_channel::Sender;
@@ -52,7 +53,7 @@ impl Waits {
         };
         let waiting = self.items.swap_remove(place);
         if let Ok(copied) = copied(self.alloc, receipt) {
-            let _ = waiting.to.send(rt, Ending::Acknowledged(copied));
+            sent(rt, &waiting.to, Ending::Acknowledged(copied));
         }
     }
 
@@ -65,7 +66,7 @@ impl Waits {
     pub(crate) fn lose<R: Wait>(&mut self, rt: &R, receipt: &Receipt) {
         for waiting in self.items.drain(..) {
             if let Ok(copied) = copied(self.alloc, receipt) {
-                let _ = waiting.to.send(rt, Ending::Lost(copied));
+                sent(rt, &waiting.to, Ending::Lost(copied));
             }
         }
     }

@@ -1,5 +1,6 @@
 //! What the thread of a copy does.
 
+use crate::channels::sent;
 use crate::checks::{is_shut, written_in};
 use crate::copies::copied;
 use crate::fate::{Fate, fate_of, is_of_primary};
@@ -117,7 +118,7 @@ impl<D: LogDevice, G: Gate> Worker<D, G> {
         let was_open = self.is_open();
         let answer = self.call(rt, input);
         self.mend_since(rt, was_open);
-        let _ = to.send(rt, answer);
+        sent(rt, to, answer);
     }
 
     /// A write. Who waits is noted before what it acknowledges is told, since one copy acknowledges its write at once. A copy that the write
@@ -136,7 +137,7 @@ impl<D: LogDevice, G: Gate> Worker<D, G> {
             self.follow(rt, receipt);
         }
         self.mend_since(rt, was_open);
-        let _ = first.send(rt, answer);
+        sent(rt, first, answer);
     }
 
     /// Notes who waits for the acknowledgement of a write that is kept; nobody acknowledges it where another copy leads.
@@ -155,14 +156,19 @@ impl<D: LogDevice, G: Gate> Worker<D, G> {
             self.again(rt, message, tries, 1);
             return;
         };
-        let was_open = self.is_open();
-        let answer = self.call(rt, Input::Take(message));
-        self.mend_since(rt, was_open);
-        match fate_of(&answer) {
+        match self.fate(rt, message) {
             Fate::Settled => {}
             Fate::Postponed(cost) => self.again(rt, kept, tries, cost),
             Fate::Impossible => self.refuse(rt, &kept),
         }
+    }
+
+    /// Has the copy take a message, and tells what becomes of it.
+    fn fate<R: Wait>(&mut self, rt: &R, message: Msg) -> Fate {
+        let was_open = self.is_open();
+        let answer = self.call(rt, Input::Take(message));
+        self.mend_since(rt, was_open);
+        fate_of(&answer)
     }
 
     /// Hands a message again, behind those that wait; at last it is refused, and no write waits for what it would have told. What the master tells a
@@ -224,11 +230,11 @@ impl<D: LogDevice, G: Gate> Worker<D, G> {
 
     fn get<R: Wait>(&mut self, rt: &R, id: DocId, to: &Sender<Result<Got, NodeFault>, Global>) {
         let got = self.held.get(self.alloc, id);
-        let _ = to.send(rt, got);
+        sent(rt, to, got);
     }
 
     fn show<R: Wait>(&mut self, rt: &R, to: &Sender<Result<Shown, NodeFault>, Global>) {
-        let _ = to.send(rt, Shown::of(&self.held));
+        sent(rt, to, Shown::of(&self.held));
     }
 
     fn send_on<R: Wait>(&mut self, rt: &R, receipt: &Receipt) {
