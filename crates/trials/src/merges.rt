@@ -46,13 +46,7 @@ fn write_two_parts(alloc: Global, engine: &mut Engine) -> Result<(), Fail> {
 }
 
 /// Whether a search for all documents finds so many, with the id at the place.
-fn finds(
-    alloc: Global,
-    engine: &Engine,
-    total: u64,
-    place: usize,
-    id: &str,
-) -> Result<bool, Fail> {
+fn finds(alloc: Global, engine: &Engine, total: u64, place: usize, id: &str) -> Result<bool, Fail> {
     let json = Value::from_str(alloc, "{\"size\":100}")?;
     let body = SearchBody::read(alloc, engine.mapping(), &json)?;
     let hits = engine.snapshot().search(alloc, &body.query, body.page)?;
