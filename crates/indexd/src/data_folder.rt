@@ -108,17 +108,14 @@ pub(crate) fn read_index<R: Files<File = File> + AllocGlobal>(
     let lock = folder.lock()?;
     let text = folder.text(MAPPING)?;
     let mapping = mapping_of(rt.alloc(), text.as_str())?;
-    let primary = folder.primary()?;
-    let mut log = Translog::over(folder.kept_device(primary)?);
-    match log.read(rt.alloc()) {
-        Ok((records, _torn)) => Ok(KeptRecords {
+    match folder.records() {
+        Ok(records) => Ok(KeptRecords {
             text,
             mapping,
             records,
             lock,
         }),
-        Err(LogFault::NoMemory) => Err(DataFault::NoMemory),
-        Err(fault) => Err(DataFault::Copy(primary, CopyFault::Log(fault))),
+        Err(fault) => Err(fault),
     }
 }
 
@@ -133,6 +130,19 @@ impl<'a, R: Files<File = File> + AllocGlobal> Folder<'a, R> {
     fn path_of(&self, name: &str) -> Result<String, AllocError> {
         let path = self.path;
         format!(in self.rt.alloc(); "{path}/{name}")
+    }
+
+    /// The records of the copy that led last.
+    fn records(&self) -> Result<Vec<Record>, DataFault>
+        ensures { IfOk result (λ r. All IsRecord r.items) }
+    {
+        let primary = self.primary()?;
+        let mut log = Translog::over(self.kept_device(primary)?);
+        match log.read(self.rt.alloc()) {
+            Ok((records, _torn)) => Ok(records),
+            Err(LogFault::NoMemory) => Err(DataFault::NoMemory),
+            Err(fault) => Err(DataFault::Copy(primary, CopyFault::Log(fault))),
+        }
     }
 
     /// Makes the folder where it is missing.

@@ -23,10 +23,12 @@ pub(crate) fn model_answer(
     match journals.get(node) {
         Some(Journal::OfMaster(_, rulings)) => { ruled(alloc, copies, rulings.as_slice(), place) }
         Some(Journal::OfCopy(_, deeds)) => {
-            let Some(copy) = new_copy(alloc, mapping, copies, node)? else {
+            let Some(mut copy) = new_copy(alloc, mapping, copies, node)? else {
                 return Ok(None);
             };
-            answered(alloc, copy, deeds.as_slice(), place)
+            let answer = answered(alloc, &mut copy, deeds.as_slice(), place);
+            drop(copy);
+            answer
         }
         None => Ok(None),
     }
@@ -52,24 +54,25 @@ fn new_copy(
     Ok(opened.ok())
 }
 
-/// What the copy answers at a place of its journal.
+/// What a copy that is new answers at a place of its journal.
 fn answered(
     alloc: Global,
-    copy: Copy<MemDevice>,
+    copy: &mut Copy<MemDevice>,
     deeds: &[Deed],
     place: usize,
 ) -> Result<Option<Value>, AllocError> {
-    let mut copy = copy;
     let Some(asked) = deeds.get(place) else {
         return Ok(None);
     };
     for deed in deeds.iter().take(place) {
-        if !is_played(alloc, &mut copy, deed)? {
+        if !is_played(alloc, copy, deed)? {
             return Ok(None);
         }
     }
     let answer = copy.step(alloc, asked.input.copy(alloc)?);
-    Ok(Some(copy_answer_value(alloc, &answer)?))
+    let value = copy_answer_value(alloc, &answer);
+    drop(answer);
+    Ok(Some(value?))
 }
 
 /// Has the copy do what an entry says that it did. What was refused changed nothing, but for a fault of the log.
@@ -90,9 +93,23 @@ fn ruled(
     if copies < 1 || copies > 5 {
         return Ok(None);
     }
-    let Ok(mut master) = Master::begin(alloc, copies as u8, MemDevice::new(Vec::new(alloc))) else {
-        return Ok(None);
-    };
+    match Master::begin(alloc, copies as u8, MemDevice::new(Vec::new(alloc))) {
+        Ok(mut master) => {
+            let answer = ruled_by(alloc, &mut master, rulings, place);
+            drop(master);
+            answer
+        }
+        Err(_) => Ok(None),
+    }
+}
+
+/// What a master that is new answers at a place of its journal.
+fn ruled_by(
+    alloc: Global,
+    master: &mut Master<MemDevice>,
+    rulings: &[Ruling],
+    place: usize,
+) -> Result<Option<Value>, AllocError> {
     let Some(asked) = rulings.get(place) else {
         return Ok(None);
     };
@@ -102,5 +119,7 @@ fn ruled(
         }
     }
     let answer = master.step(alloc, asked.request);
-    Ok(Some(master_answer_value(alloc, &answer)?))
+    let value = master_answer_value(alloc, &answer);
+    drop(answer);
+    Ok(Some(value?))
 }

@@ -44,7 +44,7 @@ enum ProgramFault {
 
 /// Runs the program on its words (the first is its name), and answers its exit status: 0, or 1 with one line
 /// `indexd: TEXT` on `errors`, or 2 with a usage text there where the words can't be read.
-pub fn program<R, I: BufRead, O: Write, E: Write>(
+pub fn program<R, I: BufRead, O: Write, E: Write + Send>(
     rt: &R,
     words: &[String],
     terminals: Terminals,
@@ -82,7 +82,7 @@ where
 }
 
 /// Serves an index, and answers the exit status: 0, or 1 with one line on `errors`.
-fn run_server<R, O: Write, E: Write>(
+fn run_server<R, O: Write, E: Write + Send>(
     rt: &R,
     settings: Settings<'_>,
     output: &mut O,

@@ -5,7 +5,7 @@ use crate::data_fault::DataFault;
 use crate::data_folder::{KeptFolder, KeptIndex, MappingFile, open_folder, open_index};
 use crate::index_name::is_index_name;
 use crate::journal_folder::{KeepFault, keep_journals};
-use crate::opening::OpeningLine;
+use crate::opening::{Counted, OpeningLine};
 use crate::verdict;
 use crate::verdict::VerdictFault;
 use cluster::{Cluster, ClusterFault, Devices, InFolder, InMemory, Open, Unopened};
@@ -173,7 +173,7 @@ where
         + Drop
         + 'static,
     O: Write,
-    E: Write,
+    E: Write + Send,
 {
     let alloc = rt.alloc();
     if !is_index_name(settings.index) {
@@ -186,9 +186,12 @@ where
     };
     if settings.copies == 1 {
         let name = String::from_str(alloc, settings.index)?;
-        let line = OpeningLine::begin(rt, alloc, folder, settings.at_terminal, errors);
-        let opened = open_index(rt, folder, name, mapping.as_ref());
-        line.end(errors);
+        let line = OpeningLine::new(rt, alloc, folder, settings.at_terminal)?;
+        let opened = line.shown_while(
+            rt,
+            errors,
+            || open_index(rt, folder, name, mapping.as_ref()),
+        );
         match opened {
             Ok(kept) => return serve_kept(rt, settings, kept, output),
             Err(DataFault::SeveralCopies) => {}
@@ -365,20 +368,57 @@ where
         + Drop
         + 'static,
     O: Write,
-    E: Write,
+    E: Write + Send,
 {
     let alloc = rt.alloc();
     let KeptFolder {
         mapping: fields,
         lock,
     } = open_folder(rt, folder, mapping)?;
-    let copies = settings.copies.max(1).min(5) as u8;
-    let devices = InFolder::new(*rt, String::from_str(alloc, folder)?);
-    let line = OpeningLine::begin(rt, alloc, folder, settings.at_terminal, errors);
-    let opened = Cluster::open(rt, alloc, fields.copy(alloc)?, copies, devices, Open);
-    line.end(errors);
+    let line = OpeningLine::new(rt, alloc, folder, settings.at_terminal)?;
+    let devices = Counted {
+        files: InFolder::new(*rt, String::from_str(alloc, folder)?),
+        begun: line.begun()?,
+    };
+    let copied = fields.copy(alloc)?;
+    let opened = line.shown_while(rt, errors, || {
+        let copies = settings.copies.max(1).min(5) as u8;
+        Cluster::open(rt, alloc, copied, copies, devices, Open)
+    });
     let mut cluster = opened?;
-    let lacking = lacking(rt, &cluster, settings.copies)?;
+    let ended = serve_cluster(rt, settings, &fields, &mut cluster, output, errors);
+    let closed = cluster.close(rt);
+    drop(lock);
+    ended?;
+    drop(closed?);
+    Ok(())
+}
+
+/// Adds the copies that are lacking, and serves all.
+fn serve_cluster<R, V, O, E>(
+    rt: &R,
+    settings: Settings<'_>,
+    fields: &Mapping,
+    cluster: &mut Cluster<FileDevice<File>, V, Open>,
+    output: &mut O,
+    errors: &mut E,
+) -> Result<(), ServeFault>
+where
+    R: AllocGlobal
+        + Net<Listener = TcpListener, Stream = TcpStream>
+        + Threads
+        + Wait
+        + Clock
+        + Copy
+        + Send
+        + Sync
+        + Drop
+        + 'static,
+    V: Devices<FileDevice<File>>,
+    O: Write,
+    E: Write,
+{
+    let lacking = lacking(rt, cluster, settings.copies)?;
     for copy in cluster.unopened() {
         let _ = writeln!(errors, "indexd: {copy}; it leaves the index");
     }
@@ -387,15 +427,10 @@ where
     }
     let index = Index {
         name: settings.index,
-        mapping: &fields,
+        mapping: fields,
         client: cluster.client(),
     };
-    let ended = listen_to_group(rt, settings, &index, output);
-    let closed = cluster.close(rt);
-    drop(lock);
-    ended?;
-    closed?;
-    Ok(())
+    listen_to_group(rt, settings, &index, output)
 }
 
 /// How many copies are to be added, so that there are as many as are wanted.

@@ -132,8 +132,7 @@ fn explain<E: Write>(
         AuditFault::NoMemory => return Ok(()),
     };
     if let Some(journal) = journals.get(node) {
-        let entry = entry_value(alloc, journal, place)?;
-        write_value(alloc, "entry", entry, errors)?;
+        write_value(alloc, "entry", entry_value(alloc, journal, place)?, errors)?;
     }
     let answer = model_answer(alloc, mapping, journals, node, place)?;
     write_value(alloc, "model", answer, errors)
@@ -146,7 +145,9 @@ fn write_value<E: Write>(
     errors: &mut E,
 ) -> Result<(), AllocError> {
     if let Some(value) = value {
-        let text = value.to_string(alloc)?;
+        let text = value.to_string(alloc);
+        drop(value);
+        let text = text?;
         let _ = writeln!(errors, "{name}: {text}");
     }
     Ok(())
