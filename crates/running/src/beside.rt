@@ -1,9 +1,9 @@
 //! Copies that step beside one another: a gate holds one copy back until another has stepped as often.
 
-use crate::judging::verdict_of;
+use crate::judging::ended;
 use crate::writing::{put, told};
 use anyhow::Result;
-use cluster::{Cluster, Gate, InMemory};
+use cluster::{Client, Cluster, Gate, InMemory};
 use doc::Mapping;
 use std::alloc::Global;
 use std::sync::atomic::{AtomicBool, AtomicU64, Ordering};
@@ -11,6 +11,7 @@ use std::sync::{Arc, Wait};
 use std::thread;
 use std::thread::Threads;
 use std::time::{Clock, Duration};
+use translog::LogDevice;
 
 /// How many documents are written.
 const WRITES: u64 = 10;
@@ -80,11 +81,9 @@ fn run_one<R: Threads + Wait + Print + Clock + Copy + Send + Sync + Drop + 'stat
     let gate = Turns::new(*rt, held, first, Arc::try_clone(&gave_up)?);
     let devices = InMemory { alloc };
     let cluster = Cluster::start(rt, alloc, mapping.copy(alloc)?, 3, devices, gate).map_err(told)?;
-    for number in 0..WRITES {
-        put(rt, alloc, cluster.client(), 0, number)?;
-    }
-    let journals = cluster.close(rt).map_err(told)?;
-    let verdict = verdict_of(alloc, mapping, journals)?;
+    let done = write_all(rt, alloc, cluster.client());
+    let (_, verdict) = ended(rt, alloc, mapping, cluster)?;
+    done?;
     let how = if gave_up.load(Ordering::SeqCst) {
         "COPIES STEP ONE AFTER THE OTHER"
     } else {
@@ -93,6 +92,13 @@ fn run_one<R: Threads + Wait + Print + Clock + Copy + Send + Sync + Drop + 'stat
     println!(rt;
         "copy {held} steps behind copy {first}: {WRITES} writes are confirmed, {how}: {verdict}"
     )?;
+    Ok(())
+}
+
+fn write_all<R: Wait, D: LogDevice>(rt: &R, alloc: Global, client: &Client<D>) -> Result<()> {
+    for number in 0..WRITES {
+        put(rt, alloc, client, 0, number)?;
+    }
     Ok(())
 }
 

@@ -12,30 +12,58 @@ use replica::{Answer, Condition, Input, OpType, Write};
 use std::alloc::Global;
 use std::sync::Wait;
 use std::thread::Threads;
-use translog::LogDevice;
+use translog::{LogDevice, MemDevice};
 
 /// Writes, reads, refreshes and a refusal.
 fn write_some<R: Wait, D: LogDevice>(rt: &R, alloc: Global, client: &Client<D>) -> Result<()> {
     put(rt, alloc, client, 0, 0)?;
     put(rt, alloc, client, 0, 1)?;
-    client.call(rt, 2, Input::Refresh).map_err(told)?;
-    client
-        .call(rt, 1, Input::Get(id_of(alloc, 0, 1)?))
-        .map_err(told)?;
-    let again = Write {
-        id: id_of(alloc, 0, 0)?,
-        kind: OpType::Delete(None),
-    };
-    confirmed(rt, alloc, client, &again)?;
-    let there = Write {
-        id: id_of(alloc, 0, 1)?,
-        kind: OpType::Delete(Some(Condition { seq: 7, term: 1 })),
-    };
-    if client.write(rt, there).is_ok() {
+    call(rt, client, 2, Input::Refresh)?;
+    call(rt, client, 1, Input::Get(id_of(alloc, 0, 1)?))?;
+    delete(rt, alloc, client)?;
+    if is_deleted_there(rt, alloc, client)? {
         bail!("a write with another condition is confirmed");
     }
     put(rt, alloc, client, 0, 2)?;
     Ok(())
+}
+
+fn call<R: Wait, D: LogDevice>(rt: &R, client: &Client<D>, copy: u32, input: Input) -> Result<()> {
+    match client.call(rt, copy, input) {
+        Ok(receipt) => {
+            drop(receipt);
+            Ok(())
+        }
+        Err(fault) => Err(told(fault)),
+    }
+}
+
+/// Deletes the first document.
+fn delete<R: Wait, D: LogDevice>(rt: &R, alloc: Global, client: &Client<D>) -> Result<()> {
+    let again = Write {
+        id: id_of(alloc, 0, 0)?,
+        kind: OpType::Delete(None),
+    };
+    let done = confirmed(rt, alloc, client, &again);
+    drop(again);
+    drop(done?);
+    Ok(())
+}
+
+/// Whether the second document can be deleted where it is another write's.
+fn is_deleted_there<R: Wait, D: LogDevice>(
+    rt: &R,
+    alloc: Global,
+    client: &Client<D>,
+) -> Result<bool> {
+    let there = Write {
+        id: id_of(alloc, 0, 1)?,
+        kind: OpType::Delete(Some(Condition { seq: 7, term: 1 })),
+    };
+    let done = client.write(rt, there);
+    let is_done = done.is_ok();
+    drop(done);
+    Ok(is_done)
 }
 
 /// A run of two copies and one that joins, which then becomes the primary.
@@ -48,6 +76,19 @@ fn small_run<R: Threads + Wait + Copy + Send + Drop + 'static>(
     let mut cluster = Cluster::start(rt, alloc, mapping.copy(alloc)?, 2, devices, Open).map_err(
         told,
     )?;
+    let done = work(rt, alloc, &mut cluster);
+    let journals = cluster.close(rt).map_err(told)?;
+    match done {
+        Ok(()) => Ok(journals),
+        Err(error) => Err(error),
+    }
+}
+
+fn work<R: Threads + Wait + Copy + Send + Drop + 'static>(
+    rt: &R,
+    alloc: Global,
+    cluster: &mut Cluster<MemDevice, InMemory, Open>,
+) -> Result<()> {
     write_some(rt, alloc, cluster.client())?;
     cluster.allocate(rt).map_err(told)?;
     joined(rt, alloc, cluster.client(), 3)?;
@@ -55,7 +96,7 @@ fn small_run<R: Threads + Wait + Copy + Send + Drop + 'static>(
     cluster.client().promote(rt, 3).map_err(told)?;
     put(rt, alloc, cluster.client(), 0, 4)?;
     put(rt, alloc, cluster.client(), 0, 5)?;
-    cluster.close(rt).map_err(told)
+    Ok(())
 }
 
 /// Whether the model may allow a changed journal. It allows no other answer than the one that the model gives. An entry that is missing, or there twice, it

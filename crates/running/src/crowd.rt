@@ -1,9 +1,9 @@
 //! Four clients at once, while another copy becomes the primary and one joins.
 
-use crate::judging::verdict_of;
+use crate::judging::ended;
 use crate::writing::{Noted, found, id_of, put, told};
 use anyhow::{Result, bail};
-use cluster::{Client, Cluster, InMemory, Open};
+use cluster::{Client, Cluster, InMemory, Open, Shown};
 use doc::{DocId, Mapping};
 use query::SearchBody;
 use replica::Input;
@@ -40,7 +40,7 @@ fn write_some<R: Wait, D: LogDevice>(
             look_at(rt, alloc, client, noted)?;
         }
         if writer == 0 && from == 0 && step == HALF / 2 {
-            let _ = client.promote(rt, 2);
+            drop(client.promote(rt, 2));
         }
     }
     Ok(written)
@@ -54,8 +54,8 @@ fn look_at<R: Wait, D: LogDevice>(
     noted: Noted,
 ) -> Result<()> {
     let id = id_of(alloc, noted.writer, noted.number)?;
-    let _ = client.call(rt, client.primary(rt), Input::Get(id));
-    let _ = client.call(rt, 3, Input::Refresh);
+    drop(client.call(rt, client.primary(rt), Input::Get(id)));
+    drop(client.call(rt, 3, Input::Refresh));
     Ok(())
 }
 
@@ -93,7 +93,7 @@ pub(crate) fn joined<R: Wait, D: LogDevice>(
             return Ok(());
         }
         let id = DocId::new(alloc, "none")?;
-        client.call(rt, copy, Input::Get(id)).map_err(told)?;
+        drop(client.call(rt, copy, Input::Get(id)).map_err(told)?);
     }
     bail!("the copy doesn't join")
 }
@@ -106,9 +106,19 @@ fn total_on<R: Wait, D: LogDevice>(
     client: &Client<D>,
     copy: u32,
 ) -> Result<u64> {
-    let body = Value::from_str(alloc, "{\"query\":{\"match_all\":{}}}")?;
-    let body = SearchBody::read(alloc, mapping, &body)?;
+    let body = all_of(alloc, mapping)?;
     let shown = client.shown(rt, copy).map_err(told)?;
+    total_in(alloc, &body, &shown)
+}
+
+/// A search for all documents.
+fn all_of(alloc: Global, mapping: &Mapping) -> Result<SearchBody> {
+    let body = Value::from_str(alloc, "{\"query\":{\"match_all\":{}}}")?;
+    Ok(SearchBody::read(alloc, mapping, &body)?)
+}
+
+/// How many documents a search finds among those that are shown.
+fn total_in(alloc: Global, body: &SearchBody, shown: &Shown) -> Result<u64> {
     let hits = shown.snapshot().search(alloc, &body.query, body.page)?;
     Ok(hits.total)
 }
@@ -153,18 +163,25 @@ pub(crate) fn run<R: Threads + Wait + Print + Copy + Send + Sync + Drop + 'stati
     mapping: &Mapping,
 ) -> Result<()> {
     let mut cluster = begun(rt, alloc, mapping)?;
+    let done = work(rt, alloc, mapping, &mut cluster);
+    let (journals, verdict) = ended(rt, alloc, mapping, cluster)?;
+    done?;
+    println!(rt; "{journals} journals: {verdict}")?;
+    Ok(())
+}
+
+/// Four clients write, a copy joins, they write again, and what is there is looked for.
+fn work<R: Threads + Wait + Print + Copy + Send + Sync + Drop + 'static>(
+    rt: &R,
+    alloc: Global,
+    mapping: &Mapping,
+    cluster: &mut Cluster<MemDevice, InMemory, Open>,
+) -> Result<()> {
     let mut written = write_at_once(rt, alloc, cluster.client(), 0)?;
     cluster.allocate(rt).map_err(told)?;
     for noted in write_at_once(rt, alloc, cluster.client(), HALF)? {
         written.push(noted)?;
     }
     joined(rt, alloc, cluster.client(), 4)?;
-    look(rt, alloc, mapping, cluster.client(), &written)?;
-    let journals = cluster.close(rt).map_err(told)?;
-    println!(rt;
-        "{} journals: {}",
-        journals.len(),
-        verdict_of(alloc, mapping, journals)?
-    )?;
-    Ok(())
+    look(rt, alloc, mapping, cluster.client(), &written)
 }

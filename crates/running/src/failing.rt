@@ -1,16 +1,17 @@
 //! A log that fails once, while clients write.
 
 use crate::crowd::write_at_once;
-use crate::judging::verdict_of;
+use crate::judging::ended;
 use crate::shaky::OneShaky;
 use crate::writing::{found, told};
 use anyhow::Result;
-use cluster::{Cluster, Open};
+use cluster::{Client, Cluster, Open};
 use doc::Mapping;
 use std::alloc::Global;
 use std::sync::atomic::AtomicBool;
 use std::sync::{Arc, Wait};
 use std::thread::Threads;
+use translog::LogDevice;
 
 /// One run: the append of a number fails on the log of a node.
 fn run_one<R: Threads + Wait + Print + Copy + Send + Sync + Drop + 'static>(
@@ -27,16 +28,24 @@ fn run_one<R: Threads + Wait + Print + Copy + Send + Sync + Drop + 'static>(
         has_failed: Arc::new(alloc, AtomicBool::new(false))?,
     };
     let cluster = Cluster::start(rt, alloc, mapping.copy(alloc)?, 3, devices, Open).map_err(told)?;
-    let written = write_at_once(rt, alloc, cluster.client(), 0)?;
-    let primary = cluster.client().primary(rt);
-    let count = found(rt, alloc, cluster.client(), primary, &written)?;
-    let journals = cluster.close(rt).map_err(told)?;
-    let verdict = verdict_of(alloc, mapping, journals)?;
-    let confirmed = written.len();
+    let done = work(rt, alloc, cluster.client());
+    let (_, verdict) = ended(rt, alloc, mapping, cluster)?;
+    let (confirmed, count) = done?;
     println!(rt;
         "log {node} fails once: {confirmed} writes are confirmed, the primary has {count}: {verdict}"
     )?;
     Ok(())
+}
+
+/// Has clients write, and tells how many writes are confirmed, and how many of them the primary has.
+fn work<R: Threads + Wait + Sync, D: LogDevice + Send>(
+    rt: &R,
+    alloc: Global,
+    client: &Client<D>,
+) -> Result<(usize, usize)> {
+    let written = write_at_once(rt, alloc, client, 0)?;
+    let count = found(rt, alloc, client, client.primary(rt), &written)?;
+    Ok((written.len(), count))
 }
 
 /// The log of the primary, of another copy and of the master fails in turn.

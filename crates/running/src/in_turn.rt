@@ -1,6 +1,6 @@
 //! Each append of each log fails in turn, while clients write and a copy joins.
 
-use crate::judging::verdict_of;
+use crate::judging::ended;
 use crate::shaky::{OneShaky, Shaky};
 use crate::writing::{Noted, found, put, told};
 use anyhow::{Result, bail};
@@ -69,19 +69,29 @@ fn run_over<R: Threads + Wait + Copy + Send + Sync + Drop + 'static>(
     cluster: Running,
 ) -> Result<()> {
     let mut cluster = cluster;
+    let done = work(rt, alloc, &mut cluster);
+    let (_, verdict) = ended(rt, alloc, mapping, cluster)?;
+    done?;
+    if verdict.as_str() != "audit ok" {
+        bail!("{verdict}");
+    }
+    Ok(())
+}
+
+/// Writes, has a copy join, writes on, and looks for all writes.
+fn work<R: Threads + Wait + Copy + Send + Sync + Drop + 'static>(
+    rt: &R,
+    alloc: Global,
+    cluster: &mut Running,
+) -> Result<()> {
     let mut written = Vec::new(alloc);
     write_at_once(rt, alloc, cluster.client(), 0, &mut written)?;
-    let _ = cluster.allocate(rt);
+    drop(cluster.allocate(rt));
     write_at_once(rt, alloc, cluster.client(), HALF, &mut written)?;
     let primary = cluster.client().primary(rt);
     let count = found(rt, alloc, cluster.client(), primary, &written)?;
     if count != written.len() {
         bail!("a confirmed write isn't found");
-    }
-    let journals = cluster.close(rt).map_err(told)?;
-    let verdict = verdict_of(alloc, mapping, journals)?;
-    if verdict.as_str() != "audit ok" {
-        bail!("{verdict}");
     }
     Ok(())
 }

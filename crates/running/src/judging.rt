@@ -1,11 +1,16 @@
 //! What an audit says of the journals of a run.
 
+use crate::writing::told;
 use anyhow::{Result, anyhow, bail};
 use audit::{AuditFault, Journal, audit};
+use cluster::{Cluster, Devices, Gate};
 use doc::Mapping;
 use journals::{JournalFault, read, write};
 use serde_json::Value;
 use std::alloc::Global;
+use std::sync::Wait;
+use std::thread::Threads;
+use translog::LogDevice;
 
 /// Whether the journals are of one run; the node and the place of the first entry that isn't, with what is wrong.
 pub(crate) fn judged(
@@ -17,7 +22,10 @@ pub(crate) fn judged(
         return Ok(Some(AuditFault::NoMemory));
     }
     match audit(alloc, mapping, &journals) {
-        Ok(_world) => Ok(None),
+        Ok(world) => {
+            drop(world);
+            Ok(None)
+        }
         Err(fault) => Ok(Some(fault)),
     }
 }
@@ -34,6 +42,25 @@ fn read_back(alloc: Global, mapping: &Value, journals: Vec<Journal>) -> Result<V
         bail!("journals that are read have another text");
     }
     Ok(again)
+}
+
+/// Ends a cluster; how many journals there are, and what an audit says of them.
+pub(crate) fn ended<R, D, V, G>(
+    rt: &R,
+    alloc: Global,
+    mapping: &Mapping,
+    cluster: Cluster<D, V, G>,
+) -> Result<(usize, String)>
+where
+    R: Threads + Wait,
+    D: LogDevice + Send + 'static,
+    V: Devices<D>,
+    G: Gate + Send + Sync + 'static,
+{
+    let journals = cluster.close(rt).map_err(told)?;
+    let count = journals.len();
+    let verdict = verdict_of(alloc, mapping, journals)?;
+    Ok((count, verdict))
 }
 
 /// What an audit of the journals says, which are written and read first.

@@ -23,7 +23,9 @@ pub(crate) struct Noted {
 
 /// The fault as an error of the program.
 pub(crate) fn told(fault: ClusterFault) -> Error {
-    anyhow!("{fault}")
+    let error = anyhow!("{fault}");
+    drop(fault);
+    error
 }
 
 /// The id of a writer's document.
@@ -85,6 +87,7 @@ pub(crate) fn confirmed<R: Wait, D: LogDevice>(
                 if !is_passing(&fault) {
                     return Err(told(fault));
                 }
+                drop(fault);
             }
         }
     }
@@ -100,8 +103,12 @@ pub(crate) fn put<R: Wait, D: LogDevice>(
     number: u64,
 ) -> Result<Noted> {
     let write = write_of(alloc, writer, number)?;
-    let done = confirmed(rt, alloc, client, &write)?;
-    noted_of(writer, number, &done.write)
+    let done = confirmed(rt, alloc, client, &write);
+    drop(write);
+    let done = done?;
+    let noted = noted_of(writer, number, &done.write);
+    drop(done);
+    noted
 }
 
 /// Whether a copy has the document of a write, as that left it.
@@ -114,14 +121,21 @@ pub(crate) fn is_found<R: Wait, D: LogDevice>(
 ) -> Result<bool> {
     let id = id_of(alloc, noted.writer, noted.number)?;
     let receipt = client.call(rt, copy, Input::Get(id)).map_err(told)?;
+    let is_found = has_found(&receipt, noted);
+    drop(receipt);
+    Ok(is_found)
+}
+
+/// Whether an entry has found the document of a write, as that left it.
+fn has_found(receipt: &Receipt, noted: Noted) -> bool {
     match &receipt.deed.answer {
         Ok(
             Output {
                 answer: Answer::Found(document),
                 ..
             },
-        ) => Ok(document.seq == noted.seq && document.term == noted.term),
-        _ => Ok(false),
+        ) => document.seq == noted.seq && document.term == noted.term,
+        _ => false,
     }
 }
 
