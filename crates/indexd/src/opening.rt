@@ -88,11 +88,11 @@ impl OpeningLine {
     /// Writes the line each second until all is open, and then takes it away.
     fn tell<C: Clock, E: Write>(&self, clock: &C, errors: &mut E) {
         for tick in 0..u64::MAX {
-            if self.is_over.load(Ordering::SeqCst) {
-                break;
-            }
             if tick % TICKS_A_SECOND == 0 {
                 self.write(tick / TICKS_A_SECOND, errors);
+            }
+            if self.is_over.load(Ordering::SeqCst) {
+                break;
             }
             thread::sleep(clock, Duration::from_millis(TICK));
         }
@@ -124,7 +124,9 @@ impl<R: Files<File = File> + AllocGlobal + Drop> Devices<FileDevice<File>> for C
     }
 
     fn kept(&mut self, node: u32) -> Result<Option<FileDevice<File>>, LogFault> {
-        self.begun.fetch_add(1, Ordering::SeqCst);
+        if node > 0 {
+            self.begun.fetch_add(1, Ordering::SeqCst);
+        }
         self.files.kept(node)
     }
 }
