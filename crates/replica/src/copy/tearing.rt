@@ -98,16 +98,35 @@ impl<D: LogDevice> Copy<D> {
         ensures stays { OnErr result (self.new.copy ≡ self.old.copy) }
         ensures open { self.new.closed ≡ false }
     {
-        let Planned { next_record, .. } = planned;
+        let Planned {
+            next_record,
+            role,
+            output,
+            ..
+        } = planned;
+        drop(role);
+        drop(output);
         let mut records = records;
-        records.push(next_record)?;
-        let (reopened, _) = self.state.stage_reopen(alloc, records)?;
+        if let Err(refused) = records.push(next_record) {
+            drop(refused);
+            drop(records);
+            drop(frame);
+            return Err(AllocError);
+        }
+        let Ok((reopened, output)) = self.state.stage_reopen(alloc, records) else {
+            drop(frame);
+            return Err(AllocError);
+        };
+        drop(output);
         match self.log.append(frame) {
             Ok(()) => {
                 self.state.reopen(reopened);
                 Ok(())
             }
-            Err(_) => Err(AllocError),
+            Err(_) => {
+                drop(reopened);
+                Err(AllocError)
+            }
         }
     }
 }

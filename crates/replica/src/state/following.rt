@@ -88,14 +88,20 @@ impl State {
         } else {
             Answer::Taken
         };
-        let sent = self.ack(alloc, from, op.seq as i64, self.engine.local_with(&op))?;
-        Ok(Planned {
-            next_record: Record::Op(known, op),
-            term: self.term,
-            known: self.known.max(checkpoint::count(known)),
-            role,
-            output: follower_output(alloc, answer, sent),
-        })
+        match self.ack(alloc, from, op.seq as i64, self.engine.local_with(&op)) {
+            Ok(sent) => Ok(Planned {
+                next_record: Record::Op(known, op),
+                term: self.term,
+                known: self.known.max(checkpoint::count(known)),
+                role,
+                output: follower_output(alloc, answer, sent),
+            }),
+            Err(refused) => {
+                drop(op);
+                drop(role);
+                Err(refused)
+            }
+        }
     }
 
     /// An acknowledgement of a number, with a local checkpoint.

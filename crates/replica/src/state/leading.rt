@@ -1,5 +1,5 @@
 //! What a primary does: it counts acknowledgements, takes members in and out, and reports them.
-ghost use Rattle.std.specs.Prelude.{◌≡◌, ◌≤◌, ◌+◌, ◌^◌, false, Ok, IfOk, IfErr};
+ghost use Rattle.std.specs.Prelude.{◌≡◌, ◌≤◌, ◌+◌, ◌^◌, false, Ok, IfOk, IfErr, filter};
 ghost use Rattle.std.specs.Option.{option_copied};
 ghost use Rattle.std.specs.List.{filter_map};
 ghost use Rattle.doc.specs.Outcome.{Gives};
@@ -8,7 +8,7 @@ ghost use Rattle.replica.specs.Fault.{fault_of, is_log};
 ghost use Rattle.replica.specs.declared.input.Input.TheVariants.{Report};
 ghost use Rattle.replica.specs.Planned.{IsHandled, IsSettling, IsTurn, handled_step, led_by, op_among, settled_by, turned, turned_step};
 ghost use Rattle.replica.specs.Step as spec;
-ghost use Rattle.replica.specs.Step.{copy_step, first_fault, members_of, settled, stepped};
+ghost use Rattle.replica.specs.Step.{copy_step, first_fault, is_settled_by, members_of, settled, stepped};
 
 use crate::acks::Numbers;
 use crate::fault::CopyFault;
@@ -67,14 +67,33 @@ impl State {
         ensures led { IfOk result (λ l. l ≡ led_by self.now lead next (option_copied latest.entry)) }
         ensures standing { IsStanding self.now }
     {
-        let settled = lead.settled(alloc, self.id)?;
-        let acknowledged = self.settled_ops(alloc, &settled, latest)?;
         let known = self.known.max(lead.least(self.id, next));
+        let Ok(acknowledged) = self.acknowledged(alloc, &lead, latest) else {
+            drop(lead);
+            return Err(AllocError);
+        };
+        let Ok(lead) = lead.into_unsettled(alloc, self.id) else {
+            drop(acknowledged);
+            return Err(AllocError);
+        };
         Ok(Led {
             known,
-            lead: lead.into_unsettled(alloc, self.id)?,
+            lead,
             acknowledged,
         })
+    }
+
+    /// The pending writes of a primary that every other member has, of its operations and the latest one.
+    fn acknowledged(
+        &self,
+        alloc: Global,
+        lead: &Lead,
+        latest: Option<&Op>,
+    ) -> Result<Operations, AllocError>
+        ensures { IfOk result (λ a. a ≡ filter_map (op_among (operations self.now) (option_copied latest.entry)) (filter (is_settled_by self.now.id lead.now) lead.now.pending)) }
+    {
+        let settled = lead.settled(alloc, self.id)?;
+        self.settled_ops(alloc, &settled, latest)
     }
 
     /// The operations at these numbers, with the latest one.

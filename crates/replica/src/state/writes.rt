@@ -28,11 +28,15 @@ impl State {
         ensures no_log { IfErr result (λ e. is_log e ≡ false) }
     {
         let Role::Primary(lead) = &self.role else {
+            drop(write);
             return Err(CopyFault::NotPrimary);
         };
         let last = self.engine.last(&write.id);
         let seq = self.next_seq();
-        check(self.known, seq, last, &write.kind)?;
+        if let Err(refusal) = check(self.known, seq, last, &write.kind) {
+            drop(write);
+            return Err(refusal);
+        }
         let outcome = writing::outcome(writing::is_live(last), &write.kind);
         let op = Op {
             seq,

@@ -1,11 +1,8 @@
-use Rattle.std.proofs.lemmas.Result.{err_from_is_err_and}
 use Rattle.replica.proofs.LogLaws.{left_of, unread}
 use Rattle.replica.proofs.copy.opened.Goals as goal
 
-pub returns-in_err-records-clause-unread : goal.returns-in_err-records-clause-unread
-returns-in_err-records-clause-unread g c =
-    let p = err_from_is_err_and c.from_residual.result c.from_residual.ensures.1 in
-    rw (p.1, p.2) (unread _ c.in_err-records.field-0.0 c.in_err-records.ensures.found)
+pub returns-in-Err-clause-unread : goal.returns-in-Err-clause-unread
+returns-in-Err-clause-unread g c = rw c.from-in-Err.ensures (unread _ c.in-Err.fault c.in-Err.ensures.found)
 
-pub returns-clause-left : goal.returns-clause-left
-returns-clause-left g c = left_of _ _ _ _ c.in_ok-records.torn c.in_ok-records.ensures.held c.in_ok-records.ensures.torn c.in_ok-mend.ensures.ok
+pub returns-in-Ok-mend-clause-left : goal.returns-in-Ok-mend-clause-left
+returns-in-Ok-mend-clause-left g c = left_of _ _ _ _ c.in-Ok.torn c.in-Ok.ensures.held c.in-Ok.ensures.torn c.in-Ok-mend.ensures.ok

@@ -10,7 +10,7 @@ invariant_of-self g c opened =
     let s = c.args.self.now in
     let ready = c.requires.ready in
     let logged : IsLogged s = subst (λ (l : Logged). IsLogged l) c.self.view_is c.self.invariant in
-    let log : g.D.LogDevice.bytes c.append.new.self ≡ s.log ++ c.args.frame = c.in-Ok.ensures.ok ∙ ap (λ (l : Logged). l.log ++ c.args.frame) c.self.view_is in
+    let log : g.D.LogDevice.bytes c.append.new.self ≡ s.log ++ c.args.frame = c.in-Ok-append.ensures.ok ∙ ap (λ (l : Logged). l.log ++ c.args.frame) c.self.view_is in
     let records : c.reopen.new.self.records ≡ s.copy.records ++ c.args.planned.next_record ∷ [] =
-    ap (λ (x : Copy). x.records) (c.reopen.ensures ∙ c.in_ok-reopened.ensures.opened) ∙ c.in_ok-push.ensures.items ∙ ap (λ (rs : List Record). rs ++ c.args.planned.next_record ∷ []) c.requires.records in
+    ap (λ (x : Copy). x.records) (c.reopen.ensures ∙ c.in-Ok.ensures.opened) ∙ c.in_default.ensures.items ∙ ap (λ (rs : List Record). rs ++ c.args.planned.next_record ∷ []) c.requires.records in
     rw (log, records) (grown s c.args.planned.next_record c.args.frame logged ready.0 ready.2 ready.3)
