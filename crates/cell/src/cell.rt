@@ -10,7 +10,7 @@ ghost use Rattle.node.specs.Stands.{LastStands};
 
 use audit::Journal;
 use node::{Held, NodeFault, Pass, Receipt};
-use published::{Publisher, Searcher, Showing, Unnamed};
+use published::{Publisher, Searcher, Showing, ShownRecords, Unnamed};
 use replica::{Copy, Input};
 use std::alloc::{AllocError, Global};
 use std::marker::Model;
@@ -43,9 +43,12 @@ fn showing_of<D: LogDevice>(copy: &Copy<D>) -> Result<Option<Showing>, AllocErro
     let Some(snapshot) = copy.snapshot() else {
         return Ok(None);
     };
+    let Some(listed) = ShownRecords::of(copy.listed()) else {
+        return Err(AllocError);
+    };
     Ok(Some(Showing {
         snapshot: Arc::try_clone(snapshot)?,
-        listed: copy.listed(),
+        listed,
     }))
 }
 

@@ -11,9 +11,11 @@ pub mod publisher;
 pub mod rule;
 pub mod searcher;
 pub mod showing;
+pub mod shown_records;
 
 pub use name::{Name, Unnamed};
 pub use note::Note;
 pub use publisher::Publisher;
 pub use searcher::{SearchFault, Searcher};
 pub use showing::Showing;
+pub use shown_records::ShownRecords;
