@@ -42,20 +42,33 @@ fn sign_of_answer(answer: &Answer, acknowledged: usize) -> &'static str {
     }
 }
 
-/// The signs of three writes and three restarts, or `!` alone where the copy can't begin.
-fn played(alloc: Global, bad: (usize, usize), front: usize) -> Result<String, Fail> {
-    let mapping = Mapping::from_value(alloc, &Value::from_str(alloc, "{}")?)?;
+/// The signs of three writes and three restarts of a copy.
+fn play(alloc: Global, copy: &mut Copy<Faulty>) -> Result<String, Fail> {
     let mut signs = String::new(alloc);
-    match Copy::begin(alloc, 1, 1, mapping, Faulty::new(alloc, bad, front)) {
-        Ok(mut copy) => {
-            for is_restart in [false, false, false, true, true, true] {
-                let stepped = copy.step(alloc, input(alloc, is_restart)?);
-                signs.push_str(sign_of(&stepped))?;
-            }
-        }
-        Err(refused) => signs.push_str(sign_of(&Err(refused.into_fault())))?,
+    for is_restart in [false, false, false, true, true, true] {
+        let input = input(alloc, is_restart)?;
+        let stepped = copy.step(alloc, input);
+        let sign = sign_of(&stepped);
+        drop(stepped);
+        signs.push_str(sign)?;
     }
     Ok(signs)
+}
+
+/// The same of a new copy, or the sign of its beginning where it can't begin.
+fn played(alloc: Global, bad: (usize, usize), front: usize) -> Result<String, Fail> {
+    let mapping = Mapping::from_value(alloc, &Value::from_str(alloc, "{}")?)?;
+    match Copy::begin(alloc, 1, 1, mapping, Faulty::new(alloc, bad, front)) {
+        Ok(mut copy) => {
+            let signs = play(alloc, &mut copy);
+            drop(copy);
+            signs
+        }
+        Err(refused) => {
+            let sign = sign_of(&Err(refused.into_fault()));
+            Ok(String::from_str(alloc, sign)?)
+        }
+    }
 }
 
 // A beginning reads, cuts and appends the header (calls 1 to 3), each write appends (4 to 6), and a restart reads and cuts what is torn. Which calls

@@ -1,6 +1,7 @@
 //! Tests of `master`.
 
 use master::{Master, Request, State};
+use std::alloc::Global;
 use std::test::Fail;
 use translog::{LogFault, MemDevice};
 
@@ -19,10 +20,9 @@ fn is_left(state: &State) -> bool {
         && state.gone.as_slice() == [1, 3].as_slice()
 }
 
-#[test]
-fn decisions_are_found_again(rt: HostRuntime) -> Result<(), Fail> {
-    let alloc = rt.alloc();
-    let mut master = Master::begin(alloc, 3, MemDevice::new(Vec::new(alloc)))?;
+/// Whether each of some requests is decided anew, or repeated, as it says.
+fn are_decided(alloc: Global, master: &mut Master<MemDevice>) -> Result<bool, Fail> {
+    let mut are_right = true;
     for (request, is_new) in [
         (Request::Synced(1, 2), false),
         (Request::Fail(1, 3), true),
@@ -31,15 +31,38 @@ fn decisions_are_found_again(rt: HostRuntime) -> Result<(), Fail> {
         (Request::Synced(2, 4), true),
     ] {
         let decision = master.step(alloc, request)?;
-        assert_eq!(rt; !decision.repeated, is_new);
+        are_right = are_right && decision.repeated != is_new;
     }
-    let left = is_left(master.state());
+    Ok(are_right)
+}
+
+/// Whether a master's decisions are found again in its log.
+fn are_found(alloc: Global, master: Master<MemDevice>) -> Result<bool, Fail> {
+    let is_left_here = is_left(master.state());
     let device = master.close();
-    assert!(rt; left);
-    assert_eq!(rt; device.bytes(), LOG.as_slice());
+    let is_logged = device.bytes() == LOG.as_slice();
     let opened = Master::open(alloc, device)?;
-    let found = is_left(opened.state());
-    assert!(rt; found);
+    Ok(is_left_here && is_logged && is_left(opened.state()))
+}
+
+/// Whether some requests are decided, and found again in the log.
+fn are_kept(alloc: Global, master: Master<MemDevice>) -> Result<bool, Fail> {
+    let mut master = master;
+    match are_decided(alloc, &mut master) {
+        Ok(true) => are_found(alloc, master),
+        other => {
+            drop(master);
+            other
+        }
+    }
+}
+
+#[test]
+fn decisions_are_found_again(rt: HostRuntime) -> Result<(), Fail> {
+    let alloc = rt.alloc();
+    let master = Master::begin(alloc, 3, MemDevice::new(Vec::new(alloc)))?;
+    let are_kept = are_kept(alloc, master)?;
+    assert!(rt; are_kept);
     Ok(())
 }
 

@@ -2,10 +2,10 @@
 
 use crate::records::{delete_of, index};
 use doc::Mapping;
-use engine::Engine;
+use engine::{Engine, Merged};
 use query::SearchBody;
 use serde_json::Value;
-use std::alloc::Global;
+use std::alloc::{AllocError, Global};
 use std::test::Fail;
 
 /// Writes a document at the id `dN`, N being its number.
@@ -63,58 +63,98 @@ fn is_merged(alloc: Global, engine: &mut Engine) -> Result<bool, Fail> {
     Ok(engine.swap_merged(alloc, merged)?)
 }
 
+/// Puts a merge in place that was begun before a change, and tells whether it is.
+fn swap(
+    alloc: Global,
+    engine: &mut Engine,
+    merged: Merged,
+    changed: Result<(), Fail>,
+) -> Result<bool, Fail> {
+    let swapped = engine.swap_merged(alloc, merged);
+    changed?;
+    Ok(swapped?)
+}
+
 /// Whether a merge is put in place beside a delete.
 fn is_merged_beside_a_delete(alloc: Global, engine: &mut Engine) -> Result<bool, Fail> {
     let merged = engine.begin_merge()?.build(alloc)?;
-    delete(alloc, engine, 62, "d11")?;
-    Ok(engine.swap_merged(alloc, merged)?)
+    let deleted = delete(alloc, engine, 62, "d11");
+    swap(alloc, engine, merged, deleted)
+}
+
+/// A merge beside a delete, which is put in place.
+fn merge_beside_a_delete(alloc: Global, engine: &mut Engine) -> Result<(), Fail> {
+    if is_merged_beside_a_delete(alloc, engine)? {
+        Ok(())
+    } else {
+        Err(AllocError)?
+    }
 }
 
 /// Whether a merge is put in place that was begun before another.
 fn is_merged_twice(alloc: Global, engine: &mut Engine) -> Result<bool, Fail> {
     let late = engine.begin_merge()?.build(alloc)?;
-    if !is_merged_beside_a_delete(alloc, engine)? {
-        return Ok(true);
-    }
-    Ok(engine.swap_merged(alloc, late)?)
+    let first = merge_beside_a_delete(alloc, engine);
+    swap(alloc, engine, late, first)
+}
+
+/// Opens an engine again with one document.
+fn reopen(alloc: Global, engine: &mut Engine) -> Result<(), Fail> {
+    let record = index(alloc, 10, "d10")?;
+    engine.reopen(alloc, vec![in alloc; record]?)?;
+    Ok(())
 }
 
 /// Whether a merge is put in place that was begun before a restart.
 fn is_merged_over_a_restart(alloc: Global, engine: &mut Engine) -> Result<bool, Fail> {
     let merged = engine.begin_merge()?.build(alloc)?;
-    let record = index(alloc, 10, "d10")?;
-    engine.reopen(alloc, vec![in alloc; record]?)?;
-    Ok(engine.swap_merged(alloc, merged)?)
+    let reopened = reopen(alloc, engine);
+    swap(alloc, engine, merged, reopened)
+}
+
+/// Whether a merge is refused that was begun before another, and the other shows all documents but the deleted one.
+fn is_put_in_place_once(alloc: Global, engine: &mut Engine) -> Result<bool, Fail> {
+    write_two_parts(alloc, engine)?;
+    Ok(!is_merged_twice(alloc, engine)? && finds(alloc, engine, 51, 1, "d12")?)
 }
 
 #[test]
 fn a_merge_is_put_in_place_once(rt: HostRuntime) -> Result<(), Fail> {
     let alloc = rt.alloc();
     let mut engine = empty(alloc)?;
-    write_two_parts(alloc, &mut engine)?;
-    let again = is_merged_twice(alloc, &mut engine)?;
-    assert!(rt; !again);
-    assert!(rt; finds(alloc, &engine, 51, 1, "d12")?);
+    let is_so = is_put_in_place_once(alloc, &mut engine);
+    drop(engine);
+    assert!(rt; is_so?);
     Ok(())
+}
+
+fn are_left_out(alloc: Global, engine: &mut Engine) -> Result<bool, Fail> {
+    write_two_parts(alloc, engine)?;
+    delete(alloc, engine, 62, "d60")?;
+    Ok(is_merged(alloc, engine)? && finds(alloc, engine, 51, 50, "d61")?)
 }
 
 #[test]
 fn documents_that_are_not_live_are_left_out_of_a_merge(rt: HostRuntime) -> Result<(), Fail> {
     let alloc = rt.alloc();
     let mut engine = empty(alloc)?;
-    write_two_parts(alloc, &mut engine)?;
-    delete(alloc, &mut engine, 62, "d60")?;
-    assert!(rt; is_merged(alloc, &mut engine)?);
-    assert!(rt; finds(alloc, &engine, 51, 50, "d61")?);
+    let is_so = are_left_out(alloc, &mut engine);
+    drop(engine);
+    assert!(rt; is_so?);
     Ok(())
+}
+
+fn is_refused(alloc: Global, engine: &mut Engine) -> Result<bool, Fail> {
+    write_two_parts(alloc, engine)?;
+    Ok(!is_merged_over_a_restart(alloc, engine)? && finds(alloc, engine, 1, 0, "d10")?)
 }
 
 #[test]
 fn a_merge_of_what_a_restart_left_is_refused(rt: HostRuntime) -> Result<(), Fail> {
     let alloc = rt.alloc();
     let mut engine = empty(alloc)?;
-    write_two_parts(alloc, &mut engine)?;
-    assert!(rt; !is_merged_over_a_restart(alloc, &mut engine)?);
-    assert!(rt; finds(alloc, &engine, 1, 0, "d10")?);
+    let is_so = is_refused(alloc, &mut engine);
+    drop(engine);
+    assert!(rt; is_so?);
     Ok(())
 }

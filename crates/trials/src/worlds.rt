@@ -11,6 +11,8 @@ fn events_are_run_in_turn(rt: HostRuntime) -> Result<(), Fail> {
     let mapping = Mapping::from_value(alloc, &Value::from_str(alloc, "{}")?)?;
     let events = [Event::Promote(2), Event::Deliver(1)];
     let world = run(alloc, &mapping, 3, &events)?;
-    assert_eq!(rt; world.messages().len(), 2);
+    let messages = world.messages().len();
+    drop(world);
+    assert_eq!(rt; messages, 2);
     Ok(())
 }
