@@ -1,7 +1,36 @@
 -- Journals that are handed out.
+use Rattle.std.specs.Prelude.{◌≡◌, ℕ, List, [], ◌∷◌, Some, Any}
 use Rattle.audit.specs.declared.journal.Journal.{Journal}
+use Rattle.audit.specs.declared.journal.Journal.TheVariants.{OfMaster, OfCopy}
 use Rattle.audit.specs.Audit.{IsLawful}
+use Rattle.node.specs.declared.pass.Receipt.{Receipt}
+use Rattle.node.specs.Gathered.{deed_at, AreGathered, IsWhole}
 
 -- each entry of the journal is legal
 pub record IsLegalJournal (j : Journal) : Type 0 where
   pub lawful : IsLawful j
+
+-- whose calls the journal has: the master's, which is node 0, or a copy's
+abbrev pub node_of : Journal → ℕ
+node_of (OfMaster state rulings) = 0
+node_of (OfCopy opening deeds) = opening.id
+
+-- the journals of the copies, which stand behind the master's
+abbrev pub copies_in : List Journal → List Journal
+copies_in [] = []
+copies_in (j ∷ js) = js
+
+-- the receipts of one caller are the entries of the journal: each stands at its place, no two at one, and no entry is without
+pub record IsOfOneCaller (j : Journal) : Type 0 where
+  pub receipts : List Receipt
+  pub stand : AreGathered j receipts
+  pub whole : IsWhole j receipts
+
+-- the receipt stands in the journal of its node
+pub record HasReceipt (r : Receipt) (j : Journal) : Type 0 where
+  pub node : node_of j ≡ r.node
+  pub stands : deed_at j r.place ≡ Some r.deed
+
+-- the receipt stands in one of the journals
+pub record StandsIn (js : List Journal) (r : Receipt) : Type 0 where
+  pub one : Any (HasReceipt r) js

@@ -1,7 +1,7 @@
 //! Starting the threads of a cluster, and ending them.
 ghost use Rattle.std.specs.Prelude.{◌≡◌, ◌+◌, ◌≤◌, false, vec_len, All, IsOk, IfOk, OnOk};
 ghost use Rattle.master.specs.declared.state.Request.TheVariants.{Allocate};
-ghost use Rattle.cluster.specs.Journals.{IsLegalJournal};
+ghost use Rattle.cluster.specs.Journals.{copies_in, IsLegalJournal, IsOfOneCaller, StandsIn};
 ghost use Rattle.cluster.specs.Ruled.{IsDecided};
 
 use crate::bench::{Bench, started};
@@ -10,7 +10,7 @@ use crate::client::Client;
 use crate::devices::Devices;
 use crate::fault::{ClusterFault, OpenFault, Unopened, of_master_log};
 use crate::gate::Gate;
-use crate::left::Left;
+use crate::left::{Left, stray_in};
 use crate::opening::{beginning, birth_of, joining_copy, kept_copy, leader_of, new_copy};
 use crate::post::{Post, Route};
 use crate::ruled::Ruled;
@@ -20,7 +20,7 @@ use audit::Journal;
 use crossbeam_channel::{Receiver, unbounded};
 use doc::Mapping;
 use master::{Decision, Master, MasterFault, Request};
-use node::{Held, Pass};
+use node::{Held, Pass, Receipt};
 use op::CopyIds;
 use replica::{Birth, CopyFault};
 use std::alloc::{AllocError, Global};
@@ -187,7 +187,7 @@ impl<D: LogDevice + Send + 'static, V: Devices<D>, G: Gate + Send + Sync + 'stat
 
     /// Ends a cluster whose journals nobody wants.
     fn let_go<R: Threads + Wait>(self, rt: &R) {
-        drop(self.close(rt));
+        drop(self.close(rt, &[]));
     }
 
     fn launch_all<R: Threads + Wait + Copy + Send + Drop + 'static>(
@@ -212,6 +212,7 @@ impl<D: LogDevice + Send + 'static, V: Devices<D>, G: Gate + Send + Sync + 'stat
         let alloc = self.client.alloc;
         let state = self.client.state(rt)?;
         let mut opened = CopyIds::none(alloc);
+        self.devices.will_open(&state.in_sync);
         for id in state.in_sync.as_slice() {
             if self.open_one(rt, *id, birth_of(*id, count))? {
                 opened = opened.with(alloc, *id)?;
@@ -363,10 +364,18 @@ impl<D: LogDevice + Send + 'static, V: Devices<D>, G: Gate + Send + Sync + 'stat
         Ok(())
     }
 
-    /// Ends all threads, and hands out the journals, which are legal: the master's first, then those of the copies in the order of their ids.
-    pub fn close<R: Threads + Wait>(self, rt: &R) -> Result<Vec<Journal>, ClusterFault>
+    /// Ends all threads, and hands out the journals, which are legal: the master's first, then those of the copies in the order of their ids. Each
+    /// entry of a copy has its receipt in the pass of the copy's worker, and the receipts that callers kept and hand in stand there too, else
+    /// `Stray` names the place of the first that doesn't.
+    pub fn close<R: Threads + Wait>(
+        self,
+        rt: &R,
+        receipts: &[Receipt],
+    ) -> Result<Vec<Journal>, ClusterFault>
         ensures legal { IfOk result (λ js. All IsLegalJournal js.items) }
         ensures all { IfOk result (λ js. vec_len js ≡ vec_len self.threads + 1) }
+        ensures gathered { IfOk result (λ js. All IsOfOneCaller (copies_in js.items)) }
+        ensures receipts { IfOk result (λ js. All (StandsIn (copies_in js.items)) receipts.now) }
     {
         let Cluster {
             client,
@@ -376,6 +385,11 @@ impl<D: LogDevice + Send + 'static, V: Devices<D>, G: Gate + Send + Sync + 'stat
         let Client { alloc, shared } = client;
         stop(rt, &*shared);
         let lefts = joined(rt, alloc, threads)?;
+        if let Some(place) = stray_in(&lefts, receipts) {
+            drop(lefts);
+            drop(shared);
+            return Err(ClusterFault::Stray(place));
+        }
         match Arc::into_inner(shared) {
             Some(shared) => journals(alloc, shared.master.into_inner(), lefts),
             None => Err(ClusterFault::Running),
@@ -412,6 +426,7 @@ fn journals<D: LogDevice>(
 ) -> Result<Vec<Journal>, ClusterFault>
     ensures legal { IfOk result (λ js. All IsLegalJournal js.items) }
     ensures all { IfOk result (λ js. vec_len js ≡ vec_len lefts + 1) }
+    ensures copies { IfOk result (λ js. copies_in js.items ≡ lefts.items) }
 {
     let mut journals = Vec::new(alloc);
     journals.push(journal_of(master))?;

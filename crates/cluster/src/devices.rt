@@ -1,5 +1,6 @@
 //! What logs are kept on.
 
+use op::CopyIds;
 use std::alloc::{AllocError, Global};
 use std::fs::{File, OpenFile, OpenOptions};
 use std::io::ErrorKind;
@@ -19,6 +20,9 @@ pub trait Devices<D: LogDevice>: Drop {
             Err(fault) => Err(fault),
         }
     }
+
+    /// Is told which copies are to be opened, before the first of them is.
+    fn will_open(&mut self, _copies: &CopyIds) {}
 }
 
 /// Gives devices in memory, which end with their cluster.

@@ -1,46 +1,127 @@
 //! What a worker leaves.
-ghost use Rattle.std.specs.Prelude.{◌≡◌};
-ghost use Rattle.cluster.specs.Journals.{IsLegalJournal};
+ghost use Rattle.std.specs.Prelude.{◌≡◌, All, IfNone, IsTrue};
+ghost use Rattle.cluster.specs.Journals.{HasReceipt, IsLegalJournal, IsOfOneCaller, StandsIn};
 
 use audit::Journal;
-use node::{Held, Pass};
+use node::{Held, Pass, Receipt, gathered, stands_in};
 use std::marker::Model;
 use translog::LogDevice;
 
 /// The journal of a worker's copy, which is legal, and the worker's pass.
 #[derive(Drop)]
 pub(crate) struct Left {
+    node: u32,
     journal: Journal,
-    pass: Pass,
+    passes: [Pass; 1],
 }
 
 impl Model for Left {
+    ghost use Rattle.std.specs.Prelude.{◌≡◌};
     ghost use Rattle.audit.specs.Audit.{IsLawful};
     ghost use Rattle.audit.specs.declared.journal.Journal.{Journal as JournalData};
+    ghost use Rattle.cluster.specs.Journals.{node_of};
 
     ghost Value = { JournalData };
 
     ghost view = { λ l. l.journal };
 
-    ghost invariant = { λ l. IsLawful l.journal };
+    ghost invariant = { λ l. (l.node ≡ node_of l.journal) × IsLawful l.journal };
 }
 
 impl Left {
     pub(crate) fn of<D: LogDevice>(held: Held<D>, pass: Pass) -> Left {
         Left {
+            node: held.node(),
             journal: held.into_journal(),
-            pass,
+            passes: [pass],
         }
+    }
+
+    /// The place of the worker's first receipt that doesn't stand in the journal, or of the first entry that isn't the worker's.
+    fn stray(&self) -> Option<u64>
+        ensures { IfNone result (IsOfOneCaller self.now) }
+    {
+        match gathered(&self.journal, &self.passes) {
+            Ok(true) => None,
+            Ok(false) => Some(first_unseen(self.passes[0].receipts())),
+            Err(stray) => Some(stray.place),
+        }
+    }
+
+    /// Whether a receipt stands in the journal, and is of its copy.
+    fn has(&self, receipt: &Receipt) -> bool
+        ensures { IsTrue result → HasReceipt receipt.now self.now }
+    {
+        self.node == receipt.node && stands_in(&self.journal, receipt)
     }
 
     /// The journal.
     pub(crate) fn into_journal(self) -> Journal
-        ensures { IsLegalJournal result }
+        ensures same { result ≡ self }
+        ensures legal { IsLegalJournal result }
     {
         let Left {
+            node: _,
             journal,
-            pass: _pass,
+            passes: _passes,
         } = self;
         journal
     }
+}
+
+/// The place of the first entry that has no receipt, where the receipts of all before it come in order.
+fn first_unseen(receipts: &[Receipt]) -> u64 {
+    let mut place = 0;
+    for receipt in receipts {
+        if receipt.place != place {
+            return place;
+        }
+        place = place.saturating_add(1);
+    }
+    place
+}
+
+/// The place of the first receipt that stands in no journal: of those that workers kept, and then of some others.
+pub(crate) fn stray_in(lefts: &[Left], receipts: &[Receipt]) -> Option<u64>
+    ensures workers { IfNone result (All IsOfOneCaller lefts.now) }
+    ensures others { IfNone result (All (StandsIn lefts.now) receipts.now) }
+{
+    match stray_of_workers(lefts) {
+        Some(place) => Some(place),
+        None => stray_among(lefts, receipts),
+    }
+}
+
+fn stray_of_workers(lefts: &[Left]) -> Option<u64>
+    ensures { IfNone result (All IsOfOneCaller lefts.now) }
+{
+    for left in lefts {
+        if let Some(place) = left.stray() {
+            return Some(place);
+        }
+    }
+    None
+}
+
+fn stray_among(lefts: &[Left], receipts: &[Receipt]) -> Option<u64>
+    ensures { IfNone result (All (StandsIn lefts.now) receipts.now) }
+{
+    for receipt in receipts {
+        if let Some(place) = stray_at(lefts, receipt) {
+            return Some(place);
+        }
+    }
+    None
+}
+
+/// The place of a receipt that stands in none of the journals.
+fn stray_at(lefts: &[Left], receipt: &Receipt) -> Option<u64>
+    ensures { IfNone result (StandsIn lefts.now receipt.now) }
+{
+    for left in lefts {
+        if left.has(receipt) {
+            return None;
+        }
+    }
+    Some(receipt.place)
 }

@@ -1,6 +1,7 @@
 //! What is shown while the logs of a folder open.
 
 use cluster::{Devices, InFolder};
+use op::CopyIds;
 use std::alloc::{AllocError, Global};
 use std::fs::{File, OpenFile};
 use std::io::Write;
@@ -18,51 +19,108 @@ const LARGE: u64 = 16_000_000;
 /// How many bytes a megabyte has.
 const MEGABYTE: u64 = 1_000_000;
 
-/// How many copies may have a log that is opened.
-const MOST_COPIES: u32 = 5;
-
-/// The wait between two lines, in milliseconds.
-const TICK: u64 = 100;
+/// The wait between two looks, in milliseconds.
+const TICK: u64 = 20;
 
 /// How many ticks a second has.
 const TICKS_A_SECOND: u64 = 1_000 / TICK;
 
-/// A line on standard error that says how much is being opened and for how long, and that goes again.
+/// How far an opening is: how many bytes the logs have, how many of them are those of copies that are open, how large the log is that is being
+/// opened, how many copies are open or being opened, and how many are to be.
+#[derive(Drop)]
+pub(crate) struct Progress {
+    bytes: AtomicU64,
+    done: AtomicU64,
+    current: AtomicU64,
+    begun: AtomicU64,
+    copies: AtomicU64,
+}
+
+impl Progress {
+    /// That of a log of so many bytes; with 0 nothing is known yet.
+    fn of(bytes: u64) -> Progress {
+        Progress {
+            bytes: AtomicU64::new(bytes),
+            done: AtomicU64::new(0),
+            current: AtomicU64::new(0),
+            begun: AtomicU64::new(0),
+            copies: AtomicU64::new(0),
+        }
+    }
+
+    /// So many copies are to be opened, whose logs have so many bytes.
+    fn expect(&self, copies: u64, bytes: u64) {
+        self.copies.store(copies, Ordering::SeqCst);
+        self.bytes.store(bytes, Ordering::SeqCst);
+    }
+
+    /// The copies before it are open, and a log of so many bytes comes next.
+    fn go_on(&self, bytes: u64) {
+        let before = self.current.swap(bytes, Ordering::SeqCst);
+        self.done.fetch_add(before, Ordering::SeqCst);
+        self.begun.fetch_add(1, Ordering::SeqCst);
+    }
+
+    fn is_large(&self) -> bool {
+        self.bytes.load(Ordering::SeqCst) >= LARGE
+    }
+
+    fn begun(&self) -> u64 {
+        self.begun.load(Ordering::SeqCst)
+    }
+
+    fn write<E: Write>(&self, seconds: u64, errors: &mut E) {
+        let megabytes = self.bytes.load(Ordering::SeqCst) / MEGABYTE;
+        let _ = write!(errors, "\r\x1b[Kindexd: opening {megabytes} MB of logs");
+        let begun = self.begun();
+        if begun > 0 {
+            let done = self.done.load(Ordering::SeqCst) / MEGABYTE;
+            let copies = self.copies.load(Ordering::SeqCst);
+            let _ = write!(errors, ", {done} MB done, copy {begun} of {copies}");
+        }
+        let _ = write!(errors, ", {seconds} s");
+        let _ = errors.flush();
+    }
+}
+
+/// A line on standard error that says how much is being opened, how much of it is done and for how long it takes by now, and that goes again.
 #[derive(Drop)]
 pub(crate) struct OpeningLine {
-    /// How many bytes the logs have; 0 where nothing is to be shown.
-    bytes: u64,
-    /// How many copies are open or being opened; 0 where they aren't counted.
-    begun: Arc<AtomicU64, Global>,
+    is_wanted: bool,
+    progress: Arc<Progress, Global>,
     is_over: AtomicBool,
 }
 
 impl OpeningLine {
-    /// The line of a folder; it is shown where it is wanted, and the logs are large.
-    pub(crate) fn new<R: Files>(
+    /// The line of a folder with one copy.
+    pub(crate) fn of_one<R: Files>(
         rt: &R,
         alloc: Global,
         folder: &str,
         is_wanted: bool,
     ) -> Result<OpeningLine, AllocError> {
-        let bytes = if is_wanted {
-            size_of(rt, alloc, folder)
-        } else {
-            0
-        };
+        OpeningLine::over(alloc, is_wanted, size_of(rt, alloc, folder, 1))
+    }
+
+    /// The line of copies that are counted.
+    pub(crate) fn of_several(alloc: Global, is_wanted: bool) -> Result<OpeningLine, AllocError> {
+        OpeningLine::over(alloc, is_wanted, 0)
+    }
+
+    fn over(alloc: Global, is_wanted: bool, bytes: u64) -> Result<OpeningLine, AllocError> {
         Ok(OpeningLine {
-            bytes: if bytes >= LARGE { bytes } else { 0 },
-            begun: Arc::new(alloc, AtomicU64::new(0))?,
+            is_wanted,
+            progress: Arc::new(alloc, Progress::of(bytes))?,
             is_over: AtomicBool::new(false),
         })
     }
 
     /// What the copies are counted by.
-    pub(crate) fn begun(&self) -> Result<Arc<AtomicU64, Global>, AllocError> {
-        Arc::try_clone(&self.begun)
+    pub(crate) fn progress(&self) -> Result<Arc<Progress, Global>, AllocError> {
+        Arc::try_clone(&self.progress)
     }
 
-    /// Does a task, and shows the line meanwhile. Where no thread can be had for the line it isn't shown.
+    /// Does a task, and shows the line meanwhile where it is wanted and the logs are large. Where no thread can be had for the line it isn't shown.
     pub(crate) fn shown_while<R, E, T, F>(&self, rt: &R, errors: &mut E, task: F) -> T
     where
         R: Threads + Clock + Sync,
@@ -71,7 +129,7 @@ impl OpeningLine {
         requires { F.pre task }
         ensures { F.post task result }
     {
-        if self.bytes == 0 {
+        if !self.is_wanted {
             return task();
         }
         let done = || -> T
@@ -85,37 +143,53 @@ impl OpeningLine {
         thread::join(rt, || self.tell(rt, errors), done).1
     }
 
-    /// Writes the line each second until all is open, and then takes it away.
+    /// Writes the line each second, and when a copy is open, until all are, and then takes it away.
     fn tell<C: Clock, E: Write>(&self, clock: &C, errors: &mut E) {
+        let mut shown = None;
         for tick in 0..u64::MAX {
-            if tick % TICKS_A_SECOND == 0 {
-                self.write(tick / TICKS_A_SECOND, errors);
+            let is_over = self.is_over.load(Ordering::SeqCst);
+            let next = Some((tick / TICKS_A_SECOND, self.progress.begun()));
+            if self.progress.is_large() && shown != next {
+                self.progress.write(tick / TICKS_A_SECOND, errors);
+                shown = next;
             }
-            if self.is_over.load(Ordering::SeqCst) {
+            if is_over {
                 break;
             }
             thread::sleep(clock, Duration::from_millis(TICK));
         }
-        let _ = write!(errors, "\r\x1b[K");
-    }
-
-    fn write<E: Write>(&self, seconds: u64, errors: &mut E) {
-        let megabytes = self.bytes / MEGABYTE;
-        let _ = write!(errors, "\r\x1b[Kindexd: opening {megabytes} MB of logs");
-        let begun = self.begun.load(Ordering::SeqCst);
-        if begun > 0 {
-            let _ = write!(errors, ", copy {begun}");
+        if shown.is_some() {
+            let _ = write!(errors, "\r\x1b[K");
         }
-        let _ = write!(errors, ", {seconds} s");
-        let _ = errors.flush();
     }
 }
 
 /// The files of a folder; the copies whose log is asked for are counted.
 #[derive(Drop)]
 pub(crate) struct Counted<R> {
-    pub(crate) files: InFolder<R>,
-    pub(crate) begun: Arc<AtomicU64, Global>,
+    rt: R,
+    alloc: Global,
+    folder: String,
+    files: InFolder<R>,
+    progress: Arc<Progress, Global>,
+}
+
+impl<R: Files<File = File> + AllocGlobal + Copy + Drop> Counted<R> {
+    /// The files of a folder, as a line is to tell of them.
+    pub(crate) fn new(
+        rt: R,
+        alloc: Global,
+        folder: &str,
+        line: &OpeningLine,
+    ) -> Result<Counted<R>, AllocError> {
+        Ok(Counted {
+            rt,
+            alloc,
+            folder: String::from_str(alloc, folder)?,
+            files: InFolder::new(rt, String::from_str(alloc, folder)?),
+            progress: line.progress()?,
+        })
+    }
 }
 
 impl<R: Files<File = File> + AllocGlobal + Drop> Devices<FileDevice<File>> for Counted<R> {
@@ -125,21 +199,29 @@ impl<R: Files<File = File> + AllocGlobal + Drop> Devices<FileDevice<File>> for C
 
     fn kept(&mut self, node: u32) -> Result<Option<FileDevice<File>>, LogFault> {
         if node > 0 {
-            self.begun.fetch_add(1, Ordering::SeqCst);
+            let bytes = size_of(&self.rt, self.alloc, self.folder.as_str(), node);
+            self.progress.go_on(bytes);
         }
         self.files.kept(node)
     }
+
+    fn will_open(&mut self, copies: &CopyIds) {
+        let mut bytes: u64 = 0;
+        for copy in copies.as_slice() {
+            let more = size_of(&self.rt, self.alloc, self.folder.as_str(), *copy);
+            bytes = bytes.saturating_add(more);
+        }
+        self.progress.expect(copies.as_slice().len() as u64, bytes);
+    }
 }
 
-/// How many bytes the logs of the copies have.
-fn size_of<R: Files>(rt: &R, alloc: Global, folder: &str) -> u64 {
-    let mut bytes: u64 = 0;
-    for copy in 1..=MOST_COPIES {
-        if let Ok(path) = format!(in alloc; "{folder}/copy-{copy}.rsx") {
-            if let Ok(found) = fs::metadata(rt, path.as_str()) {
-                bytes = bytes.saturating_add(found.len());
-            }
-        }
+/// How many bytes the log of a copy has; 0 where that can't be learned.
+fn size_of<R: Files>(rt: &R, alloc: Global, folder: &str, copy: u32) -> u64 {
+    match format!(in alloc; "{folder}/copy-{copy}.rsx") {
+        Ok(path) => match fs::metadata(rt, path.as_str()) {
+            Ok(found) => found.len(),
+            Err(_) => 0,
+        },
+        Err(_) => 0,
     }
-    bytes
 }

@@ -8,7 +8,7 @@ use crate::journal_folder::{KeepFault, keep_journals};
 use crate::opening::{Counted, OpeningLine};
 use crate::verdict;
 use crate::verdict::VerdictFault;
-use cluster::{Cluster, ClusterFault, Devices, InFolder, InMemory, Open, Unopened};
+use cluster::{Cluster, ClusterFault, Devices, InMemory, Open, Unopened};
 use doc::{DocFault, Mapping};
 use front::Service;
 use serde_json::Value;
@@ -186,7 +186,7 @@ where
     };
     if settings.copies == 1 {
         let name = String::from_str(alloc, settings.index)?;
-        let line = OpeningLine::new(rt, alloc, folder, settings.at_terminal)?;
+        let line = OpeningLine::of_one(rt, alloc, folder, settings.at_terminal)?;
         let opened = line.shown_while(
             rt,
             errors,
@@ -326,7 +326,7 @@ where
         client: cluster.client(),
     };
     let ended = listen_to_group(rt, settings, &index, output);
-    let journals = cluster.close(rt)?;
+    let journals = cluster.close(rt, &[])?;
     ended?;
     if let Some(folder) = settings.journals {
         keep_journals(rt, folder, mapping, &journals)?;
@@ -375,11 +375,8 @@ where
         mapping: fields,
         lock,
     } = open_folder(rt, folder, mapping)?;
-    let line = OpeningLine::new(rt, alloc, folder, settings.at_terminal)?;
-    let devices = Counted {
-        files: InFolder::new(*rt, String::from_str(alloc, folder)?),
-        begun: line.begun()?,
-    };
+    let line = OpeningLine::of_several(alloc, settings.at_terminal)?;
+    let devices = Counted::new(*rt, alloc, folder, &line)?;
     let copied = fields.copy(alloc)?;
     let opened = line.shown_while(rt, errors, || {
         let copies = settings.copies.max(1).min(5) as u8;
@@ -387,7 +384,7 @@ where
     });
     let mut cluster = opened?;
     let ended = serve_cluster(rt, settings, &fields, &mut cluster, output, errors);
-    let closed = cluster.close(rt);
+    let closed = cluster.close(rt, &[]);
     drop(lock);
     ended?;
     drop(closed?);

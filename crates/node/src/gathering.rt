@@ -25,6 +25,13 @@ pub fn gathered(journal: &Journal, passes: &[Pass]) -> Result<bool, Stray>
     Ok(covers(passes, size_of(journal)))
 }
 
+/// Whether a receipt stands in the journal of a copy at its place, with its pass, input and answer.
+pub fn stands_in(journal: &Journal, receipt: &Receipt) -> bool
+    ensures { IsTrue result ↔ (deed_at journal.now receipt.now.place ≡ Some receipt.now.deed) }
+{
+    stands(journal, receipt.place, &receipt.deed)
+}
+
 /// Whether the receipts of a pass stand, apart from one another and from those of earlier passes.
 fn check(journal: &Journal, earlier: &[Pass], pass: &Pass) -> Result<(), Stray>
     ensures ok { OnOk result (AreNext journal.now (receipts_of earlier.now) pass.now.receipts) }

@@ -61,6 +61,13 @@ impl<D: LogDevice> Held<D> {
         &self.copy
     }
 
+    /// The id of the copy, under which its receipts stand.
+    pub fn node(&self) -> u32
+        ensures { result ≡ self.now.opening.id }
+    {
+        self.node
+    }
+
     /// One call of the copy, which is one entry of its journal and a receipt of the pass, also where the copy refuses.
     /// A pass whose last receipt isn't in the journal at its place is refused.
     pub fn call(

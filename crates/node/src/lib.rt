@@ -12,7 +12,7 @@ mod standing;
 mod telling;
 
 pub use fault::NodeFault;
-pub use gathering::{Stray, gathered};
+pub use gathering::{Stray, gathered, stands_in};
 pub use got::Got;
 pub use held::Held;
 pub use pass::{Pass, Receipt};

@@ -77,7 +77,7 @@ fn small_run<R: Threads + Wait + Copy + Send + Drop + 'static>(
         told,
     )?;
     let done = work(rt, alloc, &mut cluster);
-    let journals = cluster.close(rt).map_err(told)?;
+    let journals = cluster.close(rt, &[]).map_err(told)?;
     match done {
         Ok(()) => Ok(journals),
         Err(error) => Err(error),

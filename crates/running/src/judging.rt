@@ -57,7 +57,7 @@ where
     V: Devices<D>,
     G: Gate + Send + Sync + 'static,
 {
-    let journals = cluster.close(rt).map_err(told)?;
+    let journals = cluster.close(rt, &[]).map_err(told)?;
     let count = journals.len();
     let verdict = verdict_of(alloc, mapping, journals)?;
     Ok((count, verdict))

@@ -8,6 +8,7 @@ mod crowd;
 mod failing;
 mod in_turn;
 mod judging;
+mod receipts;
 mod shaky;
 mod writing;
 
@@ -25,5 +26,6 @@ fn main(rt: HostRuntime) -> Result<()> {
     beside::run(&rt, alloc, &mapping)?;
     failing::run(&rt, alloc, &mapping)?;
     in_turn::run(&rt, alloc, &mapping)?;
+    receipts::run(&rt, alloc, &mapping)?;
     changing::run(&rt, alloc, &mapping)
 }

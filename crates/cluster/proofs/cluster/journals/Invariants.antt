@@ -1,7 +1,8 @@
-use Rattle.std.specs.Prelude.{◌≡◌, ◌+◌, length, All}
-use Rattle.cluster.specs.Journals.{IsLegalJournal}
+use Rattle.std.specs.Prelude.{◌≡◌, ◌∷◌, ◌+◌, length, All}
+use Rattle.audit.specs.declared.journal.Journal.{Journal}
+use Rattle.cluster.specs.Journals.{copies_in, IsLegalJournal}
 use Rattle.cluster.proofs.cluster.journals.Given as goal
 
--- the journals so far are legal, and there is one of the master and one of each worker so far
+-- the journals so far are legal: that of the master, and that of each worker so far
 abbrev pub invariant-loop-left : goal.invariant-loop-left
-invariant-loop-left g l = All IsLegalJournal l.journals.items × (length l.journals.items ≡ length l.yielded + 1)
+invariant-loop-left g l = All IsLegalJournal l.journals.items × (length l.journals.items ≡ length l.yielded + 1) × (copies_in l.journals.items ≡ l.yielded) × ((m : Journal) × (l.journals.items ≡ m ∷ l.yielded))

@@ -1,7 +1,11 @@
-use Rattle.std.proofs.Common.{sym, subst}
+use Rattle.std.proofs.Common.{◌≡◌, sym, subst}
 use Rattle.audit.specs.declared.journal.Journal.{Journal}
 use Rattle.audit.specs.Audit.{IsLawful}
+use Rattle.cluster.specs.Journals.{node_of}
 use Rattle.cluster.proofs.left.Left.of.Goals as goal
 
 pub invariant_of-result : goal.invariant_of-result
-invariant_of-result g c = subst (λ (j : Journal). IsLawful j) (sym c.into_journal.ensures.same) c.into_journal.ensures.legal
+invariant_of-result g c = (
+  subst (λ (j : Journal). c.node.result ≡ node_of j) (sym c.into_journal.ensures.same) c.node.ensures,
+  subst (λ (j : Journal). IsLawful j) (sym c.into_journal.ensures.same) c.into_journal.ensures.legal,
+)

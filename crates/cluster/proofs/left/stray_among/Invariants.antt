@@ -1,0 +1,7 @@
+use Rattle.std.specs.List.{AllWithin}
+use Rattle.cluster.specs.Journals.{StandsIn}
+use Rattle.cluster.proofs.left.stray_among.Given as goal
+
+-- the receipts so far stand in the journals
+abbrev pub invariant-loop-receipt : goal.invariant-loop-receipt
+invariant-loop-receipt l = AllWithin (StandsIn l.lefts) l.receipts 0 l.receipt-index
