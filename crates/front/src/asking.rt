@@ -13,6 +13,7 @@ ghost use Rattle.front.specs.Target as target;
 
 use crate::bulk::Item;
 use crate::command::{Change, Command, Condition, Write};
+use crate::json_text::value_in;
 use crate::lines::items_in;
 use crate::parameters::parameters_of;
 use crate::request_fault::RequestFault;
@@ -348,12 +349,8 @@ fn value_of(alloc: Global, body: &[u8]) -> Result<Value, RequestFault>
 fn text_value(alloc: Global, text: &str) -> Result<Value, RequestFault>
     ensures { Gives fault_of view result (spec.read_or_parsing (read text.now)) }
 {
-    match Value::from_str(alloc, text) {
-        Ok(value) => Ok(value),
-        Err(e) => if e.is_memory() {
-            Err(RequestFault::NoMemory)
-        } else {
-            Err(RequestFault::Query(QueryFault::Parsing("not JSON")))
-        },
+    match value_in(alloc, text)? {
+        Some(value) => Ok(value),
+        None => Err(RequestFault::Query(QueryFault::Parsing("not JSON"))),
     }
 }

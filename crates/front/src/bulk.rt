@@ -104,13 +104,18 @@ fn item_write<'b>(
 {
     check_index(served, item.index.as_str())?;
     let id = DocId::new(alloc, item.id.as_str())?;
-    let change = change_of(alloc, mapping, item)?;
-    Ok(Write {
-        id,
-        change,
-        condition: item.condition,
-        refresh,
-    })
+    match change_of(alloc, mapping, item) {
+        Ok(change) => Ok(Write {
+            id,
+            change,
+            condition: item.condition,
+            refresh,
+        }),
+        Err(fault) => {
+            drop(id);
+            Err(fault)
+        }
+    }
 }
 
 fn check_index(served: &str, index: &str) -> Result<(), RequestFault>

@@ -4,6 +4,7 @@
 mod asking;
 mod bulk;
 pub mod command;
+mod json_text;
 mod lines;
 mod page;
 mod parameters;

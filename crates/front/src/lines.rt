@@ -13,6 +13,7 @@ ghost use Rattle.front.specs.LineView.{line_view};
 
 use crate::bulk::{Action, Item};
 use crate::command::Condition;
+use crate::json_text::value_in;
 use crate::request_fault::RequestFault;
 use serde_json::{Map, Value};
 use std::alloc::Global;
@@ -94,13 +95,9 @@ fn line_value(alloc: Global, line: &[u8]) -> Result<Value, RequestFault>
 fn text_value(alloc: Global, text: &str) -> Result<Value, RequestFault>
     ensures { Gives fault_of view result (spec.value_or_bad (read text.now)) }
 {
-    match Value::from_str(alloc, text) {
-        Ok(value) => Ok(value),
-        Err(e) => if e.is_memory() {
-            Err(RequestFault::NoMemory)
-        } else {
-            Err(RequestFault::BadBulk)
-        },
+    match value_in(alloc, text)? {
+        Some(value) => Ok(value),
+        None => Err(RequestFault::BadBulk),
     }
 }
 

@@ -25,12 +25,10 @@ fn refresh_of(value: &str) -> Option<bool>
 fn create_of(value: &str) -> Option<bool>
     ensures { result ≡ spec.create_of value.now }
 {
-    if value == "create" {
-        Some(true)
-    } else if value == "index" {
-        Some(false)
-    } else {
-        None
+    match value {
+        "create" => Some(true),
+        "index" => Some(false),
+        _ => None,
     }
 }
 
@@ -59,32 +57,37 @@ fn with_parameter(
 ) -> Result<Parameters, RequestFault>
     ensures { Gives fault_of (λ q. q) result (spec.with_parameter parameters name.now value.now) }
 {
-    if name == "pretty" {
-        let pretty = once_flag(parameters.pretty, Some(true))?;
-        Ok(Parameters {
-            pretty,
-            ..parameters
-        })
-    } else if name == "refresh" {
-        let refresh = once_flag(parameters.refresh, refresh_of(value))?;
-        Ok(Parameters {
-            refresh,
-            ..parameters
-        })
-    } else if name == "op_type" {
-        let create = once_flag(parameters.create, create_of(value))?;
-        Ok(Parameters {
-            create,
-            ..parameters
-        })
-    } else if name == "if_seq_no" {
-        let seq = once_number(parameters.seq, number_of(value))?;
-        Ok(Parameters { seq, ..parameters })
-    } else if name == "if_primary_term" {
-        let term = once_number(parameters.term, number_of(value))?;
-        Ok(Parameters { term, ..parameters })
-    } else {
-        Err(RequestFault::BadParameter)
+    match name {
+        "pretty" => {
+            let pretty = once_flag(parameters.pretty, Some(true))?;
+            Ok(Parameters {
+                pretty,
+                ..parameters
+            })
+        }
+        "refresh" => {
+            let refresh = once_flag(parameters.refresh, refresh_of(value))?;
+            Ok(Parameters {
+                refresh,
+                ..parameters
+            })
+        }
+        "op_type" => {
+            let create = once_flag(parameters.create, create_of(value))?;
+            Ok(Parameters {
+                create,
+                ..parameters
+            })
+        }
+        "if_seq_no" => {
+            let seq = once_number(parameters.seq, number_of(value))?;
+            Ok(Parameters { seq, ..parameters })
+        }
+        "if_primary_term" => {
+            let term = once_number(parameters.term, number_of(value))?;
+            Ok(Parameters { term, ..parameters })
+        }
+        _ => Err(RequestFault::BadParameter),
     }
 }
 
@@ -101,7 +104,10 @@ pub(crate) fn parameters_of(alloc: Global, text: &[u8]) -> Result<Parameters, Re
     };
     for pair in parse(alloc, text) {
         let (name, value) = pair?;
-        found = with_parameter(found, &name, &value)?;
+        let next = with_parameter(found, &name, &value);
+        drop(name);
+        drop(value);
+        found = next?;
     }
     Ok(found)
 }

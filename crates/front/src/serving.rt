@@ -95,9 +95,15 @@ fn do_command<S: Service>(
     ensures name { S.name service.new ≡ S.name service.old }
     ensures fields { S.fields service.new ≡ S.fields service.old }
 {
-    let subject = Subject::of(alloc, &command)?;
+    let Ok(subject) = Subject::of(alloc, &command) else {
+        drop(command);
+        return Err(StreamFault::NoMemory);
+    };
     let reply = service.call(command);
-    Ok(reply_page(alloc, service.index(), &subject, &reply)?)
+    let page = reply_page(alloc, service.index(), &subject, &reply);
+    drop(subject);
+    drop(reply);
+    Ok(page?)
 }
 
 /// Does the items of a bulk, and spells their page.
