@@ -4,7 +4,7 @@ ghost use Rattle.serde_json.specs.View.{view};
 ghost use Rattle.journals.specs.Asked as spec;
 
 use crate::reading::items::{copy_of, id_of, message_of, natural_of, source_of, worded};
-use crate::reading::wrong::Wrong;
+use crate::reading::wrong::{Wrong, both};
 use master::Request;
 use replica::{Condition, Input, OpType, Write};
 use serde_json::Value;
@@ -62,18 +62,20 @@ fn put_of(
 ) -> Result<Write, Wrong>
     ensures { IfOk result (λ w. (spec.set_word condition ≡ spec.write_word w.kind) × (spec.condition_data condition ++ (view id.now ∷ view source.now ∷ []) ≡ spec.write_data w.id w.kind)) }
 {
+    let (id, source) = both(id_of(alloc, id)?, source_of(alloc, source))?;
     Ok(Write {
-        id: id_of(alloc, id)?,
-        kind: OpType::Index(source_of(alloc, source)?, condition),
+        id,
+        kind: OpType::Index(source, condition),
     })
 }
 
 fn create_of(alloc: Global, id: &Value, source: &Value) -> Result<Write, Wrong>
     ensures { IfOk result (λ w. (codes "create" ≡ spec.write_word w.kind) × (view id.now ∷ view source.now ∷ [] ≡ spec.write_data w.id w.kind)) }
 {
+    let (id, source) = both(id_of(alloc, id)?, source_of(alloc, source))?;
     Ok(Write {
-        id: id_of(alloc, id)?,
-        kind: OpType::Create(source_of(alloc, source)?),
+        id,
+        kind: OpType::Create(source),
     })
 }
 

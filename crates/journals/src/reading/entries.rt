@@ -9,7 +9,7 @@ ghost use Rattle.journals.specs.Entries.{Has, IsLineOf, TellsAnswer, TellsDecisi
 use crate::reading::answered::{answer_of, denial_of, fault_of};
 use crate::reading::asked::{input_of, request_of};
 use crate::reading::items::{copy_of, message_of, messages_of, natural_of, ops_of, worded};
-use crate::reading::wrong::Wrong;
+use crate::reading::wrong::{Wrong, both};
 use audit::{Deed, Ruling};
 use master::{Decision, MasterFault};
 use op::Msg;
@@ -23,11 +23,15 @@ pub(crate) fn value_of(alloc: Global, line: &[u8]) -> Result<Value, Wrong>
 {
     match Value::from_slice(alloc, line) {
         Ok(value) => Ok(value),
-        Err(error) => if error.is_memory() {
-            Err(Wrong::NoMemory)
-        } else {
-            Err(Wrong::Wanted("no JSON"))
-        },
+        Err(error) => {
+            let is_memory = error.is_memory();
+            drop(error);
+            Err(if is_memory {
+                Wrong::NoMemory
+            } else {
+                Wrong::Wanted("no JSON")
+            })
+        }
     }
 }
 
@@ -53,10 +57,13 @@ pub(crate) fn deed_of(alloc: Global, line: &[u8]) -> Result<Deed, Wrong>
 fn deed_in(alloc: Global, value: &Value) -> Result<Deed, Wrong>
     ensures { IfOk result (TellsDeed (view value.now)) }
 {
+    let pass = natural_of(member(value, "pass")?)?;
+    let asked = input_of(alloc, member(value, "asked")?)?;
+    let (input, answer) = both(asked, answer_in(alloc, value))?;
     Ok(Deed {
-        pass: natural_of(member(value, "pass")?)?,
-        input: input_of(alloc, member(value, "asked")?)?,
-        answer: answer_in(alloc, value)?,
+        pass,
+        input,
+        answer,
     })
 }
 
@@ -75,10 +82,14 @@ fn output_in(alloc: Global, value: &Value) -> Result<Output, Wrong>
     let Ok(members) = usize::try_from(natural_of(member(value, "members")?)?) else {
         return Err(Wrong::Wanted("a number of copies is wanted"));
     };
+    let (sent, acknowledged) = (member(value, "sent")?, member(value, "acknowledged")?);
+    let answer = answer_of(alloc, member(value, "answered")?)?;
+    let answer = both(answer, messages_of(alloc, sent))?;
+    let ((answer, sent), acknowledged) = both(answer, ops_of(alloc, acknowledged))?;
     Ok(Output {
-        answer: answer_of(alloc, member(value, "answered")?)?,
-        sent: messages_of(alloc, member(value, "sent")?)?,
-        acknowledged: ops_of(alloc, member(value, "acknowledged")?)?,
+        answer,
+        sent,
+        acknowledged,
         members,
     })
 }

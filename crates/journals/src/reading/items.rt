@@ -4,7 +4,7 @@ ghost use Rattle.serde_json.specs.Data.{string};
 ghost use Rattle.serde_json.specs.View.{view};
 ghost use Rattle.journals.specs.Items as spec;
 
-use crate::reading::wrong::Wrong;
+use crate::reading::wrong::{Wrong, both};
 use doc::{DocFault, DocId, Source};
 use op::{Body, Content, CopyIds, Messages, Msg, Op, Operations};
 use serde_json::Value;
@@ -124,8 +124,8 @@ fn body_of(alloc: Global, word: &str, texts: &[Value]) -> Result<Body, Wrong>
 {
     match (word, texts) {
         ("index", [id, source]) => {
-            let id = id_of(alloc, id)?;
-            Ok(Body::Index(id, source_of(alloc, source)?))
+            let (id, source) = both(id_of(alloc, id)?, source_of(alloc, source))?;
+            Ok(Body::Index(id, source))
         }
         ("delete", [id]) => Ok(Body::Delete(id_of(alloc, id)?)),
         ("noop", []) => Ok(Body::NoOp),

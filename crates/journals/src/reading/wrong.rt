@@ -1,4 +1,5 @@
 //! Why a line can't be read.
+ghost use Rattle.std.specs.Prelude.{◌≡◌, IfOk, Ok};
 
 use std::alloc::{AllocError, AllocFailed};
 
@@ -8,6 +9,19 @@ pub(crate) enum Wrong {
     NoMemory,
     /// What is wanted.
     Wanted(&'static str),
+}
+
+/// What was read, with what was to be read behind it. Where that can't be read, the first is let go.
+pub(crate) fn both<T: Drop, U>(first: T, second: Result<U, Wrong>) -> Result<(T, U), Wrong>
+    ensures { IfOk result (λ both. (both.0 ≡ first) × (second ≡ Ok both.1)) }
+{
+    match second {
+        Ok(second) => Ok((first, second)),
+        Err(wrong) => {
+            drop(first);
+            Err(wrong)
+        }
+    }
 }
 
 impl From<AllocError> for Wrong {
