@@ -13,10 +13,10 @@ mod items;
 mod wrong;
 
 use crate::heading::opening_of;
-use crate::reading::items::{copy_of, natural_of};
+use crate::reading::items::{copy_of, natural_of, wrong_of};
 use crate::reading::wrong::Wrong;
 use audit::{Deeds, Journal, Rulings};
-use doc::{DocFault, Mapping};
+use doc::Mapping;
 use master::State;
 use serde_json::Value;
 use std::alloc::{AllocError, AllocFailed, Global};
@@ -113,8 +113,7 @@ fn mapping_of(alloc: Global, value: &Value) -> Result<Mapping, Wrong>
 {
     match Mapping::from_value(alloc, value) {
         Ok(mapping) => Ok(mapping),
-        Err(DocFault::NoMemory) => Err(Wrong::NoMemory),
-        Err(_) => Err(Wrong::Wanted("a mapping is wanted")),
+        Err(fault) => Err(wrong_of(fault, "a mapping is wanted")),
     }
 }
 
@@ -123,7 +122,9 @@ fn check_head(alloc: Global, top: &Head, node: u32, line: &[u8]) -> Result<(), W
     ensures { IfOk result (λ _. IsHead top.now.copies node top.now.mapping line.now) }
 {
     let head = head_of(alloc, node, line)?;
-    if head.copies != top.copies || !head.mapping.is(&top.mapping) {
+    let differs = head.copies != top.copies || !head.mapping.is(&top.mapping);
+    drop(head);
+    if differs {
         return Err(Wrong::Wanted("this is the journal of another index"));
     }
     Ok(())

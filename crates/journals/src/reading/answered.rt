@@ -19,7 +19,8 @@ use translog::LogFault;
 pub(crate) fn answer_of(alloc: Global, value: &Value) -> Result<Answer, Wrong>
     ensures { IfOk result (λ a. view value.now ≡ spec.answer_data a) }
 {
-    match worded(value)? {
+    let (word, rest) = worded(value)?;
+    match (word, rest) {
         ("wrote", [seq, term, version, outcome]) => Ok(Answer::Wrote(Written {
             seq: natural_of(seq)?,
             term: natural_of(term)?,
@@ -93,7 +94,8 @@ fn bare_log_fault_of(name: &str) -> Result<LogFault, Wrong>
 fn refusal_of(value: &Value) -> Result<Option<(&str, &[Value])>, Wrong>
     ensures { IfOk result (λ o. IfSome o (λ r. view value.now ≡ spec.refused_data r.0.now (map view r.1.now))) }
 {
-    match worded(value)? {
+    let (word, rest) = worded(value)?;
+    match (word, rest) {
         ("refused", [name, rest @ ..]) => Ok(Some((text_of(name)?, rest))),
         _ => Ok(None),
     }

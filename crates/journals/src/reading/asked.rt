@@ -93,7 +93,8 @@ fn delete_of(alloc: Global, condition: Option<Condition>, id: &Value) -> Result<
 pub(crate) fn request_of(value: &Value) -> Result<Request, Wrong>
     ensures { IfOk result (λ r. view value.now ≡ spec.request_data r) }
 {
-    match worded(value)? {
+    let (word, rest) = worded(value)?;
+    match (word, rest) {
         ("allocate", []) => Ok(Request::Allocate),
         ("promote", [id]) => Ok(Request::Promote(copy_of(id)?)),
         ("synced", [term, id]) => Ok(Request::Synced(natural_of(term)?, copy_of(id)?)),

@@ -1,5 +1,5 @@
 //! Entries of journals, read from lines of JSON.
-ghost use Rattle.std.specs.Prelude.{◌≡◌, codes, IfOk, Some};
+ghost use Rattle.std.specs.Prelude.{◌≡◌, codes, map, IfOk, Some};
 ghost use Rattle.serde_json.specs.Read.{read};
 ghost use Rattle.serde_json.specs.View.{view};
 ghost use Rattle.serde_json.specs.Find.{get};
@@ -139,14 +139,27 @@ fn decided_of(value: &Value) -> Result<(bool, Option<u32>), Wrong>
     ensures { IfOk result (λ r. view value.now ≡ spec.decided_data r.0 r.1) }
 {
     let (word, rest) = worded(value)?;
-    let repeated = match word {
-        "decided" => false,
-        "repeated" => true,
-        _ => return Err(Wrong::Wanted("no master answers this")),
-    };
+    let repeated = is_repeated(word)?;
+    Ok((repeated, given_of(rest)?))
+}
+
+fn is_repeated(word: &str) -> Result<bool, Wrong>
+    ensures { IfOk result (λ repeated. word.now ≡ spec.decision_word repeated) }
+{
+    match word {
+        "decided" => Ok(false),
+        "repeated" => Ok(true),
+        _ => Err(Wrong::Wanted("no master answers this")),
+    }
+}
+
+/// The id that is given, where there is one.
+fn given_of(rest: &[Value]) -> Result<Option<u32>, Wrong>
+    ensures { IfOk result (λ given. map view rest.now ≡ spec.given_data given) }
+{
     match rest {
-        [] => Ok((repeated, None)),
-        [id] => Ok((repeated, Some(copy_of(id)?))),
+        [] => Ok(None),
+        [id] => Ok(Some(copy_of(id)?)),
         _ => Err(Wrong::Wanted("no master answers this")),
     }
 }

@@ -76,7 +76,7 @@ pub(crate) fn copy_of(value: &Value) -> Result<u32, Wrong>
     }
 }
 
-fn wrong_of(fault: DocFault, wanted: &'static str) -> Wrong {
+pub(crate) fn wrong_of(fault: DocFault, wanted: &'static str) -> Wrong {
     match fault {
         DocFault::NoMemory => Wrong::NoMemory,
         _ => Wrong::Wanted(wanted),

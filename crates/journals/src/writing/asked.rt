@@ -43,11 +43,27 @@ fn write_word(kind: &OpType) -> &'static str
     ensures { result.now ≡ spec.write_word kind.now }
 {
     match kind {
-        OpType::Index(_, None) => "put",
-        OpType::Index(_, Some(_)) => "putif",
+        OpType::Index(_, condition) => set_word(condition),
         OpType::Create(_) => "create",
-        OpType::Delete(None) => "del",
-        OpType::Delete(Some(_)) => "delif",
+        OpType::Delete(condition) => delete_word(condition),
+    }
+}
+
+fn set_word(condition: &Option<Condition>) -> &'static str
+    ensures { result.now ≡ spec.set_word condition.now }
+{
+    match condition {
+        None => "put",
+        Some(_) => "putif",
+    }
+}
+
+fn delete_word(condition: &Option<Condition>) -> &'static str
+    ensures { result.now ≡ spec.delete_word condition.now }
+{
+    match condition {
+        None => "del",
+        Some(_) => "delif",
     }
 }
 

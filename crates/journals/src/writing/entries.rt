@@ -2,6 +2,7 @@
 ghost use Rattle.std.specs.Prelude.{◌≡◌, codes, IfOk, IfSome, OnOk};
 ghost use Rattle.serde_json.specs.View.{view, members_view};
 ghost use Rattle.journals.specs.Items.{natural};
+ghost use Rattle.journals.specs.Entries as spec;
 ghost use Rattle.journals.specs.Entries.{decided_data, Has, TellsAnswer, TellsDeed, TellsEntry, TellsRuled, TellsRuling};
 ghost use Rattle.journals.specs.Members.{answer_members, decision_members, output_members, ruled_members};
 
@@ -124,16 +125,17 @@ fn ruled(alloc: Global, answer: &Result<Decision, MasterFault>) -> Result<Member
 fn decided_value(alloc: Global, decision: &Decision) -> Result<Value, AllocError>
     ensures { IfOk result (λ v. view v ≡ decided_data decision.now.repeated decision.now.given) }
 {
-    let word = if decision.repeated {
-        "repeated"
-    } else {
-        "decided"
-    };
-    let mut items = worded(alloc, word)?;
+    let mut items = worded(alloc, decision_word(decision.repeated))?;
     if let Some(id) = decision.given {
         items.push(Value::from(id))?;
     }
     Ok(Value::Array(items))
+}
+
+fn decision_word(repeated: bool) -> &'static str
+    ensures { result.now ≡ spec.decision_word repeated }
+{
+    if repeated { "repeated" } else { "decided" }
 }
 
 fn add_decision(alloc: Global, members: &mut Members, decision: &Decision) -> Result<(), AllocError>
