@@ -2,6 +2,7 @@
 ghost use Rattle.std.specs.Prelude.{◌≡◌, [], ◌∷◌, map, IfOk, IfSome};
 ghost use Rattle.serde_json.specs.View.{view};
 ghost use Rattle.journals.specs.Answered as spec;
+ghost use Rattle.replica.specs.declared.output.Answer.TheVariants.{Wrote, Found};
 ghost use Rattle.replica.specs.Fault.{name_of};
 ghost use Rattle.master.specs.Fault.{name_of as master_name};
 ghost use Rattle.serde_json.specs.Data.{string};
@@ -21,20 +22,38 @@ pub(crate) fn answer_of(alloc: Global, value: &Value) -> Result<Answer, Wrong>
 {
     let (word, rest) = worded(value)?;
     match (word, rest) {
-        ("wrote", [seq, term, version, outcome]) => Ok(Answer::Wrote(Written {
+        ("wrote", numbers) => Ok(Answer::Wrote(written_of(numbers)?)),
+        ("found", numbers) => Ok(Answer::Found(document_of(alloc, numbers)?)),
+        ("point", [point]) => Ok(Answer::Point(natural_of(point)?)),
+        (word, []) => bare_of(word),
+        _ => Err(Wrong::Wanted("no copy answers this")),
+    }
+}
+
+fn written_of(items: &[Value]) -> Result<Written, Wrong>
+    ensures { IfOk result (λ w. map view items.now ≡ spec.answer_items (Wrote w)) }
+{
+    match items {
+        [seq, term, version, outcome] => Ok(Written {
             seq: natural_of(seq)?,
             term: natural_of(term)?,
             version: natural_of(version)?,
             outcome: outcome_of(text_of(outcome)?)?,
-        })),
-        ("found", [seq, term, version, source]) => Ok(Answer::Found(Document {
+        }),
+        _ => Err(Wrong::Wanted("no copy answers this")),
+    }
+}
+
+fn document_of(alloc: Global, items: &[Value]) -> Result<Document, Wrong>
+    ensures { IfOk result (λ d. map view items.now ≡ spec.answer_items (Found d)) }
+{
+    match items {
+        [seq, term, version, source] => Ok(Document {
             seq: natural_of(seq)?,
             term: natural_of(term)?,
             version: natural_of(version)?,
             source: source_of(alloc, source)?,
-        })),
-        ("point", [point]) => Ok(Answer::Point(natural_of(point)?)),
-        (word, []) => bare_of(word),
+        }),
         _ => Err(Wrong::Wanted("no copy answers this")),
     }
 }

@@ -2,6 +2,7 @@
 ghost use Rattle.std.specs.Prelude.{◌≡◌, [], ◌∷◌, ◌++◌, map, codes, Some, IfOk};
 ghost use Rattle.serde_json.specs.View.{view};
 ghost use Rattle.journals.specs.Asked as spec;
+ghost use Rattle.journals.specs.Items.{natural};
 
 use crate::reading::items::{copy_of, id_of, message_of, natural_of, source_of, worded};
 use crate::reading::wrong::{Wrong, both};
@@ -97,8 +98,24 @@ pub(crate) fn request_of(value: &Value) -> Result<Request, Wrong>
     match (word, rest) {
         ("allocate", []) => Ok(Request::Allocate),
         ("promote", [id]) => Ok(Request::Promote(copy_of(id)?)),
-        ("synced", [term, id]) => Ok(Request::Synced(natural_of(term)?, copy_of(id)?)),
-        ("fail", [term, id]) => Ok(Request::Fail(natural_of(term)?, copy_of(id)?)),
+        ("synced", said) => {
+            let (term, id) = told_of(said)?;
+            Ok(Request::Synced(term, id))
+        }
+        ("fail", said) => {
+            let (term, id) = told_of(said)?;
+            Ok(Request::Fail(term, id))
+        }
+        _ => Err(Wrong::Wanted("no master is asked this")),
+    }
+}
+
+/// A term, and the id of a copy.
+fn told_of(items: &[Value]) -> Result<(u64, u32), Wrong>
+    ensures { IfOk result (λ told. map view items.now ≡ natural told.0 ∷ natural told.1 ∷ []) }
+{
+    match items {
+        [term, id] => Ok((natural_of(term)?, copy_of(id)?)),
         _ => Err(Wrong::Wanted("no master is asked this")),
     }
 }

@@ -52,9 +52,10 @@ fn integer_of(value: &Value) -> Result<i64, Wrong>
     ensures { IfOk result (λ z. view value.now ≡ spec.integer z) }
 {
     if let Some(number) = value.as_u64() {
-        return match i64::try_from(number) {
-            Ok(number) => Ok(number),
-            Err(_) => Err(Wrong::Wanted("a number is too large")),
+        return if number > i64::MAX as u64 {
+            Err(Wrong::Wanted("a number is too large"))
+        } else {
+            Ok(number as i64)
         };
     }
     match value.as_i64() {
@@ -70,10 +71,11 @@ fn integer_of(value: &Value) -> Result<i64, Wrong>
 pub(crate) fn copy_of(value: &Value) -> Result<u32, Wrong>
     ensures { IfOk result (λ id. view value.now ≡ spec.natural id) }
 {
-    match u32::try_from(natural_of(value)?) {
-        Ok(id) => Ok(id),
-        Err(_) => Err(Wrong::Wanted("the id of a copy is wanted")),
+    let number = natural_of(value)?;
+    if number > u32::MAX as u64 {
+        return Err(Wrong::Wanted("the id of a copy is wanted"));
     }
+    Ok(number as u32)
 }
 
 pub(crate) fn wrong_of(fault: DocFault, wanted: &'static str) -> Wrong {
