@@ -36,12 +36,15 @@ module _ {H E : Type 0} (shown : H → Answer) (q : Query) (page : PageData) whe
   }
   looks_found known after taken told on is (Err e) f = tt
 
+pub no_less : (known after : List Listing) (taken : Listing) (told : Option Listing) → GoesOnAll taken known → after ≡ taken ∷ [] → IsNoLess (known ++ listed told) (after ++ listed told)
+no_less known after taken told on is =
+    subst (λ w. IsNoLess (known ++ listed told) (w ++ listed told)) (sym is)
+    (record { kept = λ later h. append-GoesOnAll known (listed told) later (trans-GoesOnAll known taken later on h.0) h.1 })
+
 pub looks_no_less : {H E : Type 0} (known after : List Listing) (taken : Listing) (told : Option Listing) → GoesOnAll taken known → after ≡ taken ∷ [] → (r : Result H E)
     → IfErr r (λ _. IsNoLess (known ++ listed told) (after ++ listed told))
 looks_no_less known after taken told on is (Ok h) = tt
-looks_no_less known after taken told on is (Err e) =
-    subst (λ w. IsNoLess (known ++ listed told) (w ++ listed told)) (sym is)
-    (record { kept = λ later h. append-GoesOnAll known (listed told) later (trans-GoesOnAll known taken later on h.0) h.1 })
+looks_no_less known after taken told on is (Err e) = no_less known after taken told on is
 
 split-GoesOnAll : (known : List Listing) (t later : Listing) → GoesOnAll later (known ++ t ∷ []) → GoesOnAll later known × GoesOn later t
 split-GoesOnAll [] t later h = (tt, h.0)

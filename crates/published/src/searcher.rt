@@ -20,6 +20,7 @@ use left_right::reader::Reader;
 use query::{Page, Query};
 use std::alloc::Global;
 use std::marker::Model;
+use std::sync::Arc;
 
 /// Why a search has no hits.
 #[derive(Clone, Copy, Debug, PartialEq, Eq)]
@@ -60,7 +61,7 @@ fn hits_of<N: Name>(
     }
 }
 
-/// Searches what is published now.
+/// Searches what is published now. It is taken and left at once, so that a publish doesn't wait for a search.
 fn look<N: Name>(
     reader: Line,
     told: &Option<Note<N>>,
@@ -77,8 +78,12 @@ fn look<N: Name>(
 {
     match reader.enter_as::<Sees>() {
         Ok(reading) => {
-            let hits = hits_of(&*reading.get().entry, told, alloc, query, page);
-            (reading.leave(), hits)
+            let taken = Arc::try_clone(&reading.get().entry);
+            let reader = reading.leave();
+            match taken {
+                Ok(entry) => (reader, hits_of(&*entry, told, alloc, query, page)),
+                Err(_) => (reader, Err(SearchFault::NoMemory)),
+            }
         }
         Err(reader) => (reader, Err(SearchFault::Ended)),
     }

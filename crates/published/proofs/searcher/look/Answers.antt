@@ -6,17 +6,21 @@ use Rattle.query.specs.View.{query_view}
 use Rattle.published.specs.Entry.{listing_of}
 use Rattle.published.specs.Search.{FindsIn}
 use Rattle.published.proofs.Steps.{looks}
-use Rattle.published.proofs.Searches.{looks_found, looks_no_less}
+use Rattle.published.proofs.Searches.{looks_found, looks_no_less, no_less}
 use Rattle.published.proofs.searcher.look.Goals as goal
 
 pub enter_as-requires : goal.enter_as-requires
 enter_as-requires g c x = looks _ _ x
 
-pub returns-in-Ok-clause-found : goal.returns-in-Ok-clause-found
-returns-in-Ok-clause-found g c =
-    looks_found hits_view (query_view c.args.query.now) c.args.page (view c.args.reader.place) (view c.leave.result.place) _ c.args.told.now c.in-Ok.ensures.1.0 (c.leave.ensures.1 ∙ c.in-Ok.ensures.1.1) c.hits_of-hits.result
-    (subst (λ e. IfOk c.hits_of-hits.result (λ h. FindsIn (listing_of e) c.args.told.now (query_view c.args.query.now) c.args.page (hits_view h))) (c.deref.ensures ∙ ap (λ l. arc_value l.entry) c.get.ensures) c.hits_of-hits.ensures.found)
+pub returns-in-Ok-taken-clause-found : goal.returns-in-Ok-taken-clause-found
+returns-in-Ok-taken-clause-found g c =
+    looks_found hits_view (query_view c.args.query.now) c.args.page (view c.args.reader.place) (view c.leave-reader.result.place) _ c.args.told.now c.in-Ok.ensures.1.0 (c.leave-reader.ensures.1 ∙ c.in-Ok.ensures.1.1) c.hits_of.result
+    (subst (λ e. IfOk c.hits_of.result (λ h. FindsIn (listing_of e) c.args.told.now (query_view c.args.query.now) c.args.page (hits_view h))) (c.deref.ensures ∙ c.in-Ok-taken.ensures ∙ ap (λ l. arc_value l.entry) c.get.ensures) c.hits_of.ensures.found)
 
-pub returns-in-Ok-clause-refused : goal.returns-in-Ok-clause-refused
-returns-in-Ok-clause-refused g c =
-    looks_no_less (view c.args.reader.place) (view c.leave.result.place) _ c.args.told.now c.in-Ok.ensures.1.0 (c.leave.ensures.1 ∙ c.in-Ok.ensures.1.1) c.hits_of-hits.result
+pub returns-in-Ok-taken-clause-refused : goal.returns-in-Ok-taken-clause-refused
+returns-in-Ok-taken-clause-refused g c =
+    looks_no_less (view c.args.reader.place) (view c.leave-reader.result.place) _ c.args.told.now c.in-Ok.ensures.1.0 (c.leave-reader.ensures.1 ∙ c.in-Ok.ensures.1.1) c.hits_of.result
+
+pub returns-in-Err-taken-clause-refused : goal.returns-in-Err-taken-clause-refused
+returns-in-Err-taken-clause-refused g c =
+    no_less (view c.args.reader.place) (view c.leave-reader.result.place) _ c.args.told.now c.in-Ok.ensures.1.0 (c.leave-reader.ensures.1 ∙ c.in-Ok.ensures.1.1)
