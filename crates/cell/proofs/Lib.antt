@@ -1,3 +1,4 @@
 pub mod Steps
 pub mod Growing
 pub mod Refusing
+pub mod Refreshing

@@ -17,7 +17,7 @@ use Rattle.cell.proofs.Growing.{call_later, call_shows, published_later}
 called_published : (h new : JournalData) (p q : PassData) (input : Input) (r : Receipt) (l : Logged) (line : Line) → IsHeld h l → IsCall h new p q input r → IsPublished h line → IsPublished new line
 called_published h new p q input r l line held call is = published_later (standing h).copy (standing new).copy line (call_later h new r.deed l held call.journal) is
 
-same_published : (h new : JournalData) (line : Line) → new ≡ h → IsPublished h line → IsPublished new line
+pub same_published : (h new : JournalData) (line : Line) → new ≡ h → IsPublished h line → IsPublished new line
 same_published h new line same is = subst (λ (j : JournalData). IsPublished j line) (sym same) is
 
 denied_published : (h new : JournalData) (p q : PassData) (input : Input) (e : NodeFault) (l : Logged) (line : Line) → IsHeld h l → IsDenied h new p q input e → IsPublished h line → IsPublished new line

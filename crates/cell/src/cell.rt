@@ -4,14 +4,17 @@ ghost use Rattle.audit.specs.Journal.{IsLegal, open_at};
 ghost use Rattle.audit.specs.declared.journal.Journal.TheVariants.{OfCopy};
 ghost use Rattle.replica.specs.Logged.{is_refresh};
 ghost use Rattle.node.specs.Held.{IsCall};
-ghost use Rattle.cell.specs.Publishing.{IsBegun, IsKept, IsRefusedCall, IsShownAfter, IsShownBy, IsStepped, IsAllShown};
-ghost use Rattle.node.specs.Reading.{standing};
+ghost use Rattle.cell.specs.Publishing.{IsBegun, IsKept, IsPublished, IsRefusedCall, IsShownAfter, IsShownBy, IsStepped, IsAllShown};
+ghost use Rattle.cell.specs.Refreshing.{IsRefreshed, IsUnnoted, IsUnrefreshed, IsWriteRefreshed};
+ghost use Rattle.published.specs.Told.{IsOf};
+ghost use Rattle.node.specs.Reading.{standing, IsGotFrom, IsUngot};
 ghost use Rattle.node.specs.Stands.{LastStands};
 
 use audit::Journal;
-use node::{Held, NodeFault, Pass, Receipt};
-use published::{Publisher, Searcher, Showing, ShownRecords, Unnamed};
-use replica::{Copy, Input};
+use doc::DocId;
+use node::{Got, Held, NodeFault, Pass, Receipt};
+use published::{Name, Note, Publisher, Searcher, Showing, ShownRecords};
+use replica::{Copy, Input, Write};
 use std::alloc::{AllocError, Global};
 use std::marker::Model;
 use std::sync::{Arc, Wait};
@@ -68,17 +71,20 @@ fn is_refresh(input: &Input) -> bool
 }
 
 impl<D: LogDevice> CopyCell<D> {
-    /// A copy that has made no call, and shows all of its records. A closed copy is refused.
+    /// A copy that shows all of its records. Where memory is wanting, or the copy is closed, it is given back.
     #[tactic(auto, using(crate::proofs::Growing::begun_published, crate::proofs::Growing::begun_all))]
-    pub fn begin<R: Wait>(rt: &R, alloc: Global, held: Held<D>) -> Result<CopyCell<D>, AllocError>
+    pub fn begin<R: Wait>(rt: &R, alloc: Global, held: Held<D>) -> Result<CopyCell<D>, Held<D>>
         requires { (standing held).copy.point ≡ length (standing held).copy.records }
-        ensures { IfOk result (IsBegun held) }
+        ensures begun { IfOk result (IsBegun held) }
+        ensures refused { IfErr result (λ h. h ≡ held) }
     {
-        let Some(showing) = showing_in(&held)? else {
-            return Err(AllocError);
+        let Ok(Some(showing)) = showing_in(&held) else {
+            return Err(held);
         };
-        let publisher = Publisher::begin(rt, alloc, showing)?;
-        Ok(CopyCell { held, publisher })
+        match Publisher::begin(rt, alloc, showing) {
+            Ok(publisher) => Ok(CopyCell { held, publisher }),
+            Err(_) => Err(held),
+        }
     }
 
     /// The copy with its journal.
@@ -86,6 +92,16 @@ impl<D: LogDevice> CopyCell<D> {
         ensures { result.now ≡ self.now.journal }
     {
         &self.held
+    }
+
+    /// What the copy has of an id, of all its records, as `Held::get` tells it; it makes no entry.
+    #[tactic(auto, using(crate::proofs::Refusing::same_published))]
+    pub fn get(&mut self, alloc: Global, id: DocId) -> Result<Got, NodeFault>
+        ensures got { IfOk result (IsGotFrom self.old.journal id) }
+        ensures same { self.new ≡ self.old }
+        ensures refused { IfErr result (IsUngot self.old.journal) }
+    {
+        self.held.get(alloc, id)
     }
 
     /// One call of the copy, as `Held::call` makes it. After a refresh or a restart searches show all records of the copy; where memory is wanting for
@@ -102,6 +118,7 @@ impl<D: LogDevice> CopyCell<D> {
         ensures stood { IfOk result (λ r. LastStands self.old.journal pass.old) }
         ensures shown { IfOk result (λ r. IsShownAfter input self.old self.new) }
         ensures err { IfErr result (IsRefusedCall self.old self.new pass.old pass.new input) }
+        ensures book { self.new.line.book ≡ self.old.line.book }
     {
         let shows = is_refresh(&input);
         let receipt = self.step(alloc, pass, input)?;
@@ -118,6 +135,7 @@ impl<D: LogDevice> CopyCell<D> {
         ensures stood { IfOk result (λ r. LastStands self.old.journal pass.old) }
         ensures stepped { IfOk result (λ r. IsStepped input self.old self.new) }
         ensures err { IfErr result (IsKept self.old self.new pass.old pass.new input) }
+        ensures line { self.new.line ≡ self.old.line }
     {
         let _copy = self.held.copy();
         self.held.call(alloc, pass, input)
@@ -130,6 +148,7 @@ impl<D: LogDevice> CopyCell<D> {
         ensures journal { self.new.journal ≡ self.old.journal }
         ensures ok { OnOk result (IsAllShown self.new) }
         ensures err { OnErr result (self.new.line.shown ≡ self.old.line.shown) }
+        ensures book { self.new.line.book ≡ self.old.line.book }
     {
         let Some(showing) = showing_in(&self.held)? else {
             return Err(AllocError);
@@ -137,8 +156,69 @@ impl<D: LogDevice> CopyCell<D> {
         self.publisher.publish(rt, alloc, showing)
     }
 
+    /// A write, the refresh behind it, and a note of what searches show then, which is all records of the copy. A refused write has no refresh; where
+    /// the refresh is refused, or memory is wanting for the note, the write stands, and its receipt is in the pass.
+    #[tactic(auto, using(crate::proofs::Refreshing::write_refreshed, crate::proofs::Refreshing::write_refused, crate::proofs::Refreshing::write_stands, crate::proofs::Refreshing::still_named))]
+    pub fn write_refreshed<N: Name, R: Wait>(
+        &mut self,
+        rt: &R,
+        alloc: Global,
+        pass: &mut Pass,
+        write: Write,
+    ) -> Result<(Receipt, Note<N>), NodeFault>
+        requires { IsOf N.named N.cell self.old.line.shown }
+        ensures ok { IfOk result (λ r. IsWriteRefreshed self.old self.new pass.old pass.new write r.0 r.1) }
+        ensures err { IfErr result (IsUnrefreshed self.old self.new pass.old pass.new write) }
+    {
+        self.is_published();
+        let receipt = self.call(rt, alloc, pass, Input::Write(write))?;
+        self.is_published();
+        match self.refreshed(rt, alloc, pass) {
+            Ok(note) => Ok((receipt, note)),
+            Err(fault) => {
+                drop(receipt);
+                Err(fault)
+            }
+        }
+    }
+
+    /// A refresh, and a note of what searches show then.
+    #[tactic(auto, using(crate::proofs::Refreshing::refreshed, crate::proofs::Refreshing::refresh_refused, crate::proofs::Refreshing::unnoted, crate::proofs::Refreshing::still_named))]
+    fn refreshed<N: Name, R: Wait>(
+        &mut self,
+        rt: &R,
+        alloc: Global,
+        pass: &mut Pass,
+    ) -> Result<Note<N>, NodeFault>
+        requires { IsOf N.named N.cell self.old.line.shown }
+        ensures ok { IfOk result (IsRefreshed self.old self.new pass.old pass.new) }
+        ensures err { IfErr result (IsUnnoted self.old self.new pass.old pass.new) }
+    {
+        self.is_published();
+        let receipt = self.call(rt, alloc, pass, Input::Refresh)?;
+        drop(receipt);
+        self.is_published();
+        Ok(self.note()?)
+    }
+
+    /// A note of what searches show.
+    pub fn note<N: Name>(&self) -> Result<Note<N>, AllocError>
+        requires { IsOf N.named N.cell self.now.line.shown }
+        ensures { IfOk result (λ n. n ≡ self.now.line.shown) }
+    {
+        self.publisher.note()
+    }
+
+    /// What is shown begins the records of the copy.
+    fn is_published(&self)
+        ensures { IsPublished self.now.journal self.now.line }
+    {
+        let _ = &self.held;
+    }
+
     /// One more reader of what is shown. It is refused where eight are given out.
-    pub fn searcher(&mut self) -> Result<Searcher<Unnamed>, AllocError>
+    pub fn searcher<N: Name>(&mut self) -> Result<Searcher<N>, AllocError>
+        requires { IsOf N.named N.cell self.old.line.shown }
         ensures same { self.new ≡ self.old }
         ensures knows { IfOk result (λ s. s ≡ self.old.line.shown ∷ []) }
     {

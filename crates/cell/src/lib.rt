@@ -2,5 +2,6 @@
 #![tactic(auto)]
 
 mod cell;
+pub mod following;
 
 pub use cell::CopyCell;
