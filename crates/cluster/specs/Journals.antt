@@ -1,5 +1,5 @@
 -- Journals that are handed out.
-use Rattle.std.specs.Prelude.{◌≡◌, ℕ, List, [], ◌∷◌, Some, Any}
+use Rattle.std.specs.Prelude.{◌≡◌, ℕ, List, [], ◌∷◌, Some, All, Any}
 use Rattle.audit.specs.declared.journal.Journal.{Journal}
 use Rattle.audit.specs.declared.journal.Journal.TheVariants.{OfMaster, OfCopy}
 use Rattle.audit.specs.Audit.{IsLawful}
@@ -20,11 +20,13 @@ abbrev pub copies_in : List Journal → List Journal
 copies_in [] = []
 copies_in (j ∷ js) = js
 
--- the receipts of one caller are the entries of the journal: each stands at its place, no two at one, and no entry is without
+-- the receipts of one caller are the entries of the journal, each under the number of its copy: each stands at its place, no two at one, and no entry
+-- is without
 pub record IsOfOneCaller (j : Journal) : Type 0 where
   pub receipts : List Receipt
   pub stand : AreGathered j receipts
   pub whole : IsWhole j receipts
+  pub numbered : All (λ r. r.deed.pass ≡ node_of j) receipts
 
 -- the receipt stands in the journal of its node
 pub record HasReceipt (r : Receipt) (j : Journal) : Type 0 where

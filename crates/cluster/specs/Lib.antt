@@ -1,6 +1,5 @@
 pub mod Confirmed
 pub mod Faults
 pub mod Ruled
-pub mod Shown
 pub mod Journals
 pub mod Opening

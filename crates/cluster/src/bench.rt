@@ -1,11 +1,14 @@
 //! The threads of workers.
+ghost use Rattle.std.specs.Prelude.{◌≡◌, ◌+◌, vec_len, OnOk};
 
+use crate::channels::sent;
 use crate::gate::Gate;
 use crate::left::Left;
 use crate::post::Post;
-use crate::worker::Worker;
-use crossbeam_channel::Receiver;
-use std::alloc::Global;
+use crate::ready::Ready;
+use crate::worker::{Tools, Worker};
+use crossbeam_channel::{Receiver, Sender};
+use std::alloc::{AllocError, Global};
 use std::sync::Wait;
 use std::thread;
 use std::thread::{JoinHandle, Threads};
@@ -19,36 +22,86 @@ pub(crate) trait Work: Drop {
     fn run(self) -> Left;
 }
 
-/// A worker at its inbox.
+/// What the thread of a copy is started with, beside the copy.
+#[derive(Drop)]
+pub(crate) struct Start<D: LogDevice, G: Gate> {
+    pub(crate) alloc: Global,
+    pub(crate) tools: Tools<D, G>,
+    pub(crate) inbox: Receiver<Post, Global>,
+}
+
+/// A copy that is to be served, and where it is told whether it is.
 #[derive(Drop)]
 pub(crate) struct Bench<R: Wait + Drop, D: LogDevice, G: Gate> {
     pub(crate) rt: R,
-    pub(crate) inbox: Receiver<Post, Global>,
-    pub(crate) worker: Worker<D, G>,
+    pub(crate) begun: Sender<bool, Global>,
+    pub(crate) start: Start<D, G>,
+    pub(crate) ready: Ready<D>,
 }
 
 impl<R: Wait + Drop, D: LogDevice, G: Gate> Work for Bench<R, D, G> {
-    /// Takes posts in order until it is told to stop.
+    /// Takes posts in order until it is told to stop. Without memory for what searches are to see the copy isn't served.
     fn run(self) -> Left {
-        let Bench { rt, inbox, worker } = self;
-        let mut worker = worker;
-        for _ in rt.forever() {
-            let Ok(post) = inbox.recv(&rt) else {
-                break;
-            };
-            if !worker.serve(&rt, post) {
-                break;
+        let Bench {
+            rt,
+            begun,
+            start,
+            ready,
+        } = self;
+        let Start {
+            alloc,
+            tools,
+            inbox,
+        } = start;
+        match ready.begin(&rt, alloc) {
+            Ok(cell) => {
+                sent(&rt, &begun, true);
+                serve(&rt, &inbox, Worker::new(alloc, tools, cell))
+            }
+            Err(held) => {
+                sent(&rt, &begun, false);
+                Left::unserved(held, tools.pass)
             }
         }
-        worker.into_left()
     }
 }
 
-/// Starts a thread.
-pub(crate) fn started<R: Threads, W: Work + Send + 'static>(
+/// Serves a copy until its worker is told to stop.
+fn serve<R: Wait, D: LogDevice, G: Gate>(
     rt: &R,
+    inbox: &Receiver<Post, Global>,
+    worker: Worker<D, G>,
+) -> Left {
+    let mut worker = worker;
+    for _ in rt.forever() {
+        let Ok(post) = inbox.recv(rt) else {
+            break;
+        };
+        if !worker.serve(rt, post) {
+            break;
+        }
+    }
+    worker.into_left(rt)
+}
+
+/// Starts a thread, and keeps it with others. Nothing here depends on what it is to do, so this is proved once for all.
+pub(crate) fn start_beside<R: Threads, W: Work + Send + 'static>(
+    rt: &R,
+    threads: &mut Vec<JoinHandle<Left>>,
     work: W,
-) -> Option<JoinHandle<Left>> {
+) -> Result<(), AllocError>
+    ensures { OnOk result (vec_len threads.new ≡ vec_len threads.old + 1) }
+{
+    threads.reserve(1)?;
+    let Some(thread) = started(rt, work) else {
+        return Err(AllocError);
+    };
+    threads.push_reserved(thread);
+    Ok(())
+}
+
+/// Starts a thread.
+fn started<R: Threads, W: Work + Send + 'static>(rt: &R, work: W) -> Option<JoinHandle<Left>> {
     thread::Builder::new()
         .stack_size(STACK)
         .spawn(rt, move || work.run())

@@ -13,11 +13,11 @@ use crate::confirmed::Confirmed;
 use crate::fault::ClusterFault;
 use crate::post::{Answered, Ending, Post};
 use crate::shared::Shared;
-use crate::shown::Shown;
 use crossbeam_channel::{Receiver, bounded};
 use doc::DocId;
 use master::{Decision, MasterFault, Request, State};
 use node::{Got, Receipt};
+use published::{Searcher, Unnamed};
 use replica::{Answer, Input, Write, Written};
 use std::alloc::Global;
 use std::sync::{Arc, Wait};
@@ -113,10 +113,11 @@ impl<D: LogDevice> Client<D> {
         }
     }
 
-    /// What searches of a copy are to see now.
-    pub fn shown<R: Wait>(&self, rt: &R, copy: u32) -> Result<Shown, ClusterFault> {
+    /// A searcher of a copy, which sees what the copy shows from then on, and waits for nobody. Eight are given out at once, else `NoSeat`; one that
+    /// is dropped makes room.
+    pub fn searcher<R: Wait>(&self, rt: &R, copy: u32) -> Result<Searcher<Unnamed>, ClusterFault> {
         let (to, answers) = bounded(self.alloc, 1)?;
-        if !self.shared.hand(rt, copy, Post::Show(to)) {
+        if !self.shared.hand(rt, copy, Post::Seat(to)) {
             return Err(ClusterFault::Master(MasterFault::NotInSync));
         }
         let Ok(answer) = answers.recv(rt) else {

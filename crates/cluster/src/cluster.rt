@@ -4,7 +4,7 @@ ghost use Rattle.master.specs.declared.state.Request.TheVariants.{Allocate};
 ghost use Rattle.cluster.specs.Journals.{copies_in, IsLegalJournal, IsOfOneCaller, StandsIn};
 ghost use Rattle.cluster.specs.Ruled.{IsDecided};
 
-use crate::bench::{Bench, started};
+use crate::bench::{Bench, Start, start_beside};
 use crate::channels::sent;
 use crate::client::Client;
 use crate::devices::Devices;
@@ -13,14 +13,15 @@ use crate::gate::Gate;
 use crate::left::{Left, stray_in};
 use crate::opening::{beginning, birth_of, joining_copy, kept_copy, leader_of, new_copy};
 use crate::post::{Post, Route};
+use crate::ready::Ready;
 use crate::ruled::Ruled;
 use crate::shared::Shared;
-use crate::worker::Worker;
+use crate::worker::Tools;
 use audit::Journal;
-use crossbeam_channel::{Receiver, unbounded};
+use crossbeam_channel::{Receiver, bounded, unbounded};
 use doc::Mapping;
 use master::{Decision, Master, MasterFault, Request};
-use node::{Held, Pass, Receipt};
+use node::{Pass, Receipt};
 use op::CopyIds;
 use replica::{Birth, CopyFault};
 use std::alloc::{AllocError, Global};
@@ -119,10 +120,10 @@ impl<D: LogDevice + Send + 'static, V: Devices<D>, G: Gate + Send + Sync + 'stat
     {
         let mut setting = setting;
         let alloc = setting.alloc;
-        let helds = new_copies(alloc, copies, &setting.mapping, &mut setting.devices)?;
+        let ready = new_copies(alloc, copies, &setting.mapping, &mut setting.devices)?;
         let master = new_master(alloc, copies, device)?;
         let mut cluster = Cluster::over(setting, master)?;
-        let begun = cluster.launch_all(rt, helds);
+        let begun = cluster.launch_all(rt, ready);
         cluster.or_closed(rt, begun)
     }
 
@@ -193,12 +194,12 @@ impl<D: LogDevice + Send + 'static, V: Devices<D>, G: Gate + Send + Sync + 'stat
     fn launch_all<R: Threads + Wait + Copy + Send + Drop + 'static>(
         &mut self,
         rt: &R,
-        helds: Vec<Held<D>>,
+        copies: Vec<Ready<D>>,
     ) -> Result<(), ClusterFault>
-        ensures { OnOk result (vec_len self.new.threads ≡ vec_len self.old.threads + vec_len helds) }
+        ensures { OnOk result (vec_len self.new.threads ≡ vec_len self.old.threads + vec_len copies) }
     {
-        for held in helds {
-            self.launch(rt, held)?;
+        for ready in copies {
+            self.launch(rt, ready)?;
         }
         Ok(())
     }
@@ -238,8 +239,8 @@ impl<D: LogDevice + Send + 'static, V: Devices<D>, G: Gate + Send + Sync + 'stat
         birth: Birth,
     ) -> Result<bool, ClusterFault> {
         match self.kept(id, birth) {
-            Ok(held) => {
-                self.launch(rt, held)?;
+            Ok(ready) => {
+                self.launch(rt, ready)?;
                 Ok(true)
             }
             Err(fault) => self.leave_out(id, fault),
@@ -256,14 +257,14 @@ impl<D: LogDevice + Send + 'static, V: Devices<D>, G: Gate + Send + Sync + 'stat
     }
 
     /// The copy that its device holds.
-    fn kept(&mut self, id: u32, birth: Birth) -> Result<Held<D>, OpenFault> {
+    fn kept(&mut self, id: u32, birth: Birth) -> Result<Ready<D>, OpenFault> {
         let device = match self.devices.kept(id) {
             Ok(Some(device)) => device,
             Ok(None) => return Err(OpenFault::Missing),
             Err(fault) => return Err(OpenFault::Copy(CopyFault::from(fault))),
         };
         match kept_copy(self.client.alloc, id, birth, &self.mapping, device) {
-            Ok(held) => Ok(held),
+            Ok(ready) => Ok(ready),
             Err(fault) => Err(OpenFault::Copy(fault)),
         }
     }
@@ -288,15 +289,43 @@ impl<D: LogDevice + Send + 'static, V: Devices<D>, G: Gate + Send + Sync + 'stat
             return Err(ClusterFault::Master(MasterFault::Full));
         };
         let device = device_of(&mut self.devices, next)?;
-        let held = joining_copy(alloc, next, &self.mapping, device)?;
-        let bench = self.bench(rt, held)?;
-        match self.client.shared.ask(rt, alloc, 0, Request::Allocate) {
-            Ok(decision) => {
-                self.run(rt, bench)?;
-                Ok(decision)
-            }
+        let ready = joining_copy(alloc, next, &self.mapping, device)?;
+        match self.start_of(rt, next) {
+            Ok(start) => self.join(rt, next, start, ready),
             Err(fault) => {
-                remove_route(rt, &*self.client.shared, next);
+                drop(ready);
+                Err(fault)
+            }
+        }
+    }
+
+    /// Has the master add a copy, and starts its thread.
+    fn join<R: Threads + Wait + Copy + Send + Drop + 'static>(
+        &mut self,
+        rt: &R,
+        copy: u32,
+        start: Start<D, G>,
+        ready: Ready<D>,
+    ) -> Result<Decision, ClusterFault>
+        ensures decided { IfOk result (IsDecided Allocate) }
+        ensures runs { OnOk result (vec_len self.new.threads ≡ vec_len self.old.threads + 1) }
+    {
+        match self
+            .client
+            .shared
+            .ask(rt, self.client.alloc, 0, Request::Allocate)
+        {
+            Ok(decision) => match self.run(rt, start, ready) {
+                Ok(()) => Ok(decision),
+                Err(fault) => {
+                    drop(decision);
+                    Err(fault)
+                }
+            },
+            Err(fault) => {
+                drop(start);
+                drop(ready);
+                remove_route(rt, &*self.client.shared, copy);
                 Err(ClusterFault::from(fault))
             }
         }
@@ -309,59 +338,76 @@ impl<D: LogDevice + Send + 'static, V: Devices<D>, G: Gate + Send + Sync + 'stat
         &self.client
     }
 
-    /// Starts the thread of a copy.
+    /// Starts the thread of a copy, which posts reach from now on.
     fn launch<R: Threads + Wait + Copy + Send + Drop + 'static>(
         &mut self,
         rt: &R,
-        held: Held<D>,
+        ready: Ready<D>,
     ) -> Result<(), ClusterFault>
         ensures { OnOk result (vec_len self.new.threads ≡ vec_len self.old.threads + 1) }
     {
-        let bench = self.bench(rt, held)?;
-        self.run(rt, bench)
-    }
-
-    /// A worker for a copy, which posts reach from now on.
-    fn bench<R: Threads + Wait + Copy + Send + Drop + 'static>(
-        &self,
-        rt: &R,
-        held: Held<D>,
-    ) -> Result<Bench<R, D, G>, ClusterFault> {
-        let copy = held.copy().id();
-        let worker = self.worker(held)?;
-        match inbox_of(rt, self.client.alloc, &*self.client.shared, copy) {
-            Ok(inbox) => Ok(Bench {
-                rt: *rt,
-                inbox,
-                worker,
-            }),
-            Err(fault) => Err(fault),
+        match self.start_of(rt, ready.held.copy().id()) {
+            Ok(start) => self.run(rt, start, ready),
+            Err(fault) => {
+                drop(ready);
+                Err(fault)
+            }
         }
     }
 
-    /// A worker for a copy, which no post reaches yet.
-    fn worker(&self, held: Held<D>) -> Result<Worker<D, G>, ClusterFault> {
+    /// What the thread of a copy is to be started with, whom posts reach from now on.
+    fn start_of<R: Wait>(&self, rt: &R, copy: u32) -> Result<Start<D, G>, ClusterFault> {
         let alloc = self.client.alloc;
-        let gate = another(&self.gate)?;
-        let shared = another(&self.client.shared)?;
-        let pass = Pass::new(alloc, held.copy().id() as u64);
-        Ok(Worker::new(alloc, gate, shared, held, pass))
+        let tools = self.tools(copy)?;
+        match inbox_of(rt, alloc, &*self.client.shared, copy) {
+            Ok(inbox) => Ok(Start {
+                alloc,
+                tools,
+                inbox,
+            }),
+            Err(fault) => {
+                drop(tools);
+                Err(fault)
+            }
+        }
     }
 
-    /// Starts a worker's thread. Where none can be had, posts reach it no more.
+    /// What the worker of a copy needs beside it.
+    fn tools(&self, copy: u32) -> Result<Tools<D, G>, AllocError> {
+        let gate = another(&self.gate)?;
+        let shared = another(&self.client.shared)?;
+        Ok(Tools {
+            gate,
+            shared,
+            pass: Pass::new(self.client.alloc, copy as u64),
+        })
+    }
+
+    /// Starts the thread of a copy, and waits until it serves. Where none can be had, or it doesn't serve, memory is wanting.
     fn run<R: Threads + Wait + Copy + Send + Drop + 'static>(
         &mut self,
         rt: &R,
-        bench: Bench<R, D, G>,
+        start: Start<D, G>,
+        ready: Ready<D>,
     ) -> Result<(), ClusterFault>
         ensures { OnOk result (vec_len self.new.threads ≡ vec_len self.old.threads + 1) }
     {
-        self.threads.reserve(1)?;
-        let Some(thread) = started(rt, bench) else {
+        let Ok((begun, heard)) = bounded(self.client.alloc, 1) else {
+            drop(start);
+            drop(ready);
             return Err(ClusterFault::NoMemory);
         };
-        self.threads.push_reserved(thread);
-        Ok(())
+        let bench = Bench {
+            rt: *rt,
+            begun,
+            start,
+            ready,
+        };
+        start_beside(rt, &mut self.threads, bench)?;
+        match heard.recv(rt) {
+            Ok(true) => Ok(()),
+            _ => Err(ClusterFault::NoMemory),
+        }
     }
 
     /// Ends all threads, and hands out the journals, which are legal: the master's first, then those of the copies in the order of their ids. Each
@@ -517,17 +563,17 @@ fn new_copies<D: LogDevice, V: Devices<D>>(
     copies: u8,
     mapping: &Mapping,
     devices: &mut V,
-) -> Result<Vec<Held<D>>, ClusterFault>
-    ensures { IfOk result (λ helds. vec_len helds ≡ copies) }
+) -> Result<Vec<Ready<D>>, ClusterFault>
+    ensures { IfOk result (λ all. vec_len all ≡ copies) }
 {
     let count = copies as u32;
-    let mut helds = Vec::new(alloc);
+    let mut all = Vec::new(alloc);
     for before in 0..count {
         let id = before + 1;
         let device = device_of(devices, id)?;
-        helds.push(new_copy(alloc, id, count, mapping, device)?)?;
+        all.push(new_copy(alloc, id, count, mapping, device)?)?;
     }
-    Ok(helds)
+    Ok(all)
 }
 
 fn device_of<D: LogDevice, V: Devices<D>>(devices: &mut V, id: u32) -> Result<D, ClusterFault> {

@@ -3,8 +3,11 @@ ghost use Rattle.std.specs.Prelude.{◌≡◌, All, IfNone, IsTrue};
 ghost use Rattle.cluster.specs.Journals.{HasReceipt, IsLegalJournal, IsOfOneCaller, StandsIn};
 
 use audit::Journal;
+use cell::CopyCell;
 use node::{Held, Pass, Receipt, gathered, stands_in};
+use std::array;
 use std::marker::Model;
+use std::sync::Wait;
 use translog::LogDevice;
 
 /// The journal of a worker's copy, which is legal, and the worker's pass.
@@ -12,7 +15,7 @@ use translog::LogDevice;
 pub(crate) struct Left {
     node: u32,
     journal: Journal,
-    passes: [Pass; 1],
+    pass: Pass,
 }
 
 impl Model for Left {
@@ -29,21 +32,33 @@ impl Model for Left {
 }
 
 impl Left {
-    pub(crate) fn of<D: LogDevice>(held: Held<D>, pass: Pass) -> Left {
+    /// What is left of a copy that was served. It waits for searches that run.
+    pub(crate) fn served<R: Wait, D: LogDevice>(rt: &R, cell: CopyCell<D>, pass: Pass) -> Left {
         Left {
-            node: held.node(),
-            journal: held.into_journal(),
-            passes: [pass],
+            node: cell.held().node(),
+            journal: cell.close(rt),
+            pass,
         }
     }
 
-    /// The place of the worker's first receipt that doesn't stand in the journal, or of the first entry that isn't the worker's.
+    /// What is left of one that wasn't.
+    pub(crate) fn unserved<D: LogDevice>(held: Held<D>, pass: Pass) -> Left {
+        Left {
+            node: held.node(),
+            journal: held.into_journal(),
+            pass,
+        }
+    }
+
+    /// The place of the worker's first receipt that doesn't stand in the journal, or of the first entry that isn't the worker's, or bears another
+    /// number than the copy's.
+    #[tactic(auto, using(crate::proofs::Handed::of_one_caller))]
     fn stray(&self) -> Option<u64>
         ensures { IfNone result (IsOfOneCaller self.now) }
     {
-        match gathered(&self.journal, &self.passes) {
-            Ok(true) => None,
-            Ok(false) => Some(first_unseen(self.passes[0].receipts())),
+        match gathered(&self.journal, array::from_ref(&self.pass)) {
+            Ok(true) => misnumbered(self.pass.receipts(), self.node),
+            Ok(false) => Some(first_unseen(self.pass.receipts())),
             Err(stray) => Some(stray.place),
         }
     }
@@ -63,10 +78,22 @@ impl Left {
         let Left {
             node: _,
             journal,
-            passes: _passes,
+            pass: _pass,
         } = self;
         journal
     }
+}
+
+/// The place of the first receipt whose entry bears another number than this.
+fn misnumbered(receipts: &[Receipt], number: u32) -> Option<u64>
+    ensures { IfNone result (All (λ r. r.deed.pass ≡ number) receipts.now) }
+{
+    for receipt in receipts {
+        if receipt.deed.pass != number as u64 {
+            return Some(receipt.place);
+        }
+    }
+    None
 }
 
 /// The place of the first entry that has no receipt, where the receipts of all before it come in order.

@@ -16,9 +16,9 @@ mod left;
 mod mending;
 mod opening;
 mod post;
+mod ready;
 pub mod ruled;
 mod shared;
-pub mod shown;
 mod waits;
 mod worker;
 
@@ -29,4 +29,3 @@ pub use devices::{Devices, InFolder, InMemory};
 pub use fault::{ClusterFault, OpenFault, Unopened};
 pub use gate::{Gate, Open};
 pub use ruled::Ruled;
-pub use shown::Shown;

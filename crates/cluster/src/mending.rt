@@ -13,11 +13,11 @@ const RESTARTS: u64 = 3;
 
 impl<D: LogDevice, G: Gate> Worker<D, G> {
     pub(crate) fn is_open(&self) -> bool {
-        self.held.copy().snapshot().is_some()
+        self.copy().snapshot().is_some()
     }
 
     pub(crate) fn leads(&self) -> bool {
-        match self.held.copy().role() {
+        match self.copy().role() {
             Role::Primary(_) => true,
             Role::Empty | Role::Replica => false,
         }

@@ -5,6 +5,7 @@ ghost use Rattle.replica.specs.Copy.{begun, opened};
 ghost use Rattle.replica.specs.declared.role.Birth.TheVariants.{Added};
 ghost use Rattle.cluster.specs.Opening.{birth_of, leader_of, BeganWith, IsFirst, IsKept};
 
+use crate::ready::Ready;
 use audit::Opening;
 use doc::Mapping;
 use master::Entry;
@@ -75,13 +76,15 @@ pub(crate) fn new_copy<D: LogDevice>(
     copies: u32,
     mapping: &Mapping,
     device: D,
-) -> Result<Held<D>, CopyFault>
+) -> Result<Ready<D>, CopyFault>
     requires { 1 ≤ copies }
-    ensures { IfOk result (λ h. h ≡ record { opening = begun id copies mapping.now; deeds = [] }) }
+    ensures { IfOk result (λ r. r.held ≡ record { opening = begun id copies mapping.now; deeds = [] }) }
 {
     let opening = Opening::begun(id, copies, mapping.copy(alloc)?);
     match Copy::begin(alloc, id, copies, mapping.copy(alloc)?, device) {
-        Ok(copy) => Ok(Held::new(alloc, opening, copy)),
+        Ok(copy) => Ok(Ready {
+            held: Held::new(alloc, opening, copy),
+        }),
         Err(refused) => Err(refused.into_fault()),
     }
 }
@@ -92,14 +95,16 @@ pub(crate) fn joining_copy<D: LogDevice>(
     id: u32,
     mapping: &Mapping,
     device: D,
-) -> Result<Held<D>, CopyFault>
-    ensures { IfOk result (λ h. h ≡ record { opening = opened id Added mapping.now []; deeds = [] }) }
+) -> Result<Ready<D>, CopyFault>
+    ensures { IfOk result (λ r. r.held ≡ record { opening = opened id Added mapping.now []; deeds = [] }) }
 {
     let opening = Opening::opened(id, Birth::Added, mapping.copy(alloc)?, Vec::new(alloc));
     match Copy::open(alloc, id, Birth::Added, mapping.copy(alloc)?, device) {
         Ok(copy) => {
             if copy.point() == 0 {
-                Ok(Held::new(alloc, opening, copy))
+                Ok(Ready {
+                    held: Held::new(alloc, opening, copy),
+                })
             } else {
                 Err(CopyFault::Mismatch)
             }
@@ -115,8 +120,8 @@ pub(crate) fn kept_copy<D: LogDevice>(
     birth: Birth,
     mapping: &Mapping,
     device: D,
-) -> Result<Held<D>, CopyFault>
-    ensures { IfOk result (IsKept id birth mapping.now (D.bytes device)) }
+) -> Result<Ready<D>, CopyFault>
+    ensures { IfOk result (λ r. IsKept id birth mapping.now (D.bytes device) r.held) }
 {
     let mut log = Translog::over(device);
     let (records, _torn) = log.read(alloc)?;
@@ -125,7 +130,9 @@ pub(crate) fn kept_copy<D: LogDevice>(
     }
     let opening = Opening::opened(id, birth, mapping.copy(alloc)?, records);
     match Copy::open(alloc, id, birth, mapping.copy(alloc)?, log.into_device()) {
-        Ok(copy) => Ok(Held::new(alloc, opening, copy)),
+        Ok(copy) => Ok(Ready {
+            held: Held::new(alloc, opening, copy),
+        }),
         Err(refused) => Err(refused.into_fault()),
     }
 }

@@ -1,15 +1,18 @@
 //! What a worker is sent.
 
-use crate::shown::Shown;
 use crossbeam_channel::Sender;
 use doc::DocId;
 use node::{Got, NodeFault, Receipt};
 use op::Msg;
+use published::{Searcher, Unnamed};
 use replica::{Input, Write};
 use std::alloc::Global;
 
 /// The entry that a call made, also where the copy refused it; or why there is none.
 pub(crate) type Answered = Result<Receipt, NodeFault>;
+
+/// A searcher, or why there is none.
+pub(crate) type Seated = Result<Searcher<Unnamed>, NodeFault>;
 
 /// How the waiting for a write's acknowledgement ended.
 #[derive(Drop)]
@@ -34,8 +37,8 @@ pub(crate) enum Post {
     Depose(u64),
     /// To tell what the copy has of an id.
     Get(DocId, Sender<Result<Got, NodeFault>, Global>),
-    /// To hand out what the copy shows.
-    Show(Sender<Result<Shown, NodeFault>, Global>),
+    /// To hand out a searcher of the copy.
+    Seat(Sender<Seated, Global>),
     Stop,
 }
 

@@ -6,15 +6,15 @@ use crate::copies::copied;
 use crate::fate::{Fate, fate_of, is_of_primary};
 use crate::gate::Gate;
 use crate::left::Left;
-use crate::post::{Answered, Ending, Post};
+use crate::post::{Answered, Ending, Post, Seated};
 use crate::shared::Shared;
-use crate::shown::Shown;
 use crate::waits::Waits;
+use cell::CopyCell;
 use crossbeam_channel::Sender;
 use doc::DocId;
-use node::{Got, Held, NodeFault, Pass, Receipt};
+use node::{Got, NodeFault, Pass, Receipt};
 use op::Msg;
-use replica::{CopyFault, Input, Write};
+use replica::{Copy, CopyFault, Input, Write};
 use std::alloc::Global;
 use std::sync::{Arc, Wait};
 use translog::LogDevice;
@@ -22,14 +22,21 @@ use translog::LogDevice;
 /// How often a message is handed again that is refused for a while.
 const TRIES: u32 = 100;
 
-/// A copy, its pass, and who waits for it.
+/// What a worker has beside its copy: the gate, what all workers share, and its pass.
 #[derive(Drop)]
+pub(crate) struct Tools<D: LogDevice, G: Gate> {
+    pub(crate) gate: Arc<G, Global>,
+    pub(crate) shared: Arc<Shared<D>, Global>,
+    pub(crate) pass: Pass,
+}
+
+/// A copy, its pass, and who waits for it. It is not `Drop`: end it by `into_left`.
 pub(crate) struct Worker<D: LogDevice, G: Gate> {
     pub(crate) alloc: Global,
     pub(crate) number: u64,
     pub(crate) gate: Arc<G, Global>,
     pub(crate) shared: Arc<Shared<D>, Global>,
-    pub(crate) held: Held<D>,
+    pub(crate) cell: CopyCell<D>,
     pub(crate) pass: Pass,
     waits: Waits,
     /// The greatest term of which another copy was made the primary.
@@ -41,19 +48,14 @@ pub(crate) struct Worker<D: LogDevice, G: Gate> {
 }
 
 impl<D: LogDevice, G: Gate> Worker<D, G> {
-    pub(crate) fn new(
-        alloc: Global,
-        gate: Arc<G, Global>,
-        shared: Arc<Shared<D>, Global>,
-        held: Held<D>,
-        pass: Pass,
-    ) -> Worker<D, G> {
+    pub(crate) fn new(alloc: Global, tools: Tools<D, G>, cell: CopyCell<D>) -> Worker<D, G> {
+        let Tools { gate, shared, pass } = tools;
         Worker {
             alloc,
             number: pass.number(),
             gate,
             shared,
-            held,
+            cell,
             pass,
             waits: Waits::new(alloc),
             deposed: 0,
@@ -62,8 +64,13 @@ impl<D: LogDevice, G: Gate> Worker<D, G> {
         }
     }
 
+    /// The copy.
+    pub(crate) fn copy(&self) -> &Copy<D> {
+        self.cell.held().copy()
+    }
+
     pub(crate) fn id(&self) -> u32 {
-        self.held.copy().id()
+        self.copy().id()
     }
 
     /// Does what a post asks, and tells whether it goes on.
@@ -85,14 +92,14 @@ impl<D: LogDevice, G: Gate> Worker<D, G> {
             Post::Report(copy) => self.report(rt, copy),
             Post::Depose(term) => self.depose(term),
             Post::Get(id, to) => self.get(rt, id, &to),
-            Post::Show(to) => self.show(rt, &to),
+            Post::Seat(to) => self.seat(rt, &to),
             Post::Stop => {}
         }
     }
 
     /// One call of the copy: its entry, also where the copy refuses. What it sends is sent on, and what it acknowledges is told.
     pub(crate) fn call<R: Wait>(&mut self, rt: &R, input: Input) -> Answered {
-        let receipt = self.entry(input)?;
+        let receipt = self.entry(rt, input)?;
         self.follow(rt, &receipt);
         Ok(receipt)
     }
@@ -103,8 +110,8 @@ impl<D: LogDevice, G: Gate> Worker<D, G> {
         self.tell_lost(rt, receipt);
     }
 
-    fn entry(&mut self, input: Input) -> Answered {
-        match self.held.call(self.alloc, &mut self.pass, input) {
+    fn entry<R: Wait>(&mut self, rt: &R, input: Input) -> Answered {
+        match self.cell.call(rt, self.alloc, &mut self.pass, input) {
             Ok(receipt) => Ok(receipt),
             Err(NodeFault::Copy(fault)) => match self.pass.receipts().last() {
                 Some(receipt) => Ok(copied(self.alloc, receipt)?),
@@ -131,7 +138,7 @@ impl<D: LogDevice, G: Gate> Worker<D, G> {
         second: Sender<Ending, Global>,
     ) {
         let was_open = self.is_open();
-        let answer = self.entry(Input::Write(write));
+        let answer = self.entry(rt, Input::Write(write));
         if let Ok(receipt) = &answer {
             self.wait_for(receipt, second);
             self.follow(rt, receipt);
@@ -142,7 +149,7 @@ impl<D: LogDevice, G: Gate> Worker<D, G> {
 
     /// Notes who waits for the acknowledgement of a write that is kept; nobody acknowledges it where another copy leads.
     fn wait_for(&mut self, receipt: &Receipt, to: Sender<Ending, Global>) {
-        if self.held.copy().term() < self.deposed {
+        if self.copy().term() < self.deposed {
             return;
         }
         if let Some(written) = written_in(receipt) {
@@ -223,18 +230,23 @@ impl<D: LogDevice, G: Gate> Worker<D, G> {
     /// Ends the waits of a copy that the master has replaced: it may never hear of it.
     fn depose(&mut self, term: u64) {
         self.deposed = self.deposed.max(term);
-        if self.held.copy().term() < self.deposed {
+        if self.copy().term() < self.deposed {
             self.waits.end();
         }
     }
 
     fn get<R: Wait>(&mut self, rt: &R, id: DocId, to: &Sender<Result<Got, NodeFault>, Global>) {
-        let got = self.held.get(self.alloc, id);
+        let got = self.cell.get(self.alloc, id);
         sent(rt, to, got);
     }
 
-    fn show<R: Wait>(&mut self, rt: &R, to: &Sender<Result<Shown, NodeFault>, Global>) {
-        sent(rt, to, Shown::of(&self.held));
+    /// Hands out a searcher of the copy.
+    fn seat<R: Wait>(&mut self, rt: &R, to: &Sender<Seated, Global>) {
+        let searcher = match self.cell.searcher() {
+            Ok(searcher) => Ok(searcher),
+            Err(_) => Err(NodeFault::NoSeat),
+        };
+        sent(rt, to, searcher);
     }
 
     fn send_on<R: Wait>(&mut self, rt: &R, receipt: &Receipt) {
@@ -276,13 +288,26 @@ impl<D: LogDevice, G: Gate> Worker<D, G> {
     /// Tells those who wait where the copy is the primary no more, or of a later term than that of their writes.
     fn tell_lost<R: Wait>(&mut self, rt: &R, receipt: &Receipt) {
         let leads = self.leads() && !is_shut(receipt);
-        if !leads || !self.waits.are_of(self.held.copy().term()) {
+        if !leads || !self.waits.are_of(self.copy().term()) {
             self.waits.lose(rt, receipt);
         }
     }
 
-    pub(crate) fn into_left(self) -> Left {
-        let Worker { held, pass, .. } = self;
-        Left::of(held, pass)
+    /// Ends what searches see of the copy, which waits for those that run.
+    pub(crate) fn into_left<R: Wait>(self, rt: &R) -> Left {
+        let Worker {
+            cell,
+            pass,
+            waits,
+            alloc: _,
+            number: _,
+            gate: _gate,
+            shared: _shared,
+            deposed: _,
+            given_up: _,
+            is_to_lead: _,
+        } = self;
+        drop(waits);
+        Left::served(rt, cell, pass)
     }
 }

@@ -92,6 +92,7 @@ pub(crate) fn serve_group<R: Threads + Wait + Clock + Sync, D: LogDevice + Send>
                 name: index.name,
                 mapping: index.mapping,
                 client: index.client,
+                seat: None,
             };
             queue.run(rt, lane, group)
         },

@@ -3,8 +3,9 @@
 use crate::judging::ended;
 use crate::writing::{Noted, found, id_of, put, told};
 use anyhow::{Result, bail};
-use cluster::{Client, Cluster, InMemory, Open, Shown};
+use cluster::{Client, Cluster, InMemory, Open};
 use doc::{DocId, Mapping};
+use published::{Searcher, Unnamed};
 use query::SearchBody;
 use replica::Input;
 use serde_json::Value;
@@ -107,20 +108,26 @@ fn total_on<R: Wait, D: LogDevice>(
     copy: u32,
 ) -> Result<u64> {
     let body = all_of(alloc, mapping)?;
-    let shown = client.shown(rt, copy).map_err(told)?;
-    total_in(alloc, &body, &shown)
+    let mut searcher = client.searcher(rt, copy).map_err(told)?;
+    total_in(alloc, &body, &mut searcher)
 }
 
 /// A search for all documents.
-fn all_of(alloc: Global, mapping: &Mapping) -> Result<SearchBody> {
+pub(crate) fn all_of(alloc: Global, mapping: &Mapping) -> Result<SearchBody> {
     let body = Value::from_str(alloc, "{\"query\":{\"match_all\":{}}}")?;
     Ok(SearchBody::read(alloc, mapping, &body)?)
 }
 
 /// How many documents a search finds among those that are shown.
-fn total_in(alloc: Global, body: &SearchBody, shown: &Shown) -> Result<u64> {
-    let hits = shown.snapshot().search(alloc, &body.query, body.page)?;
-    Ok(hits.total)
+pub(crate) fn total_in(
+    alloc: Global,
+    body: &SearchBody,
+    searcher: &mut Searcher<Unnamed>,
+) -> Result<u64> {
+    match searcher.search(alloc, &body.query, body.page) {
+        Ok(hits) => Ok(hits.total),
+        Err(_) => bail!("the search has no hits"),
+    }
 }
 
 /// Begins an index of three copies in memory.

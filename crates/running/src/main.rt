@@ -1,6 +1,7 @@
 //! Runs copies on threads, and has their journals judged. What it prints is the same whatever order the threads take.
 #![tactic(auto)]
 
+mod alone;
 mod beside;
 mod changing;
 mod copying;
@@ -8,7 +9,9 @@ mod crowd;
 mod failing;
 mod in_turn;
 mod judging;
+mod noted;
 mod receipts;
+mod searching;
 mod shaky;
 mod writing;
 
@@ -27,5 +30,8 @@ fn main(rt: HostRuntime) -> Result<()> {
     failing::run(&rt, alloc, &mapping)?;
     in_turn::run(&rt, alloc, &mapping)?;
     receipts::run(&rt, alloc, &mapping)?;
+    searching::run(&rt, alloc, &mapping)?;
+    alone::run(&rt, alloc, &mapping)?;
+    noted::run(&rt, alloc, &mapping)?;
     changing::run(&rt, alloc, &mapping)
 }

@@ -16,7 +16,9 @@ use Rattle.node.specs.Reading.{IsGotAt}
 use Rattle.cluster.specs.declared.confirmed.Confirmed.{Confirmed}
 use Rattle.cluster.specs.Confirmed.{IsConfirmed}
 use Rattle.cluster.specs.Ruled.{IsDecided}
-use Rattle.cluster.specs.Shown.{IsShown}
+use Rattle.op.specs.Documents.{documents}
+use Rattle.op.specs.Records.{operations}
+use Rattle.published.specs.declared.listing.Listing.{Listing}
 use Rattle.front.specs.declared.command.Write.{Write}
 use Rattle.front.specs.declared.reply.Refusal.{Refusal}
 use Rattle.front.specs.declared.reply.Refusal.TheVariants.{OldTerm, NotInSync, IsPrimary, Gone, Log, NoMemory, Full}
@@ -42,17 +44,19 @@ pub record IsGot (id : Id) (r : Reply) : Type 0 where
   pub is_got : IsGotAt copy id answer
   pub told : r ≡ reply_of 0 answer
 
--- the reply has the hits among the documents that a copy showed
-pub record IsFound (q : Query) (page : PageData) (r : Reply) : Type 0 where
-  pub shown : SnapshotData
-  pub is_shown : IsShown shown
-  pub hits_are : r ≡ hits_of (answer_of shown q page)
+-- what searches of a published list see
+abbrev pub shown_in : Listing → SnapshotData
+shown_in l = record { mapping = l.mapping; documents = documents (operations l.records) }
 
--- the reply has the number of the documents that the query means among those that a copy showed
+-- the reply has the hits among the documents of a published list
+pub record IsFound (q : Query) (page : PageData) (r : Reply) : Type 0 where
+  pub listing : Listing
+  pub hits_are : r ≡ hits_of (answer_of (shown_in listing) q page)
+
+-- the reply has the number of the documents that the query means in a published list
 pub record IsCounted (q : Query) (r : Reply) : Type 0 where
-  pub shown : SnapshotData
-  pub is_shown : IsShown shown
-  pub total_is : r ≡ counted (length (found shown q))
+  pub listing : Listing
+  pub total_is : r ≡ counted (length (found (shown_in listing) q))
 
 -- the reply tells how many copies were refreshed
 pub record IsRefreshed (r : Reply) : Type 0 where

@@ -1,9 +1,8 @@
 //! An index of several copies, each on a thread of its own.
-ghost use Rattle.std.specs.Prelude.{◌≡◌, length, IfOk};
+ghost use Rattle.std.specs.Prelude.{◌≡◌, IfOk};
 ghost use Rattle.query.specs.View.{query_view};
-ghost use Rattle.engine.specs.Answer.{answer_of, found};
+ghost use Rattle.engine.specs.Shown.{hits_view};
 ghost use Rattle.front.specs.CommandView.{command_view};
-ghost use Rattle.front.specs.Reply as reply;
 ghost use Rattle.front.specs.ReplyView.{reply_view};
 ghost use Rattle.shard.specs.Answering as spec;
 ghost use Rattle.shard.specs.Group.{told_by, IsCounted, IsDone, IsFound, IsGot, IsRefreshed, IsWritten};
@@ -12,18 +11,27 @@ use crate::answering::{hits_of, refusal_of, reply_in, reply_of, write_of};
 use crate::promoting::{is_promotion, promote, refusal_to};
 use cluster::{Client, ClusterFault, Confirmed};
 use doc::{DocId, Mapping};
-use engine::Snapshot;
+use engine::Hits;
 use front::Service;
 use front::command::{Command, Write};
 use front::reply::{Refusal, Reply};
 use node::Receipt;
+use published::{SearchFault, Searcher, Unnamed};
 use query::{Page, Query, SearchBody};
 use replica::{CopyFault, Output};
-use std::alloc::Global;
+use std::alloc::{AllocError, Global};
 use std::sync::Wait;
 use translog::LogDevice;
 
-/// An index of several copies, as one connection has it. Writes and gets are the primary's; searches are of what the primary shows; a refresh is of each copy.
+/// A searcher of a copy.
+#[derive(Drop)]
+pub struct Seat {
+    copy: u32,
+    searcher: Searcher<Unnamed>,
+}
+
+/// An index of several copies, as one connection has it. Writes and gets are the primary's; searches are of what the primary has published, by a
+/// searcher that waits for no copy; a refresh is of each copy.
 #[derive(Drop)]
 pub struct Group<'a, R: Wait, D: LogDevice> {
     pub rt: &'a R,
@@ -31,6 +39,8 @@ pub struct Group<'a, R: Wait, D: LogDevice> {
     pub name: &'a str,
     pub mapping: &'a Mapping,
     pub client: &'a Client<D>,
+    /// The searcher of the last search; none before the first.
+    pub seat: Option<Seat>,
 }
 
 impl<'a, R: Wait, D: LogDevice> Service for Group<'a, R, D> {
@@ -61,8 +71,9 @@ impl<'a, R: Wait, D: LogDevice> Service for Group<'a, R, D> {
 
 impl<'a, R: Wait, D: LogDevice> Group<'a, R, D> {
     /// Has the copies do a command.
-    fn answer(&self, command: Command) -> Result<Reply, ClusterFault>
-        ensures { IfOk result (λ r. IsDone (command_view command) (reply_view r)) }
+    fn answer(&mut self, command: Command) -> Result<Reply, ClusterFault>
+        ensures done { IfOk result (λ r. IsDone (command_view command) (reply_view r)) }
+        ensures index { (self.new.name ≡ self.old.name) × (self.new.mapping ≡ self.old.mapping) }
     {
         match command {
             Command::Write(write) => self.write(write),
@@ -94,20 +105,47 @@ impl<'a, R: Wait, D: LogDevice> Group<'a, R, D> {
         Ok(reply_in(answer, 0))
     }
 
-    fn search(&self, body: &SearchBody) -> Result<Reply, ClusterFault>
-        ensures { IfOk result (λ r. IsFound (query_view body.now.query) body.now.page (reply_view r)) }
+    fn search(&mut self, body: &SearchBody) -> Result<Reply, ClusterFault>
+        ensures found { IfOk result (λ r. IsFound (query_view body.now.query) body.now.page (reply_view r)) }
+        ensures index { (self.new.name ≡ self.old.name) × (self.new.mapping ≡ self.old.mapping) }
     {
-        let primary = self.client.primary(self.rt);
-        let shown = self.client.shown(self.rt, primary)?;
-        hits_in(self.alloc, shown.snapshot(), &body.query, body.page)
+        let mut seat = self.seated()?;
+        let reply = hits_in(self.alloc, &mut seat.searcher, &body.query, body.page);
+        self.keep(seat, reply.is_ok());
+        reply
     }
 
-    fn count(&self, query: &Query) -> Result<Reply, ClusterFault>
-        ensures { IfOk result (λ r. IsCounted (query_view query.now) (reply_view r)) }
+    fn count(&mut self, query: &Query) -> Result<Reply, ClusterFault>
+        ensures counted { IfOk result (λ r. IsCounted (query_view query.now) (reply_view r)) }
+        ensures index { (self.new.name ≡ self.old.name) × (self.new.mapping ≡ self.old.mapping) }
     {
-        let primary = self.client.primary(self.rt);
-        let shown = self.client.shown(self.rt, primary)?;
-        count_in(self.alloc, shown.snapshot(), query)
+        let mut seat = self.seated()?;
+        let reply = count_in(self.alloc, &mut seat.searcher, query);
+        self.keep(seat, reply.is_ok());
+        reply
+    }
+
+    /// A searcher of the primary: the one of before, or where another copy leads now a new one.
+    fn seated(&mut self) -> Result<Seat, ClusterFault>
+        ensures index { (self.new.name ≡ self.old.name) × (self.new.mapping ≡ self.old.mapping) }
+    {
+        let copy = self.client.primary(self.rt);
+        if let Some(seat) = self.seat.take() {
+            if seat.copy == copy {
+                return Ok(seat);
+            }
+        }
+        let searcher = self.client.searcher(self.rt, copy)?;
+        Ok(Seat { copy, searcher })
+    }
+
+    /// Keeps a searcher for the next search, where it gave an answer.
+    fn keep(&mut self, seat: Seat, answered: bool)
+        ensures index { (self.new.name ≡ self.old.name) × (self.new.mapping ≡ self.old.mapping) }
+    {
+        if answered {
+            self.seat = Some(seat);
+        }
     }
 
     fn refresh(&self) -> Result<Reply, ClusterFault>
@@ -144,29 +182,54 @@ fn reply_to(answer: Result<Output, CopyFault>) -> Reply
 }
 
 /// The hits of a page.
-#[tactic(auto, using(crate::proofs::Found::each_in_turn))]
+#[tactic(auto, using(crate::proofs::Found::found_in))]
 fn hits_in(
     alloc: Global,
-    shown: &Snapshot,
+    searcher: &mut Searcher<Unnamed>,
     query: &Query,
     page: Page,
 ) -> Result<Reply, ClusterFault>
-    ensures { IfOk result (λ r. reply_view r ≡ spec.hits_of (answer_of shown.now (query_view query.now) page)) }
+    ensures { IfOk result (λ r. IsFound (query_view query.now) page (reply_view r)) }
 {
-    let found = shown.search(alloc, query, page)?;
+    match searcher.search(alloc, query, page) {
+        Ok(found) => Ok(reply_with(alloc, &found)?),
+        Err(fault) => Err(unsearched(fault)),
+    }
+}
+
+/// The reply that tells the hits.
+#[tactic(auto, using(crate::proofs::Found::each_in_turn))]
+fn reply_with(alloc: Global, found: &Hits) -> Result<Reply, AllocError>
+    ensures { IfOk result (λ r. reply_view r ≡ spec.hits_of (hits_view found.now)) }
+{
     let hits = hits_of(alloc, &found.hits)?;
     Ok(Reply::Hits(found.total, hits))
 }
 
 /// How many documents a query means.
-fn count_in(alloc: Global, shown: &Snapshot, query: &Query) -> Result<Reply, ClusterFault>
-    ensures { IfOk result (λ r. reply_view r ≡ reply.counted (length (found shown.now (query_view query.now)))) }
+#[tactic(auto, using(crate::proofs::Found::counted_in))]
+fn count_in(
+    alloc: Global,
+    searcher: &mut Searcher<Unnamed>,
+    query: &Query,
+) -> Result<Reply, ClusterFault>
+    ensures { IfOk result (λ r. IsCounted (query_view query.now) (reply_view r)) }
 {
     let Ok(page) = Page::new(0, 0) else {
         return Err(ClusterFault::NoMemory);
     };
-    let found = shown.search(alloc, query, page)?;
-    Ok(Reply::Counted(found.total))
+    match searcher.search(alloc, query, page) {
+        Ok(found) => Ok(Reply::Counted(found.total)),
+        Err(fault) => Err(unsearched(fault)),
+    }
+}
+
+/// Why a search has no hits. A searcher is let in no more once its copy has ended.
+fn unsearched(fault: SearchFault) -> ClusterFault {
+    match fault {
+        SearchFault::NoMemory => ClusterFault::NoMemory,
+        SearchFault::Ended => ClusterFault::Copy(CopyFault::Closed),
+    }
 }
 
 /// The refusal that tells why copies give no answer. A write that nobody acknowledges may be kept.

@@ -7,5 +7,5 @@ mod promoting;
 mod ready;
 pub mod shard;
 
-pub use group::Group;
+pub use group::{Group, Seat};
 pub use shard::Shard;

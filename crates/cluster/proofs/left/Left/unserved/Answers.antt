@@ -2,7 +2,7 @@ use Rattle.std.proofs.Common.{◌≡◌, sym, subst}
 use Rattle.audit.specs.declared.journal.Journal.{Journal}
 use Rattle.audit.specs.Audit.{IsLawful}
 use Rattle.cluster.specs.Journals.{node_of}
-use Rattle.cluster.proofs.left.Left.of.Goals as goal
+use Rattle.cluster.proofs.left.Left.unserved.Goals as goal
 
 pub invariant_of-result : goal.invariant_of-result
 invariant_of-result g c = (
