@@ -105,8 +105,12 @@ impl<D: LogDevice> Master<D> {
         if decided.is_repeated() {
             return Ok(decided.into_decision());
         }
-        let frame = prepared(alloc, &mut self.frames, Entry::of(request))?;
+        let Ok(frame) = prepared(alloc, &mut self.frames, Entry::of(request)) else {
+            drop(decided);
+            return Err(MasterFault::NoMemory);
+        };
         if let Err(fault) = self.frames.append(frame) {
+            drop(decided);
             self.closed = true;
             return Err(MasterFault::Log(fault));
         }

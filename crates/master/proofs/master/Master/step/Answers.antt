@@ -24,8 +24,8 @@ returns-in-Err-clause-refused g c =
     } in
     let d : Decided = record { state = c.in_ok-decided.decided.state; decision = c.in_ok-decided.decided.decision } in
     let entry = c.of.ensures in
-    let reads : entry_of (spelled (entry_for c.args.request)) ≡ Some (entry_for c.args.request) = rw entry at c.in_ok-frame.ensures.reads in
-    let frame = c.in_ok-frame.ensures.frame ∙ ap frame_for entry in
+    let reads : entry_of (spelled (entry_for c.args.request)) ≡ Some (entry_for c.args.request) = rw entry at c.in-Ok.ensures.reads in
+    let frame = c.in-Ok.ensures.frame ∙ ap frame_for entry in
     let now = c.append.new.self.device in
     let added : AddsFront l.log (frame_for (entry_for c.args.request)) (g.D.LogDevice.bytes now) = rw (c.prepared.ensures.held, frame) at c.in-Err.ensures.err in
     let counts : g.D.LogDevice.failures now ≡ count_after true l.failures = c.in-Err.ensures.counts ∙ ap (count_after true) c.prepared.ensures.failures in
@@ -44,9 +44,9 @@ invariant_of-self-2 g c =
     } in
     let d : Decided = record { state = c.in_ok-decided.decided.state; decision = c.in_ok-decided.decided.decision } in
     let entry = c.of.ensures in
-    let reads : entry_of (spelled (entry_for c.args.request)) ≡ Some (entry_for c.args.request) = rw entry at c.in_ok-frame.ensures.reads in
-    let frame = c.in_ok-frame.ensures.frame ∙ ap frame_for entry in
-    let log = c.in_default.ensures.ok ∙ ap (λ bs. bs ++ c.in_ok-frame.frame) c.prepared.ensures.held ∙ ap (λ f. g.D.LogDevice.bytes c.self.inside.frames.device ++ f) frame in
+    let reads : entry_of (spelled (entry_for c.args.request)) ≡ Some (entry_for c.args.request) = rw entry at c.in-Ok.ensures.reads in
+    let frame = c.in-Ok.ensures.frame ∙ ap frame_for entry in
+    let log = c.in_default-append.ensures.ok ∙ ap (λ bs. bs ++ c.in-Ok.frame) c.prepared.ensures.held ∙ ap (λ f. g.D.LogDevice.bytes c.self.inside.frames.device ++ f) frame in
     record {
       header = c.append.ensures.header ∙ c.prepared.ensures.header ∙ c.self.invariant.header;
       sound = rw c.into_parts-state.ensures.state c.in_ok-decided.ensures.sound;
