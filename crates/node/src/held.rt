@@ -6,6 +6,7 @@ ghost use Rattle.node.specs.Reading.{IsGotFrom, IsUngot};
 ghost use Rattle.node.specs.Stands.{IsDenied, IsStray, LastStands};
 ghost use Rattle.node.specs.Held.{IsCall, IsHeld, IsLastOf, IsRefusal};
 
+use crate::both::both;
 use crate::fault::NodeFault;
 use crate::got::Got;
 use crate::pass::{Pass, Receipt};
@@ -82,6 +83,7 @@ impl<D: LogDevice> Held<D> {
         ensures last { IfOk result (IsLastOf self.new) }
     {
         if let Some(place) = self.stray_of(pass) {
+            drop(input);
             return Err(NodeFault::Stray(place));
         }
         self.add(alloc, pass, input)
@@ -112,8 +114,8 @@ impl<D: LogDevice> Held<D> {
         ensures err { IfErr result (λ e. IsRefusal self.old self.new pass.old pass.new input e) }
         ensures last { IfOk result (IsLastOf self.new) }
     {
-        self.deeds.reserve(1)?;
-        pass.receipts.reserve(1)?;
+        let (input, _) = both(input, self.deeds.reserve(1))?;
+        let (input, _) = both(input, pass.receipts.reserve(1))?;
         let inputs = Inputs::of(alloc, input)?;
         let spot = Spot {
             node: self.node,
@@ -156,8 +158,9 @@ impl<D: LogDevice> Held<D> {
             node: _,
             opening,
             deeds,
-            copy: _copy,
+            copy,
         } = self;
+        drop(copy);
         Journal::OfCopy(opening, Deeds::from_vec(deeds))
     }
 }

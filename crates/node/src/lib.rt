@@ -2,6 +2,7 @@
 #![tactic(auto)]
 
 mod acting;
+mod both;
 pub mod fault;
 pub mod gathering;
 pub mod got;

@@ -31,7 +31,11 @@ fn answer_in(alloc: Global, prepared: Prepared) -> Result<Answer, AllocError>
 {
     match prepared {
         Prepared::Answered(output) => Ok(answer_of(output)),
-        other => other.output().answer.copy(alloc),
+        other => {
+            let answer = other.output().answer.copy(alloc);
+            drop(other);
+            answer
+        }
     }
 }
 
@@ -40,9 +44,11 @@ fn answer_of(output: Output) -> Answer
 {
     let Output {
         answer,
-        sent: _sent,
-        acknowledged: _acknowledged,
+        sent,
+        acknowledged,
         members: _,
     } = output;
+    drop(sent);
+    drop(acknowledged);
     answer
 }

@@ -4,6 +4,7 @@ ghost use Rattle.node.specs.Replay.{IsIdle, IsStep};
 ghost use Rattle.node.specs.Telling.{receipt, given_of, IsTold, IsTelling};
 
 use crate::acting::{Answers, act};
+use crate::both::both;
 use crate::fault::NodeFault;
 use crate::pass::Receipt;
 use audit::Deed;
@@ -24,16 +25,24 @@ impl Inputs {
     pub(crate) fn of(alloc: Global, input: Input) -> Result<Inputs, AllocError>
         ensures { IfOk result (λ i. (i.asked ≡ input) × (i.own ≡ input) × (i.kept ≡ input) × (i.given ≡ input)) }
     {
-        let own = input.copy(alloc)?;
-        let kept = input.copy(alloc)?;
-        let given = input.copy(alloc)?;
+        let (first, second) = twice(alloc, input)?;
+        let (second, (asked, own)) = both(second, twice(alloc, first))?;
+        let ((asked, own), (kept, given)) = both((asked, own), twice(alloc, second))?;
         Ok(Inputs {
-            asked: input,
+            asked,
             own,
             kept,
             given,
         })
     }
+}
+
+/// An input and an equal one.
+fn twice(alloc: Global, input: Input) -> Result<(Input, Input), AllocError>
+    ensures { IfOk result (λ inputs. (inputs.0 ≡ input) × (inputs.1 ≡ input)) }
+{
+    let copied = input.copy(alloc);
+    both(input, copied)
 }
 
 /// The entry, and what the pass and the caller get.
@@ -83,7 +92,10 @@ fn spelt(spot: Spot, own: Input, kept: Input, given: Input, answers: Answers) ->
                     answer: Ok(output),
                 },
             }),
-            Err(fault) => Err(NodeFault::Copy(fault)),
+            Err(fault) => {
+                drop(given);
+                Err(NodeFault::Copy(fault))
+            }
         },
     }
 }
@@ -105,6 +117,6 @@ pub(crate) fn tell<D: LogDevice>(
         kept,
         given,
     } = inputs;
-    let answers = act(copy, alloc, asked)?;
+    let ((own, kept, given), answers) = both((own, kept, given), act(copy, alloc, asked))?;
     Ok(spelt(spot, own, kept, given, answers))
 }
