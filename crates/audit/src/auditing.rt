@@ -148,7 +148,9 @@ fn judge_master(alloc: Global, copies: u8, state: &State, rulings: &[Ruling]) ->
         return Err(Wrong::At(0));
     }
     let mut ruler = Ruler::begun(alloc, copies)?;
-    judge_rulings(alloc, &mut ruler, rulings)
+    let judged = judge_rulings(alloc, &mut ruler, rulings);
+    drop(ruler);
+    judged
 }
 
 fn judge_copy(
@@ -177,7 +179,9 @@ fn judge_from(alloc: Global, following: Following, deeds: &[Deed]) -> Result<Par
     ensures err { IfErr result (λ e. IsMisjudged following deeds.now e) }
 {
     let mut following = following;
-    judge(alloc, &mut following, deeds)
+    let judged = judge(alloc, &mut following, deeds);
+    drop(following);
+    judged
 }
 
 /// The fault of a node whose journal doesn't pass.

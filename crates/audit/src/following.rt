@@ -12,6 +12,7 @@ ghost use Rattle.audit.specs.Judge.{listed, IsFollowed, IsRefused};
 ghost use Rattle.audit.specs.Opening.{born};
 ghost use Rattle.audit.specs.declared.moves.Move.TheVariants.{Does};
 
+use crate::both::both;
 use crate::equal::{equal_fault, equal_output};
 use crate::journal::Deed;
 use crate::judge::{Follower, Wrong};
@@ -159,18 +160,26 @@ fn follow_shut(
     match &deed.answer {
         Ok(output) => {
             if !is_restart(&deed.input) {
+                drop(cut);
                 return Err(Wrong::At(place));
             }
-            match found(alloc, copy, &cut.input, output)? {
+            let found = found(alloc, copy, &cut.input, output);
+            let (cut, found) = both(cut, found)?;
+            match found {
                 Some(is_kept) => {
-                    reopen(alloc, copy, &cut, is_kept)?;
+                    let reopened = reopen(alloc, copy, &cut, is_kept);
+                    let (cut, _) = both(cut, reopened)?;
                     Ok((None, Some(torn(cut, is_kept))))
                 }
-                None => Err(Wrong::At(place)),
+                None => {
+                    drop(cut);
+                    Err(Wrong::At(place))
+                }
             }
         }
         Err(fault) => {
             if !may_shut(is_restart(&deed.input), fault) {
+                drop(cut);
                 return Err(Wrong::At(place));
             }
             Ok((Some(cut), None))
@@ -213,10 +222,14 @@ fn commits(
     ensures open { copy.new.closed ≡ false }
 {
     if !equal_output(prepared.output(), output) {
+        drop(prepared);
         return Ok(false);
     }
     match copy.commit(alloc, prepared) {
-        Ok(_) => Ok(true),
+        Ok(made) => {
+            drop(made);
+            Ok(true)
+        }
         Err(_) => Err(AllocError),
     }
 }
@@ -275,7 +288,11 @@ fn may_fail(alloc: Global, copy: &mut OneCopy, input: &Input) -> Result<bool, Al
         return Ok(true);
     }
     match copy.prepare(alloc, copy_input(alloc, input)?) {
-        Ok(prepared) => Ok(matches!(prepared, Prepared::Kept(_, _))),
+        Ok(prepared) => {
+            let keeps = matches!(prepared, Prepared::Kept(_, _));
+            drop(prepared);
+            Ok(keeps)
+        }
         Err(CopyFault::NoMemory) => Err(AllocError),
         Err(_) => Ok(false),
     }
@@ -322,10 +339,12 @@ fn count(alloc: Global, copy: &mut OneCopy) -> Result<u64, AllocError>
     let Ok(prepared) = copy.prepare(alloc, Input::Restart) else {
         return Err(AllocError);
     };
-    match prepared.output().answer {
+    let count = match prepared.output().answer {
         Answer::Point(count) => Ok(count),
         _ => Err(AllocError),
-    }
+    };
+    drop(prepared);
+    count
 }
 
 /// Whether an output tells that there is one record more than so many, which no restart adds; nothing where it is no restart's.
@@ -359,7 +378,10 @@ fn reopen(alloc: Global, copy: &mut OneCopy, cut: &Cut, is_kept: bool) -> Result
 {
     if is_restart(&cut.input) {
         return match copy.step(alloc, Input::Restart) {
-            Ok(_) => Ok(()),
+            Ok(made) => {
+                drop(made);
+                Ok(())
+            }
             Err(_) => Err(AllocError),
         };
     }
@@ -454,7 +476,10 @@ fn begun(alloc: Global, mapping: &Mapping, copies: u32, node: u32) -> Result<One
     let mapping = mapping.copy(alloc)?;
     match Copy::begin(alloc, node, copies, mapping, device) {
         Ok(copy) => Ok(copy),
-        Err(_) => Err(AllocError),
+        Err(refused) => {
+            drop(refused);
+            Err(AllocError)
+        }
     }
 }
 
@@ -466,6 +491,9 @@ fn added(alloc: Global, mapping: &Mapping, node: u32) -> Result<OneCopy, AllocEr
     let mapping = mapping.copy(alloc)?;
     match Copy::open(alloc, node, Birth::Added, mapping, device) {
         Ok(copy) => Ok(copy),
-        Err(_) => Err(AllocError),
+        Err(refused) => {
+            drop(refused);
+            Err(AllocError)
+        }
     }
 }

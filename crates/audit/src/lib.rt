@@ -2,6 +2,7 @@
 #![tactic(auto)]
 
 pub mod auditing;
+mod both;
 mod equal;
 mod following;
 pub mod journal;

@@ -4,6 +4,7 @@ ghost use Rattle.world.specs.Held.{Held};
 ghost use Rattle.world.specs.World.{new_world};
 ghost use Rattle.audit.specs.Merge.{count_of, HaltsIn, IsMerged};
 
+use crate::both::both;
 use crate::merge::{Halt, merge};
 use crate::moves::Part;
 use crate::stage::Making;
@@ -20,10 +21,15 @@ pub fn make(alloc: Global, mapping: &Mapping, copies: u8, parts: &[Part]) -> Res
     ensures held { IfOk result Held }
 {
     let world = World::new(alloc, mapping, copies)?;
-    let mut making = Making::new(alloc, world, parts.len())?;
-    let mut counts = zeros(alloc, parts.len())?;
-    merge(alloc, &mut making, parts, counts.as_mut_slice())?;
-    Ok(making.into_world())
+    let making = Making::new(alloc, world, parts.len())?;
+    let (mut making, mut counts) = both(making, zeros(alloc, parts.len()))?;
+    match merge(alloc, &mut making, parts, counts.as_mut_slice()) {
+        Ok(()) => Ok(making.into_world()),
+        Err(halt) => {
+            drop(making);
+            Err(halt)
+        }
+    }
 }
 
 /// So many zeros.

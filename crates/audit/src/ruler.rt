@@ -47,7 +47,10 @@ impl Ruler {
                 master,
                 closed: false,
             }),
-            Err(_) => Err(AllocError),
+            Err(refused) => {
+                drop(refused);
+                Err(AllocError)
+            }
         }
     }
 
@@ -115,7 +118,11 @@ fn rules(
     ensures open { master.new.closed ≡ false }
 {
     match master.step(alloc, request) {
-        Ok(made) => Ok(equal_decision(&made, decision)),
+        Ok(made) => {
+            let same = equal_decision(&made, decision);
+            drop(made);
+            Ok(same)
+        }
         Err(MasterFault::NoMemory) => Err(AllocError),
         Err(_) => Ok(false),
     }
@@ -134,7 +141,11 @@ fn may_deny(
         return Ok(true);
     }
     match master.preview(alloc, request) {
-        Ok(decision) => Ok(is_log(fault) && !decision.repeated),
+        Ok(decision) => {
+            let repeated = decision.repeated;
+            drop(decision);
+            Ok(is_log(fault) && !repeated)
+        }
         Err(MasterFault::NoMemory) => Err(AllocError),
         Err(other) => Ok(equal_refusal(&other, fault)),
     }

@@ -5,6 +5,7 @@ ghost use Rattle.audit.specs.Causes.{needs, IsLet, IsReady, IsTaken, IsTo, Lets}
 ghost use Rattle.audit.specs.Moves.{event_of, may_tear, IsThere};
 ghost use Rattle.audit.specs.declared.moves.Move.TheVariants.{Asks, Does, Tears};
 
+use crate::both::both;
 use crate::equal::equal_message;
 use crate::merge::Stage;
 use crate::moves::Move;
@@ -27,17 +28,16 @@ impl Making {
     pub(crate) fn new(alloc: Global, world: World, nodes: usize) -> Result<Making, AllocError>
         ensures { IfOk result (λ m. m.world ≡ world) }
     {
-        Ok(Making {
-            world,
-            posts: Posts::new(alloc, nodes)?,
-        })
+        let (world, posts) = both(world, Posts::new(alloc, nodes))?;
+        Ok(Making { world, posts })
     }
 
     /// The world alone.
     pub(crate) fn into_world(self) -> World
         ensures { result ≡ self.world }
     {
-        let Making { world, posts: _ } = self;
+        let Making { world, posts } = self;
+        drop(posts);
         world
     }
 
@@ -115,7 +115,9 @@ impl Stage for Making {
     ) -> Result<(), AllocError> {
         let event = event_of(alloc, node, number, next)?;
         let sent = self.world.messages().len();
-        self.world.step(alloc, &event)?;
+        let stepped = self.world.step(alloc, &event);
+        drop(event);
+        stepped?;
         self.posts.pass(node, next, number);
         self.posts.add(self.world.messages(), sent)
     }
