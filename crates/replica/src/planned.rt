@@ -31,6 +31,7 @@ impl Planned {
         ensures no_log { IfErr result (λ e. is_log e ≡ false) }
     {
         if is_too_large(&self.next_record) {
+            drop(self);
             return Err(CopyFault::Exhausted);
         }
         Ok(self)

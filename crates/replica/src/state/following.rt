@@ -141,6 +141,7 @@ impl State {
         }
         let count = checkpoint::count(known);
         if self.local_count() < count {
+            drop(tail);
             return Err(CopyFault::Mismatch);
         }
         let planned = self.resynced(alloc, from, term, known, tail)?;

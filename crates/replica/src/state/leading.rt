@@ -209,7 +209,10 @@ impl State {
         if lead.members.has(id) {
             return Ok(Handled::Answered(self.output_sending(alloc, Answer::Repeated, sent)));
         }
-        let joined = lead.joined(alloc, id)?;
+        let Ok(joined) = lead.joined(alloc, id) else {
+            drop(sent);
+            return Err(CopyFault::NoMemory);
+        };
         let turned = self.turned(alloc, joined, sent)?;
         Ok(Handled::Settled(turned))
     }

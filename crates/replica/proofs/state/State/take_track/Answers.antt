@@ -32,7 +32,7 @@ turned-requires c =
     let s = c.args.self.now in
     let primary : s.role ≡ Primary c.in-Primary.lead = sym (ap (λ (x : Copy). x.role) c.self.view_is) ∙ c.in-Primary.is in
     let stands : IsStanding s = subst (λ (x : Copy). IsStanding x) c.self.view_is c.self.invariant in
-    rw c.in_ok-joined.ensures (turn_joined s c.in-Primary.lead c.args.id (leads s c.in-Primary.lead stands primary))
+    rw c.in-Ok.ensures (turn_joined s c.in-Primary.lead c.args.id (leads s c.in-Primary.lead stands primary))
 
 pub returns-clause-gives : goal.returns-clause-gives
 returns-clause-gives c =
@@ -42,4 +42,4 @@ returns-clause-gives c =
     let term : c.self.inside.term ≡ s.term = ap (λ (x : Copy). x.term) c.self.view_is in
     let all : c.in_ok-above.field-0.items ≡ operations s = c.in_ok-above.ensures ∙ ap (λ (x : Copy). from_number 0 (operations x)) c.self.view_is ∙ from_number-zero (operations s) in
     let stranger : has c.in-Primary.lead.members c.args.id ≡ false = cc in
-    tracked_taken s c.in-Primary.lead primary c.args.id out stranger ∙ ap Ok (sym (rw (c.in_ok-joined.ensures, c.in_ok-sent.ensures, c.from_vec-all.ensures, all, term) at c.in_ok-turned.ensures.gives))
+    tracked_taken s c.in-Primary.lead primary c.args.id out stranger ∙ ap Ok (sym (rw (c.in-Ok.ensures, c.in_ok-sent.ensures, c.from_vec-all.ensures, all, term) at c.in_ok-turned.ensures.gives))
