@@ -70,12 +70,24 @@ impl Nodes {
     {
         let master = match Master::begin(alloc, copies, MemDevice::new(Vec::new(alloc))) {
             Ok(master) => master,
-            Err(_) => return Err(AllocError),
+            Err(refused) => {
+                drop(refused);
+                return Err(AllocError);
+            }
+        };
+        let Ok(copies) = begun(alloc, mapping, copies) else {
+            drop(master);
+            return Err(AllocError);
+        };
+        let Ok(mapping) = mapping.copy(alloc) else {
+            drop(master);
+            drop(copies);
+            return Err(AllocError);
         };
         Ok(Nodes {
-            mapping: mapping.copy(alloc)?,
+            mapping,
             master,
-            copies: begun(alloc, mapping, copies)?,
+            copies,
             messages: Vec::new(alloc),
             acknowledged: Vec::new(alloc),
             merges: Vec::new(alloc),
@@ -169,7 +181,9 @@ impl Nodes {
             return Ok(false);
         };
         if let Some(merging) = taken(&mut self.merges, id) {
-            swap_at(alloc, &mut self.copies, place, &merging)?;
+            let swapped = swap_at(alloc, &mut self.copies, place, &merging);
+            drop(merging);
+            swapped?;
         }
         Ok(true)
     }
@@ -190,7 +204,10 @@ impl Nodes {
                 )?;
                 Ok(answer)
             }
-            None => Ok(EventAnswer::NoSuchCopy),
+            None => {
+                drop(input);
+                Ok(EventAnswer::NoSuchCopy)
+            }
         }
     }
 
@@ -210,7 +227,10 @@ impl Nodes {
                 let answer = tear_copy(alloc, &mut self.copies[place], input, is_kept)?;
                 Ok(answer)
             }
-            None => Ok(EventAnswer::NoSuchCopy),
+            None => {
+                drop(input);
+                Ok(EventAnswer::NoSuchCopy)
+            }
         }
     }
 
@@ -225,7 +245,9 @@ impl Nodes {
             return Ok(EventAnswer::NoSuchMessage);
         };
         if message.to == 0 {
-            return self.deliver_to_master(alloc, &message);
+            let answered = self.deliver_to_master(alloc, &message);
+            drop(message);
+            return answered;
         }
         let to = message.to;
         self.at_copy(alloc, to, Input::Take(message))
@@ -245,6 +267,7 @@ impl Nodes {
             return Ok(EventAnswer::NoSuchMessage);
         };
         if message.to == 0 {
+            drop(message);
             return Ok(EventAnswer::Refused(CopyFault::WrongAddress));
         }
         let to = message.to;
@@ -301,9 +324,11 @@ impl Nodes {
             Err(fault) => return Err(fault),
         };
         if room(&mut self.copies, &mut self.messages).is_err() {
+            drop(decision);
             return Err(MasterFault::NoMemory);
         }
         let Ok(copy) = added(alloc, decision.given, &self.mapping) else {
+            drop(decision);
             return Err(MasterFault::NoMemory);
         };
         let made = self.master.step(alloc, request);
@@ -339,7 +364,11 @@ fn follow(
             add_one(messages, made.sent);
             Ok(decision)
         }
-        Err(fault) => Err(fault),
+        Err(fault) => {
+            drop(copy);
+            drop(decision);
+            Err(fault)
+        }
     }
 }
 

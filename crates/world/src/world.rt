@@ -126,6 +126,7 @@ pub fn run(
     };
     for (taken, event) in events.iter().enumerate() {
         if world.step(alloc, event).is_err() {
+            drop(world);
             return Err(RunFault::NoMemory(taken as u64));
         }
     }

@@ -89,8 +89,15 @@ fn finish(
     ensures acknowledged { OnErr result (acknowledged.new.items ≡ acknowledged.old.items) }
     ensures open { copy.new.closed ≡ false }
 {
-    let (sent, settled) = room_for(alloc, &prepared, messages, acknowledged)?;
-    let output = done(alloc, copy, prepared)?;
+    let Ok((sent, settled)) = room_for(alloc, &prepared, messages, acknowledged) else {
+        drop(prepared);
+        return Err(AllocError);
+    };
+    let Ok(output) = done(alloc, copy, prepared) else {
+        drop(sent);
+        drop(settled);
+        return Err(AllocError);
+    };
     add(messages, sent);
     add(acknowledged, settled);
     Ok(answered(output))
@@ -166,7 +173,10 @@ pub(crate) fn begun(
         let equal = mapping.copy(alloc)?;
         match Copy::begin(alloc, before as u32 + 1, copies as u32, equal, device) {
             Ok(copy) => all.push(copy)?,
-            Err(_) => return Err(AllocError),
+            Err(refused) => {
+                drop(refused);
+                return Err(AllocError);
+            }
         }
     }
     Ok(all)
@@ -188,7 +198,10 @@ pub(crate) fn added(
     let mapping = mapping.copy(alloc)?;
     match Copy::open(alloc, id, Birth::Added, mapping, device) {
         Ok(copy) => Ok(Some(copy)),
-        Err(_) => Err(AllocError),
+        Err(refused) => {
+            drop(refused);
+            Err(AllocError)
+        }
     }
 }
 

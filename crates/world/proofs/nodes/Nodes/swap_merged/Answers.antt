@@ -5,8 +5,8 @@ use Rattle.world.specs.World.{place_in, copy_in}
 use Rattle.world.proofs.Places.{is_first, first_within, none_found, place_found}
 use Rattle.world.proofs.nodes.Nodes.swap_merged.Goals as goal
 
-pub swap_at-requires : goal.swap_at-requires
-swap_at-requires c =
+pub swap_at-swapped-requires : goal.swap_at-swapped-requires
+swap_at-swapped-requires c =
     let within : c.in-Some.place < length c.deref.result.now = first_within c.deref.result.now c.args.id c.in-Some.place (is_first c.deref.result.now c.args.id c.in-Some.place (sym c.in-Some.ensures)) in
     omega (arith, within, c.deref.ensures.len)
 
@@ -17,8 +17,8 @@ returns-in_default-clause-there c =
     let none : copy_in (copies_of ls) c.args.id ≡ None = none_found ls c.args.id place in
     rw (← c.self.view_is, none) refl
 
-pub returns-in_ok-swap_at-clause-there : goal.returns-in_ok-swap_at-clause-there
-returns-in_ok-swap_at-clause-there c =
+pub returns-in_ok-swapped-clause-there : goal.returns-in_ok-swapped-clause-there
+returns-in_ok-swapped-clause-there c =
     let ls = c.self.inside.copies.items in
     let place : place_in (copies_of ls) c.args.id ≡ Some c.in-Some.place = rw (← c.deref.ensures.value) (sym c.in-Some.ensures) in
     let there : is_some (copy_in (copies_of ls) c.args.id) ≡ true = place_found (copies_of ls) c.args.id c.in-Some.place place in
