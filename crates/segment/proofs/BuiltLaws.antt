@@ -1,5 +1,5 @@
 -- Columns of the documents so far.
-use Rattle.std.proofs.Common.{◌≡◌, ◌<◌, ◌+◌, append-nil, append_assoc, arith, ℕ, ℤ, zero, suc, Bool, true, false, ◌||◌, List, [], ◌∷◌, ◌++◌, length, map, replicate, refl, sym, ap, ◌∙◌, subst, slice_set, if◌then◌else◌, Option, Some, None, All, String, Global, BTreeMap, true≢false, string_bytes}
+use Rattle.std.proofs.Common.{◌≡◌, ◌<◌, ℕ, ℤ, zero, suc, Bool, true, false, ◌||◌, List, [], ◌∷◌, ◌++◌, length, map, replicate, refl, sym, ap, ◌∙◌, subst, slice_set, if◌then◌else◌, Option, Some, None, All, String, Global, BTreeMap, true≢false, string_bytes, Vec}
 use Rattle.std.specs.Prelude.{IfSome, is_some}
 use Rattle.std.specs.BTreeMap as tree
 use Rattle.std.specs.Map.{update, lookup}
@@ -15,9 +15,11 @@ use Rattle.doc.specs.Scalar.{Scalar, text, long, flag}
 use Rattle.doc.specs.Document.{Values, values_at}
 use Rattle.query.specs.Meaning.{terms_at}
 use Rattle.marks.specs.Lists.{marked, places, zip_with}
-use Rattle.segment.specs.Indexed.{has_term, has_value, numbers_of, IsColumn, IsColumnOr, AreColumns}
+use Rattle.segment.specs.Blocks.{AreBlocks}
+use Rattle.segment.specs.Indexed.{has_term, has_value, IsColumn, IsColumnOr, AreColumns}
 use Rattle.segment.specs.Places.{places_at, places_at_long, one_if}
-use Rattle.segment.specs.Posted.{IsPosted, IsEmptyColumn, numbers_at, numbers_in, with_if, set_if}
+use Rattle.segment.specs.Posted.{IsPosted, IsEmptyColumn, with_if, set_if}
+use Rattle.segment.specs.declared.blocks.Block.{Block}
 use Rattle.segment.specs.declared.column.Column.{Column}
 use Rattle.segment.proofs.Ahead.{with_if-below}
 use Rattle.segment.proofs.Steps.{places-push, places-below}
@@ -29,7 +31,6 @@ pub record IsColumnOf (fields : Fields) (docs : List Values) (name : List ℕ) (
   pub has : c.has ≡ marked (replicate n false) (places (has_value name) docs)
   pub texts : (w : List ℕ) → places_at c.texts w ≡ places (has_term fields name (text w)) docs
   pub longs : (z : ℤ) → places_at_long c.longs z ≡ places (has_term fields name (long z)) docs
-  pub numbers : c.numbers.items ≡ numbers_of fields name 0 docs
   pub yes : c.yes ≡ marked (replicate n false) (places (has_term fields name (flag true)) docs)
   pub no : c.no ≡ marked (replicate n false) (places (has_term fields name (flag false)) docs)
 
@@ -38,7 +39,6 @@ IsColumnOf-empty fields name n c is = record {
   has = is.has;
   texts = λ w. ap (λ es. option_map_or (λ v. v.items) (lookup (λ k. is_eq (slice_cmp nat_cmp w (string_bytes k))) es) []) is.texts;
   longs = λ z. ap (λ es. option_map_or (λ v. v.items) (lookup (int_eq z) es) []) is.longs;
-  numbers = is.numbers;
   yes = is.yes;
   no = is.no;
 }
@@ -86,15 +86,6 @@ module _ (docs : List Values) (d : Values) (at : ℕ) (here : at ≡ length docs
       ∙ ap (λ k. marked (replicate n false) (places test docs ++ one_if (test d) k)) here
       ∙ ap (marked (replicate n false)) (sym (places-push test docs d))
 
--- the numbers of one document more
-numbers-push : (fields : Fields) (name : List ℕ) (n : ℕ) (docs : List Values) (d : Values) (at : ℕ) → at ≡ n + length docs → numbers_of fields name n (docs ++ d ∷ []) ≡ numbers_of fields name n docs ++ numbers_at at (numbers_in (terms_at fields d name))
-numbers-push fields name n [] d at is =
-    let here : at ≡ n = omega (arith, is) in
-    append-nil (numbers_at n (numbers_in (terms_at fields d name))) ∙ ap (λ k. numbers_at k (numbers_in (terms_at fields d name))) (sym here)
-numbers-push fields name n (e ∷ docs) d at is =
-    ap (λ ns. numbers_at n (numbers_in (terms_at fields e name)) ++ ns) (numbers-push fields name (n + 1) docs d at (omega (arith, is)))
-    ∙ sym (append_assoc (numbers_at n (numbers_in (terms_at fields e name))) (numbers_of fields name (n + 1) docs) (numbers_at at (numbers_in (terms_at fields d name))))
-
 -- one document more
 pub document-more : (fields : Fields) (docs : List Values) (name : List ℕ) (n : ℕ) (d : Values) (at : ℕ) (a b c : Column) → at ≡ length docs → IsColumnOf fields docs name n a → IsPosted (terms_at fields d name) at a b
     → c.has ≡ set_if (has_value name d) at b.has → c ≡ record b { has = c.has } → IsColumnOf fields (docs ++ d ∷ []) name n c
@@ -102,8 +93,6 @@ document-more fields docs name n d at a b c here is posted value same = record {
   has = value ∙ ap (set_if (has_value name d) at) posted.has ∙ mark-more docs d at here (has_value name) n a.has is.has;
   texts = λ w. ap (λ (x : Column). places_at x.texts w) same ∙ posted.texts w ∙ place-more docs d at here (has_term fields name (text w)) (places_at a.texts w) (is.texts w);
   longs = λ z. ap (λ (x : Column). places_at_long x.longs z) same ∙ posted.longs z ∙ place-more docs d at here (has_term fields name (long z)) (places_at_long a.longs z) (is.longs z);
-  numbers = ap (λ (x : Column). x.numbers.items) same ∙ posted.numbers ∙ ap (λ ns. ns ++ numbers_at at (numbers_in (terms_at fields d name))) is.numbers
-      ∙ ap (λ n. numbers_of fields name 0 docs ++ numbers_at n (numbers_in (terms_at fields d name))) here ∙ sym (numbers-push fields name 0 docs d (length docs) (omega arith));
   yes = ap (λ (x : Column). x.yes) same ∙ posted.yes ∙ mark-more docs d at here (has_term fields name (flag true)) n a.yes is.yes;
   no = ap (λ (x : Column). x.no) same ∙ posted.no ∙ mark-more docs d at here (has_term fields name (flag false)) n a.no is.no;
 }
@@ -116,13 +105,18 @@ all_marked : (test : Values → Bool) (docs : List Values) (n : ℕ) (ms : List 
 all_marked test docs n ms all is =
     is ∙ ap (λ k. marked (replicate k false) (places test docs)) all ∙ marked-zip test (replicate (length docs) false) docs (length-replicate (length docs)) ∙ from_none test docs
 
+-- the places of a number are those of documents
+pub number-places : (fields : Fields) (docs : List Values) (name : List ℕ) (n : ℕ) (c : Column) → n ≡ length docs → IsColumnOf fields docs name n c → (z : ℤ) → All (λ p. p < n) (places_at_long c.longs z)
+number-places fields docs name n c all is z =
+    subst (λ ps. All (λ p. p < n) ps) (sym (is.longs z)) (subst (λ k. All (λ p. p < k) (places (has_term fields name (long z)) docs)) (sym all) (places-below (has_term fields name (long z)) docs))
+
 -- all documents
-pub IsColumnOf-all : (fields : Fields) (docs : List Values) (name : List ℕ) (n : ℕ) (c : Column) → n ≡ length docs → IsColumnOf fields docs name n c → IsColumn fields docs name c
-IsColumnOf-all fields docs name n c all is = record {
+pub IsColumnOf-all : (fields : Fields) (docs : List Values) (name : List ℕ) (n : ℕ) (c : Column) (bs : Vec Block Global) → n ≡ length docs → IsColumnOf fields docs name n c → AreBlocks n c.longs bs.items → IsColumn fields docs name (record c { blocks = bs })
+IsColumnOf-all fields docs name n c bs all is are = record {
   has = all_marked (has_value name) docs n c.has all is.has;
   texts = is.texts;
   longs = is.longs;
-  numbers = is.numbers;
+  blocks = subst (λ k. AreBlocks k c.longs bs.items) all are;
   yes = all_marked (has_term fields name (flag true)) docs n c.yes all is.yes;
   no = all_marked (has_term fields name (flag false)) docs n c.no all is.no;
 }

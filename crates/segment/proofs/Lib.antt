@@ -13,5 +13,5 @@ pub mod Withins
 pub mod PostedLaws
 pub mod BuiltLaws
 pub mod SpanLaws
-pub mod Scans
+pub mod Blocked
 pub mod MergedLaws

@@ -1,5 +1,5 @@
 -- Terms posted, one after another.
-use Rattle.std.proofs.Common.{◌≡◌, ℕ, zero, suc, ℤ, map, append_assoc, append-nil, Bool, true, false, ◌||◌, List, [], ◌∷◌, ◌++◌, length, refl, sym, ap, ◌∙◌, subst, arith, slice_set, if◌then◌else◌, Some, int_eq}
+use Rattle.std.proofs.Common.{◌≡◌, ℕ, zero, suc, ℤ, map, append_assoc, Bool, true, false, ◌||◌, List, [], ◌∷◌, ◌++◌, length, refl, sym, ap, ◌∙◌, subst, arith, slice_set, if◌then◌else◌, Some, int_eq}
 use Rattle.std.specs.Prelude.{flat_map}
 use Rattle.std.specs.Str.{bytes_eq}
 use Rattle.std.specs.Cmp.Lexicographic.{bytes_decides, nat_list_eq_equiv}
@@ -13,9 +13,8 @@ use Rattle.query.specs.Meaning.{has, terms_of_value, terms_by}
 use Rattle.doc.specs.Document.{Values, values_at}
 use Rattle.segment.specs.Places.{added, places_at, places_at_long, has_word}
 use Rattle.segment.proofs.Steps.{has_word-push}
-use Rattle.segment.specs.Posted.{IsPosted, IsRoomFor, numbers_at, numbers_in, with_if, set_if}
+use Rattle.segment.specs.Posted.{IsPosted, IsRoomFor, with_if, set_if}
 use Rattle.segment.specs.declared.column.Column.{Column}
-use Rattle.segment.specs.declared.column.Number.{Number}
 use Rattle.segment.proofs.Ahead.{has-append, with_if-twice}
 
 set_twice : (at : ℕ) (ms : List Bool) → slice_set (slice_set ms at true) at true ≡ slice_set ms at true
@@ -37,30 +36,15 @@ or_false : (b : Bool) → (b || false) ≡ b
 or_false true = refl
 or_false false = refl
 
--- the numbers of terms, and then of more
-placed-append : (at : ℕ) (ys zs : List ℤ) → numbers_at at (ys ++ zs) ≡ numbers_at at ys ++ numbers_at at zs
-placed-append at [] zs = refl
-placed-append at (y ∷ ys) zs = ap (λ ns. (let n : Number = record { value = y; place = at } in n) ∷ ns) (placed-append at ys zs)
-
-among-append : (ts us : List Scalar) → numbers_in (ts ++ us) ≡ numbers_in ts ++ numbers_in us
-among-append [] us = refl
-among-append (text s ∷ ts) us = among-append ts us
-among-append (long z ∷ ts) us = ap (λ zs. z ∷ zs) (among-append ts us)
-among-append (flag b ∷ ts) us = among-append ts us
-
-numbers-append : (at : ℕ) (ts us : List Scalar) → numbers_at at (numbers_in (ts ++ us)) ≡ numbers_at at (numbers_in ts) ++ numbers_at at (numbers_in us)
-numbers-append at ts us = ap (numbers_at at) (among-append ts us) ∙ placed-append at (numbers_in ts) (numbers_in us)
-
 -- no term
 pub IsPosted-none : (at : ℕ) (c : Column) → IsPosted [] at c c
-IsPosted-none at c = record { texts = λ w. refl; longs = λ z. refl; numbers = sym (append-nil c.numbers.items); yes = refl; no = refl; has = refl }
+IsPosted-none at c = record { texts = λ w. refl; longs = λ z. refl; yes = refl; no = refl; has = refl }
 
 -- terms, and then more
 pub IsPosted-trans : (ts us : List Scalar) (at : ℕ) (a b c : Column) → IsPosted ts at a b → IsPosted us at b c → IsPosted (ts ++ us) at a c
 IsPosted-trans ts us at a b c p q = record {
   texts = λ w. q.texts w ∙ ap (with_if (has us (text w)) at) (p.texts w) ∙ with_if-twice (has ts (text w)) (has us (text w)) at (places_at a.texts w) ∙ ap (λ h. with_if h at (places_at a.texts w)) (sym (has-append ts us (text w)));
   longs = λ z. q.longs z ∙ ap (with_if (has us (long z)) at) (p.longs z) ∙ with_if-twice (has ts (long z)) (has us (long z)) at (places_at_long a.longs z) ∙ ap (λ h. with_if h at (places_at_long a.longs z)) (sym (has-append ts us (long z)));
-  numbers = q.numbers ∙ ap (λ ns. ns ++ numbers_at at (numbers_in us)) p.numbers ∙ append_assoc a.numbers.items (numbers_at at (numbers_in ts)) (numbers_at at (numbers_in us)) ∙ ap (λ ns. a.numbers.items ++ ns) (sym (numbers-append at ts us));
   yes = q.yes ∙ ap (set_if (has us (flag true)) at) p.yes ∙ set_if-twice (has ts (flag true)) (has us (flag true)) at a.yes ∙ ap (λ h. set_if h at a.yes) (sym (has-append ts us (flag true)));
   no = q.no ∙ ap (set_if (has us (flag false)) at) p.no ∙ set_if-twice (has ts (flag false)) (has us (flag false)) at a.no ∙ ap (λ h. set_if h at a.no) (sym (has-append ts us (flag false)));
   has = q.has ∙ p.has;
@@ -95,15 +79,13 @@ pub posted-text : (at : ℕ) (c n : Column) (word : List ℕ) → ((w : List ℕ
 posted-text at c n word is same = record {
   texts = λ w. is w ∙ ap (λ b. with_if b at (places_at c.texts w)) (sym (or_false (bytes_eq w word)));
   longs = λ z. ap (λ (x : Column). places_at_long x.longs z) same;
-  numbers = ap (λ (x : Column). x.numbers.items) same ∙ sym (append-nil c.numbers.items);
   yes = ap (λ (x : Column). x.yes) same;
   no = ap (λ (x : Column). x.no) same;
   has = ap (λ (x : Column). x.has) same;
 }
 
-pub posted-long : (at : ℕ) (c n : Column) (number : ℤ) → ((z : ℤ) → places_at_long n.longs z ≡ with_if (int_eq z number) at (places_at_long c.longs z)) → n.numbers.items ≡ c.numbers.items ++ numbers_at at (number ∷ []) → n ≡ record c { longs = n.longs; numbers = n.numbers } → IsPosted (long number ∷ []) at c n
-posted-long at c n number is more same = record {
-  numbers = more;
+pub posted-long : (at : ℕ) (c n : Column) (number : ℤ) → ((z : ℤ) → places_at_long n.longs z ≡ with_if (int_eq z number) at (places_at_long c.longs z)) → n ≡ record c { longs = n.longs } → IsPosted (long number ∷ []) at c n
+posted-long at c n number is same = record {
   texts = λ w. ap (λ (x : Column). places_at x.texts w) same;
   longs = λ z. is z ∙ ap (λ b. with_if b at (places_at_long c.longs z)) (sym (or_false (int_eq z number)));
   yes = ap (λ (x : Column). x.yes) same;
@@ -121,10 +103,6 @@ no_numbers : (z : ℤ) (ws : List (List ℕ)) → has (map text ws) (long z) ≡
 no_numbers z [] = refl
 no_numbers z (v ∷ ws) = no_numbers z ws
 
-none_in : (ws : List (List ℕ)) → numbers_in (map text ws) ≡ []
-none_in [] = refl
-none_in (v ∷ ws) = none_in ws
-
 no_truths : (b : Bool) (ws : List (List ℕ)) → has (map text ws) (flag b) ≡ false
 no_truths b [] = refl
 no_truths b (v ∷ ws) = no_truths b ws
@@ -133,7 +111,6 @@ pub posted-words : (at : ℕ) (c n : Column) (ws : List (List ℕ)) → ((w : Li
 posted-words at c n ws is same = record {
   texts = λ w. is w ∙ ap (λ b. with_if b at (places_at c.texts w)) (sym (has_words w ws));
   longs = λ z. ap (λ (x : Column). places_at_long x.longs z) same ∙ sym (ap (λ b. with_if b at (places_at_long c.longs z)) (no_numbers z ws));
-  numbers = ap (λ (x : Column). x.numbers.items) same ∙ sym (append-nil c.numbers.items) ∙ sym (ap (λ zs. c.numbers.items ++ numbers_at at zs) (none_in ws));
   yes = ap (λ (x : Column). x.yes) same ∙ sym (ap (λ b. set_if b at c.yes) (no_truths true ws));
   no = ap (λ (x : Column). x.no) same ∙ sym (ap (λ b. set_if b at c.no) (no_truths false ws));
   has = ap (λ (x : Column). x.has) same;

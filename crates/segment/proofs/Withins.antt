@@ -34,7 +34,7 @@ module _ (m : MappingData) (name : List ℕ) (test : Scalar → Bool) where
 
 module _ (m : MappingData) (old : List Bool) (sources : List (List ℕ)) (same : length old ≡ length sources) where
   -- places marked if their key passes
-  marked-if : (ms : List Bool) → length ms ≡ length sources → (passes : Bool) (test : Values → Bool) (ps : List ℕ) → ps ≡ places test (map (all_values m) sources)
+  pub marked-if : (ms : List Bool) → length ms ≡ length sources → (passes : Bool) (test : Values → Bool) (ps : List ℕ) → ps ≡ places test (map (all_values m) sources)
       → marked ms (if passes then ps else []) ≡ zip_with (λ b s. b || (passes && test (all_values m s))) ms sources
   marked-if ms whole true test ps is = by_places m ms sources whole test ps is
   marked-if ms whole false test ps is = sym (or-end ms sources whole)

@@ -1,5 +1,5 @@
 -- Documents by the terms of their fields.
-use Rattle.std.specs.Prelude.{◌≡◌, ◌<◌, ◌+◌, ◌^◌, ℕ, ℤ, Bool, true, false, List, [], ◌∷◌, ◌++◌, map, length, nat_lt, Option, Some, None, IfSome, String, All}
+use Rattle.std.specs.Prelude.{◌≡◌, ◌<◌, ◌^◌, ℕ, ℤ, Bool, true, false, List, [], map, length, nat_lt, Option, Some, None, IfSome, String, All}
 use Rattle.std.specs.BTreeMap.{BTreeMap}
 use Rattle.std.specs.declared.alloc.Global.{Global}
 use Rattle.std.specs.BTreeMap as tree
@@ -10,9 +10,8 @@ use Rattle.doc.specs.Document.{Values, values_at, all_values}
 use Rattle.query.specs.Meaning.{terms_at, has}
 use Rattle.marks.specs.Lists.{places}
 use Rattle.segment.specs.Places.{places_at, places_at_long}
-use Rattle.segment.specs.Posted.{numbers_at, numbers_in}
+use Rattle.segment.specs.Blocks.{AreBlocks}
 use Rattle.segment.specs.declared.column.Column.{Column}
-use Rattle.segment.specs.declared.column.Number.{Number}
 
 -- what a segment is: its documents' sources, read under a mapping
 pub record SegmentData : Type 0 where
@@ -27,17 +26,12 @@ has_term fields name t d = has (terms_at fields d name) t
 abbrev pub has_value : List ℕ → Values → Bool
 has_value name d = nat_lt 0 (length (values_at name d))
 
--- the numbers of documents in their order, where the first has place n
-abbrev pub numbers_of : Fields → List ℕ → ℕ → List Values → List Number
-numbers_of fields name n [] = []
-numbers_of fields name n (d ∷ ds) = numbers_at n (numbers_in (terms_at fields d name)) ++ numbers_of fields name (n + 1) ds
-
 -- a column has the documents of each term of the field
 pub record IsColumn (fields : Fields) (docs : List Values) (name : List ℕ) (c : Column) : Type 0 where
   pub has : c.has ≡ map (has_value name) docs
   pub texts : (w : List ℕ) → places_at c.texts w ≡ places (has_term fields name (text w)) docs
   pub longs : (z : ℤ) → places_at_long c.longs z ≡ places (has_term fields name (long z)) docs
-  pub numbers : c.numbers.items ≡ numbers_of fields name 0 docs
+  pub blocks : AreBlocks (length docs) c.longs c.blocks.items
   pub yes : c.yes ≡ map (has_term fields name (flag true)) docs
   pub no : c.no ≡ map (has_term fields name (flag false)) docs
 

@@ -4,4 +4,5 @@ pub mod Term
 pub mod Posted
 pub mod Spans
 pub mod Limits
+pub mod Blocks
 pub mod Merged

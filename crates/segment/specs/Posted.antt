@@ -1,10 +1,9 @@
 -- A column with the terms of one more document.
-use Rattle.std.specs.Prelude.{◌≡◌, ◌<◌, ℕ, ℤ, Bool, true, false, List, [], ◌∷◌, ◌++◌, length, replicate, slice_set, if◌then◌else◌}
+use Rattle.std.specs.Prelude.{◌≡◌, ◌<◌, ℕ, ℤ, Bool, true, false, List, [], length, replicate, slice_set, if◌then◌else◌}
 use Rattle.doc.specs.Scalar.{Scalar, text, long, flag}
 use Rattle.query.specs.Meaning.{has}
 use Rattle.segment.specs.Places.{added, places_at, places_at_long}
 use Rattle.segment.specs.declared.column.Column.{Column}
-use Rattle.segment.specs.declared.column.Number.{Number}
 
 -- the places with this one added, or as they are
 abbrev pub with_if : Bool → ℕ → List ℕ → List ℕ
@@ -13,18 +12,6 @@ with_if b at ps = if b then added ps at else ps
 -- the marks with this place set, or as they are
 abbrev pub set_if : Bool → ℕ → List Bool → List Bool
 set_if b at ms = if b then slice_set ms at true else ms
-
--- the numbers among terms
-abbrev pub numbers_in : List Scalar → List ℤ
-numbers_in [] = []
-numbers_in (text s ∷ ts) = numbers_in ts
-numbers_in (long z ∷ ts) = z ∷ numbers_in ts
-numbers_in (flag b ∷ ts) = numbers_in ts
-
--- each of them with a place
-abbrev pub numbers_at : ℕ → List ℤ → List Number
-numbers_at at [] = []
-numbers_at at (z ∷ zs) = record { value = z; place = at } ∷ numbers_at at zs
 
 -- the marks of truth values reach to the place
 pub record IsRoomFor (at : ℕ) (c : Column) : Type 0 where
@@ -35,7 +22,6 @@ pub record IsRoomFor (at : ℕ) (c : Column) : Type 0 where
 pub record IsPosted (ts : List Scalar) (at : ℕ) (old new : Column) : Type 0 where
   pub texts : (w : List ℕ) → places_at new.texts w ≡ with_if (has ts (text w)) at (places_at old.texts w)
   pub longs : (z : ℤ) → places_at_long new.longs z ≡ with_if (has ts (long z)) at (places_at_long old.longs z)
-  pub numbers : new.numbers.items ≡ old.numbers.items ++ numbers_at at (numbers_in ts)
   pub yes : new.yes ≡ set_if (has ts (flag true)) at old.yes
   pub no : new.no ≡ set_if (has ts (flag false)) at old.no
   pub has : new.has ≡ old.has
@@ -45,6 +31,5 @@ pub record IsEmptyColumn (n : ℕ) (c : Column) : Type 0 where
   pub has : c.has ≡ replicate n false
   pub texts : c.texts.entries ≡ []
   pub longs : c.longs.entries ≡ []
-  pub numbers : c.numbers.items ≡ []
   pub yes : c.yes ≡ replicate n false
   pub no : c.no ≡ replicate n false

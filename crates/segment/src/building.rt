@@ -8,6 +8,7 @@ ghost use Rattle.query.specs.Meaning.{terms_by};
 ghost use Rattle.segment.specs.Indexed.{has_value, AreColumns, IsColumn, IsColumnOr};
 ghost use Rattle.segment.specs.Posted.{IsEmptyColumn, IsPosted, IsRoomFor, set_if};
 
+use crate::blocks::blocks_of;
 use crate::column::Column;
 use crate::posting::post_fields;
 use doc::{Doc, FieldValues, Kind, Mapping, Source};
@@ -91,6 +92,8 @@ fn column_of(
         mark_value(&mut column.has, name, doc.fields(), at);
         at += 1;
     }
+    let made = blocks_of(alloc, &column.longs, docs.len())?;
+    column.blocks = made;
     Ok(column)
 }
 
@@ -102,7 +105,7 @@ fn empty(alloc: Global, len: usize) -> Result<Column, AllocError>
         has: Marks::none(alloc, len)?,
         texts: BTreeMap::new(alloc),
         longs: BTreeMap::new(alloc),
-        numbers: Vec::new(alloc),
+        blocks: Vec::new(alloc),
         yes: Marks::none(alloc, len)?,
         no: Marks::none(alloc, len)?,
     })

@@ -1,6 +1,7 @@
 //! Segments: documents by the terms of their fields.
 #![tactic(auto)]
 
+pub mod blocks;
 mod building;
 pub mod column;
 mod limits;

@@ -1,5 +1,5 @@
 //! The bounds of a `range` over numbers.
-ghost use Rattle.std.specs.Prelude.{◌≡◌, not, option_map, IfSome};
+ghost use Rattle.std.specs.Prelude.{◌≡◌, ◌≤ℤ◌, ℤ, true, not, option_map, IfSome};
 ghost use Rattle.doc.specs.Scalar as scalar;
 ghost use Rattle.doc.specs.ScalarView.{scalar_view};
 ghost use Rattle.query.specs.Meaning as spec;
@@ -39,6 +39,16 @@ impl Limits {
             & is_from(self.from, number)
             & is_below(self.below, number)
             & is_to(self.to, number)
+    }
+
+    /// Whether a number from the first to the last may lie within them.
+    pub(crate) fn may_have(self, first: i64, last: i64) -> bool
+        ensures { (z : ℤ) → first ≤ℤ z → z ≤ℤ last → spec.is_within (limits_view self) (scalar.long z) ≡ true → result ≡ true }
+    {
+        is_above(self.above, last)
+            & is_from(self.from, last)
+            & is_below(self.below, first)
+            & is_to(self.to, first)
     }
 }
 

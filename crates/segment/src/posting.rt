@@ -9,7 +9,7 @@ ghost use Rattle.query.specs.Meaning.{terms_of_value, terms_by};
 ghost use Rattle.segment.specs.Places.{added, ends_at, places_at, places_at_long, has_word};
 ghost use Rattle.segment.specs.Posted.{IsPosted, IsRoomFor, with_if};
 
-use crate::column::{Column, Number};
+use crate::column::Column;
 use analysis::tokens;
 use doc::{FieldValues, Kind, Scalar};
 use std::alloc::{AllocError, Global};
@@ -103,10 +103,6 @@ fn post_term(alloc: Global, column: &mut Column, term: &Scalar, at: u32) -> Resu
         }
         Scalar::Long(number) => {
             post_long(alloc, &mut column.longs, *number, at)?;
-            column.numbers.push(Number {
-                value: *number,
-                place: at,
-            })?;
             Ok(())
         }
         Scalar::Flag(true) => {

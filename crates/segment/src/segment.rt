@@ -1,5 +1,5 @@
 //! Segments.
-ghost use Rattle.std.specs.Prelude.{◌≡◌, ◌<◌, ◌^◌, ◌||◌, ◌&&◌, ℕ, All, [], ◌∷◌, if◌then◌else◌, length, map, option_map, IfOk, IfSome, OnOk, nat_eq, string_bytes};
+ghost use Rattle.std.specs.Prelude.{◌≡◌, ◌<◌, ◌^◌, ◌||◌, ◌&&◌, ℕ, All, [], if◌then◌else◌, length, map, option_map, IfOk, IfSome, OnOk, nat_eq, string_bytes};
 ghost use Rattle.std.specs.Arc.{arc_value};
 ghost use Rattle.doc.specs.Document.{all_values};
 ghost use Rattle.doc.specs.Scalar as scalar;
@@ -12,6 +12,7 @@ ghost use Rattle.segment.specs.Term.{is_text, is_long, is_truth};
 ghost use Rattle.segment.specs.Limits.{limits_view};
 ghost use Rattle.segment.specs.Indexed.{has_term, has_value, IsColumn, IsColumnOr};
 
+use crate::blocks::mark_block;
 use crate::column::Column;
 use crate::limits::Limits;
 use crate::term::Term;
@@ -24,8 +25,11 @@ use std::collections::BTreeMap;
 use std::marker::Model;
 use std::sync::Arc;
 
-/// As many numbers are looked at in about the time that going to the list of one takes.
-const LOOKS_PER_LIST: usize = 8;
+/// Going to the list of a number takes about as long as marking so many places.
+const PLACES_PER_LIST: usize = 16;
+
+/// Going over the blocks of a column takes about as long as marking one of so many documents.
+const DOCUMENTS_PER_PLACE: usize = 8;
 
 /// Documents by the terms of their fields. It never changes.
 #[derive(Drop)]
@@ -254,16 +258,16 @@ impl Segment {
         }
     }
 
-    /// The same, looking at all numbers in the order of the documents.
+    /// The same, by the blocks of numbers.
     fn mark_numbers(&self, column: &Column, _name: &str, limits: Limits, marks: &mut Marks)
         requires whole { length marks.old ≡ length self.now.sources }
         requires is { IsColumn self.now.mapping.fields (map (all_values self.now.mapping) self.now.sources) _name.now column.now }
+        requires some { 0 < length column.now.blocks.items }
         ensures whole { length marks.new ≡ length self.now.sources }
         ensures is { marks.new ≡ zip_with (λ b s. b || list_any (λ t. is_long t && is_within (limits_view limits) t) (terms_at self.now.mapping.fields (all_values self.now.mapping s) _name.now)) marks.old self.now.sources }
     {
-        for number in &column.numbers {
-            let passes = limits.have(number.value);
-            set_if(marks, number.place, passes);
+        for block in &column.blocks {
+            mark_block(block, limits, marks);
         }
     }
 
@@ -293,24 +297,27 @@ impl Segment {
     }
 }
 
-/// The bounds of numbers, where so many different ones lie within them that looking at all numbers is sooner done than going to the list of each.
+/// The bounds of numbers, where the column has blocks and they are sooner gone over than the lists of the numbers within the bounds.
 fn limits_of_many(column: &Column, bounds: &Bounds) -> Option<Limits>
-    ensures { IfSome result (λ l. limits_view l ≡ bounds_view bounds.now) }
+    ensures is { IfSome result (λ l. limits_view l ≡ bounds_view bounds.now) }
+    ensures some { IfSome result (λ _. 0 < length column.now.blocks.items) }
 {
-    let few = column.numbers.len() / LOOKS_PER_LIST;
-    let mut within = column.longs.range(spans::of_longs(bounds));
-    match within.nth(few) {
-        Some(_) => Limits::of(bounds),
-        None => None,
+    if column.blocks.is_empty() || !are_many(column, bounds) {
+        return None;
     }
+    Limits::of(bounds)
 }
 
-/// Marks the place of a number that passes.
-fn set_if(marks: &mut Marks, place: u32, passes: bool)
-    requires { place < length marks.old }
-    ensures { marks.new ≡ marked marks.old (if passes then place ∷ [] else []) }
-{
-    marks.set_if(place, passes);
+/// Whether going to the list of each number within the bounds takes long.
+fn are_many(column: &Column, bounds: &Bounds) -> bool {
+    let mut left = column.has.len() / DOCUMENTS_PER_PLACE;
+    for (_, places) in column.longs.range(spans::of_longs(bounds)) {
+        left = left.saturating_sub(PLACES_PER_LIST.saturating_add(places.len()));
+        if left == 0 {
+            return true;
+        }
+    }
+    false
 }
 
 /// Marks the places of a key that passes.

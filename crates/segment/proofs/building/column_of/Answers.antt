@@ -2,7 +2,7 @@ use Rattle.std.proofs.Common.{◌≡◌, ◌+◌, ◌∙◌, ◌++◌, ◌∷◌
 use Rattle.std.proofs.lemmas.Grind.{common_steps}
 use Rattle.std.proofs.lemmas.List.{map_more, length-map}
 use Rattle.doc.specs.declared.document.Doc.{Doc}
-use Rattle.segment.proofs.BuiltLaws.{IsColumnOf, IsColumnOf-all, document-more, length-has, length-yes, length-no}
+use Rattle.segment.proofs.BuiltLaws.{IsColumnOf, IsColumnOf-all, document-more, length-has, length-yes, length-no, number-places}
 use Rattle.segment.proofs.building.column_of.Goals as goal
 
 -- the marks reach to this document
@@ -37,11 +37,20 @@ loop-doc-preserved c =
           (document-more c.args.mapping.now.fields before c.args.name.now (length docs) d.values c.loop-doc.at c.loop-doc.column c.post.new.column (record c.post.new.column { has = c.mark_value.new.marks }) here c.loop-doc.invariant.so_far posted value refl);
     }
 
+-- the places of a number are those of documents
+pub blocks_of-requires : goal.blocks_of-requires
+blocks_of-requires c =
+    let docs = c.args.docs.now in
+    let values = λ (d : Doc). d.values in
+    let all : take c.loop-doc.doc-index docs ≡ docs = grind (arith, common_steps, c.loop-doc-test.false) in
+    number-places c.args.mapping.now.fields (map values docs) c.args.name.now (length docs) c.loop-doc.column (sym (length-map docs values))
+    (subst (λ ds. IsColumnOf c.args.mapping.now.fields (map values ds) c.args.name.now (length docs) c.loop-doc.column) all c.loop-doc.invariant.so_far)
+
 -- all documents
 pub returns : goal.returns
 returns c =
     let docs = c.args.docs.now in
     let values = λ (d : Doc). d.values in
     let all : take c.loop-doc.doc-index docs ≡ docs = grind (arith, common_steps, c.loop-doc-test.false) in
-    IsColumnOf-all c.args.mapping.now.fields (map values docs) c.args.name.now (length docs) c.loop-doc.column (sym (length-map docs values))
-    (subst (λ ds. IsColumnOf c.args.mapping.now.fields (map values ds) c.args.name.now (length docs) c.loop-doc.column) all c.loop-doc.invariant.so_far)
+    IsColumnOf-all c.args.mapping.now.fields (map values docs) c.args.name.now (length docs) c.loop-doc.column c.in_ok-made.made (sym (length-map docs values))
+    (subst (λ ds. IsColumnOf c.args.mapping.now.fields (map values ds) c.args.name.now (length docs) c.loop-doc.column) all c.loop-doc.invariant.so_far) c.in_ok-made.ensures

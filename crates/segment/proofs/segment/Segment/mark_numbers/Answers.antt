@@ -1,46 +1,50 @@
-use Rattle.std.proofs.Common.{◌≡◌, ◌<◌, ◌∙◌, ◌∷◌, [], ℤ, List, arith, ap, get_or, if◌then◌else◌, pos, subst, sym, length, take}
+use Rattle.std.proofs.Common.{◌≡◌, ◌<◌, ◌∙◌, ℤ, List, ap, arith, get_or, map, subst, sym, length, take}
 use Rattle.std.proofs.lemmas.Grind.{common_steps}
-use Rattle.std.proofs.lemmas.Int.{to_z-of_z}
+use Rattle.std.proofs.lemmas.List.{length-map}
+use Rattle.doc.specs.Document.{all_values}
 use Rattle.doc.specs.Scalar.{long}
 use Rattle.query.specs.Meaning.{is_within}
 use Rattle.marks.specs.Lists.{marked}
+use Rattle.segment.specs.Blocks.{IsBlock, hits, numbers_of}
 use Rattle.segment.specs.Limits.{limits_view}
-use Rattle.segment.specs.declared.column.Number.{Number}
-use Rattle.segment.proofs.Scans.{hits, hits-more, length-marked, scan-below, scan-end}
+use Rattle.segment.specs.declared.blocks.Block.{Block}
+use Rattle.segment.proofs.Blocked.{blocks-end, blocks-more, length-marked}
 use Rattle.segment.proofs.segment.Segment.mark_numbers.Goals as goal
 
--- the places are those of documents
-pub set_if-requires : goal.set_if-requires
-set_if-requires c =
-    let ns = c.args.column.now.numbers.items in
-    let i = c.loop-number.number-index in
-    let zeros : Number = record { value = pos 0; place = 0 } in
-    let items : c.deref-number-items.result.now ≡ ns = c.deref-number-items.ensures.value in
-    let lt : i < length ns = subst (λ (ks : List Number). i < length ks) items c.loop-number-test.true in
-    let below : (get_or ns i zeros).place < length c.args.marks.now = scan-below c.args.self.now.mapping c.args._name.now c.args.marks.now c.args.self.now.sources c.requires.whole ns c.requires.is.numbers i zeros lt in
-    subst (λ (ks : List Number). (get_or ks i zeros).place < length c.loop-number.marks) (sym items) (omega (arith, below, c.loop-number.invariant.whole))
+-- the block is one of these documents
+pub mark_block-requires : goal.mark_block-requires
+mark_block-requires c =
+    let bs = c.args.column.now.blocks.items in
+    let docs = map (all_values c.args.self.now.mapping) c.args.self.now.sources in
+    let items : c.deref-block-items.result.now ≡ bs = c.deref-block-items.ensures.value in
+    let i = c.loop-block.block-index in
+    let b = c.block-item.result in
+    let lt : i < length bs = subst (λ (cs : List Block). i < length cs) items c.loop-block-test.true in
+    let here : b ≡ get_or bs i b = c.block-item.is ∙ ap (λ (cs : List Block). get_or cs i b) items in
+    let many : length docs ≡ length c.loop-block.marks = length-map c.args.self.now.sources (all_values c.args.self.now.mapping) ∙ sym (c.loop-block.invariant.whole ∙ c.requires.whole) in
+    subst (λ n. IsBlock n b) many (subst (IsBlock (length docs)) (sym here) (c.requires.is.blocks.each i b lt))
 
--- one number more
-pub loop-number-preserved : goal.loop-number-preserved
-loop-number-preserved c =
-    let ns = c.args.column.now.numbers.items in
-    let i = c.loop-number.number-index in
-    let zeros : Number = record { value = pos 0; place = 0 } in
+-- one block more
+pub loop-block-preserved : goal.loop-block-preserved
+loop-block-preserved c =
+    let bs = c.args.column.now.blocks.items in
     let asked = λ (z : ℤ). is_within (limits_view c.args.limits) (long z) in
-    let items : c.deref-number-items.result.now ≡ ns = c.deref-number-items.ensures.value in
-    let lt : i < length ns = subst (λ (ks : List Number). i < length ks) items c.loop-number-test.true in
-    let passes : c.have-passes.result ≡ asked (get_or c.deref-number-items.result.now i zeros).value = grind (arith, common_steps, to_z-of_z, c.have-passes.ensures) in
-    let read : c.have-passes.result ≡ asked (get_or ns i zeros).value = passes ∙ ap (λ (ks : List Number). asked (get_or ks i zeros).value) items in
-    let set = c.set_if.ensures ∙ ap (λ (ks : List Number). marked c.loop-number.marks (if c.have-passes.result then (get_or ks i zeros).place ∷ [] else [])) items in
+    let items : c.deref-block-items.result.now ≡ bs = c.deref-block-items.ensures.value in
+    let i = c.loop-block.block-index in
+    let b = c.block-item.result in
+    let lt : i < length bs = subst (λ (cs : List Block). i < length cs) items c.loop-block-test.true in
+    let here : b ≡ get_or bs i b = c.block-item.is ∙ ap (λ (cs : List Block). get_or cs i b) items in
     record {
-      whole = ap length set ∙ length-marked c.loop-number.marks (if c.have-passes.result then (get_or ns i zeros).place ∷ [] else []) ∙ c.loop-number.invariant.whole;
-      marked = set ∙ hits-more asked ns i zeros lt c.have-passes.result read c.args.marks.now c.loop-number.marks c.loop-number.invariant.marked;
+      whole = ap length c.mark_block.ensures ∙ length-marked c.loop-block.marks (hits asked b.numbers.items) ∙ c.loop-block.invariant.whole;
+      marked = c.mark_block.ensures ∙ blocks-more asked bs i b lt here c.args.marks.now c.loop-block.marks c.loop-block.invariant.marked;
     }
 
--- all numbers
+-- all blocks
 pub returns-clause-is : goal.returns-clause-is
 returns-clause-is c =
-    let ns = c.args.column.now.numbers.items in
-    let all : take c.loop-number.number-index ns ≡ ns = grind (arith, common_steps, c.loop-number-test.false, c.deref-number-items.ensures) in
-    c.loop-number.invariant.marked ∙ ap (λ ks. marked c.args.marks.now (hits (λ z. is_within (limits_view c.args.limits) (long z)) ks)) all
-    ∙ scan-end c.args.self.now.mapping c.args._name.now c.args.marks.now c.args.self.now.sources c.requires.whole ns c.requires.is.numbers (is_within (limits_view c.args.limits))
+    let bs = c.args.column.now.blocks.items in
+    let asked = λ (z : ℤ). is_within (limits_view c.args.limits) (long z) in
+    let all : take c.loop-block.block-index bs ≡ bs = grind (arith, common_steps, c.loop-block-test.false, c.deref-block-items.ensures) in
+    c.loop-block.invariant.marked ∙ ap (λ (cs : List Block). marked c.args.marks.now (hits asked (numbers_of cs))) all
+    ∙ ap (λ ns. marked c.args.marks.now (hits asked ns)) (c.requires.is.blocks.all c.requires.some)
+    ∙ blocks-end c.args.self.now.mapping c.args._name.now (is_within (limits_view c.args.limits)) c.args.column.now.longs (c.requires.is.blocks.ordered c.requires.some) c.args.marks.now c.args.self.now.sources c.requires.whole c.requires.is.longs

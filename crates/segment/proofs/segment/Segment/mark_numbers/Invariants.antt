@@ -2,13 +2,13 @@ use Rattle.std.proofs.Common.{◌≡◌, length, take}
 use Rattle.doc.specs.Scalar.{long}
 use Rattle.query.specs.Meaning.{is_within}
 use Rattle.marks.specs.Lists.{marked}
+use Rattle.segment.specs.Blocks.{hits, numbers_of}
 use Rattle.segment.specs.Limits.{limits_view}
-use Rattle.segment.proofs.Scans.{hits}
 use Rattle.segment.proofs.segment.Segment.mark_numbers.Given as goal
 
--- the documents of the numbers so far that pass are marked
-abbrev pub invariant-loop-number : goal.invariant-loop-number
-invariant-loop-number l = record {
+-- the documents of the numbers of the blocks so far that pass are marked
+abbrev pub invariant-loop-block : goal.invariant-loop-block
+invariant-loop-block l = record {
   whole : length l.marks ≡ length l.initial.marks;
-  marked : l.marks ≡ marked l.initial.marks (hits (λ z. is_within (limits_view l.limits) (long z)) (take l.number-index l.column.numbers.items));
+  marked : l.marks ≡ marked l.initial.marks (hits (λ z. is_within (limits_view l.limits) (long z)) (numbers_of (take l.block-index l.column.blocks.items)));
 }
