@@ -225,7 +225,7 @@ impl<D: LogDevice> CopyCell<D> {
         self.publisher.searcher()
     }
 
-    /// The journal, for which the copy is given up. Searches show nothing any more, which waits for those that run.
+    /// The journal, for which the copy is given up. Searches show nothing any more, which waits for those that are just taking what is shown.
     pub fn close<R: Wait>(self, rt: &R) -> Journal
         ensures same { result ≡ OfCopy self.journal.opening self.journal.deeds }
         ensures legal { IsLegal (open_at self.journal.opening) 0 self.journal.deeds }

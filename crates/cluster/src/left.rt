@@ -32,7 +32,7 @@ impl Model for Left {
 }
 
 impl Left {
-    /// What is left of a copy that was served. It waits for searches that run.
+    /// What is left of a copy that was served. It waits for searches that are just taking what is shown.
     pub(crate) fn served<R: Wait, D: LogDevice>(rt: &R, cell: CopyCell<D>, pass: Pass) -> Left {
         Left {
             node: cell.held().node(),

@@ -293,7 +293,7 @@ impl<D: LogDevice, G: Gate> Worker<D, G> {
         }
     }
 
-    /// Ends what searches see of the copy, which waits for those that run.
+    /// Ends what searches see of the copy, which waits for those that are just taking it.
     pub(crate) fn into_left<R: Wait>(self, rt: &R) -> Left {
         let Worker {
             cell,

@@ -1,16 +1,15 @@
 //! Connections, several at once.
 
-use crate::desk::Desk;
 use crate::noting::Noting;
 use cluster::Client;
 use doc::Mapping;
 use front::{Command, Reply, Service, StreamFault, serve_stream};
-use shard::Group;
+use shard::{Desk, Group, Shard, SharedShard};
 use std::alloc::Global;
 use std::io::{BufReader, Read};
 use std::net::{Shutdown, TcpListener, TcpStream};
+use std::sync::Wait;
 use std::sync::atomic::{AtomicBool, AtomicU64, Ordering};
-use std::sync::{Mutex, Wait};
 use std::thread::Threads;
 use std::time::{Clock, Duration};
 use std::{io, thread};
@@ -33,16 +32,16 @@ const LINGER: u64 = 500;
 
 /// Serves connections, four at once, until so many have ended. A fault on one ends that connection alone; where none can be had any more the
 /// last one is told.
-pub(crate) fn serve_connections<R: Threads + Wait + Clock + Sync, S: Service + Send + Drop>(
+pub(crate) fn serve_connections<R: Threads + Wait + Clock + Sync, D: LogDevice + Send>(
     rt: &R,
     alloc: Global,
     listener: &TcpListener,
-    service: S,
+    shard: Shard<D>,
     bounds: Bounds,
 ) -> io::Result<()> {
-    let name = String::from_str(alloc, service.index())?;
-    let mapping = service.mapping().copy(alloc)?;
-    let held = Mutex::new(service);
+    let name = String::from_str(alloc, shard.index())?;
+    let mapping = shard.mapping().copy(alloc)?;
+    let shared = SharedShard::new(alloc, shard);
     let queue = Queue::new(alloc, listener, bounds);
     let ends = thread::map_indices(
         rt,
@@ -53,7 +52,7 @@ pub(crate) fn serve_connections<R: Threads + Wait + Clock + Sync, S: Service + S
                 rt,
                 name: name.as_str(),
                 mapping: &mapping,
-                service: &held,
+                shard: &shared,
             };
             queue.run(rt, lane, desk)
         },
@@ -86,14 +85,7 @@ pub(crate) fn serve_group<R: Threads + Wait + Clock + Sync, D: LogDevice + Send>
         alloc,
         AT_ONCE + 1,
         &|lane| {
-            let group = Group {
-                rt,
-                alloc,
-                name: index.name,
-                mapping: index.mapping,
-                client: index.client,
-                seat: None,
-            };
+            let group = Group::new(rt, alloc, index.name, index.mapping, index.client);
             queue.run(rt, lane, group)
         },
     )?;

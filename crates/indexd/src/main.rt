@@ -7,7 +7,6 @@ mod command_line;
 mod connections;
 mod data_fault;
 mod data_folder;
-mod desk;
 mod dumping;
 mod explaining;
 mod fault;

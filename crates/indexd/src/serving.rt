@@ -10,7 +10,6 @@ use crate::verdict;
 use crate::verdict::VerdictFault;
 use cluster::{Cluster, ClusterFault, Devices, InMemory, Open, Unopened};
 use doc::{DocFault, Mapping};
-use front::Service;
 use serde_json::Value;
 use shard::Shard;
 use std::alloc::{AllocError, Global};
@@ -466,10 +465,10 @@ fn fields_of(alloc: Global, mapping: Option<&MappingFile>) -> Result<Mapping, Se
 }
 
 /// Takes the port, and serves the connections that come to it.
-fn listen<R, O, S>(
+fn listen<R, O, D>(
     rt: &R,
     settings: Settings<'_>,
-    service: S,
+    shard: Shard<D>,
     output: &mut O,
 ) -> Result<(), ServeFault>
 where
@@ -480,10 +479,10 @@ where
         + Clock
         + Sync,
     O: Write,
-    S: Service + Send + Drop,
+    D: LogDevice + Send,
 {
     let listener = bound(rt, settings.port, output)?;
-    serve_connections(rt, rt.alloc(), &listener, service, settings.bounds()).map_err(ended)
+    serve_connections(rt, rt.alloc(), &listener, shard, settings.bounds()).map_err(ended)
 }
 
 /// Takes the port, and serves the connections that come to it to copies on threads.

@@ -1,3 +1,4 @@
 pub mod Answering
 pub mod Group
 pub mod Ready
+pub mod Seen

@@ -1,15 +1,17 @@
 //! What a copy answers the commands of requests.
-ghost use Rattle.std.specs.Prelude.{◌≡◌, true, false, map, IfOk, IfErr, OnOk, option_map};
+ghost use Rattle.std.specs.Prelude.{◌≡◌, true, false, length, map, IfOk, IfErr, OnOk, option_map};
 ghost use Rattle.doc.specs.Outcome.{Gives};
+ghost use Rattle.engine.specs.Answer.{answer_of, found};
 ghost use Rattle.engine.specs.Shown.{hit_view};
 ghost use Rattle.front.specs.CommandView.{command_view};
+ghost use Rattle.front.specs.Reply.{counted};
 ghost use Rattle.front.specs.ReplyView.{reply_view};
 ghost use Rattle.query.specs.View.{query_view};
 ghost use Rattle.replica.specs.Fault.{fault_of, is_log};
 ghost use Rattle.replica.specs.Logged.{uses_log};
 ghost use Rattle.shard.specs.Answering as spec;
 
-use engine::Hit as Found;
+use engine::{Hit as Found, Snapshot};
 use front::command::{Change, Command, Condition, Write};
 use front::reply::{Found as Document, Hit, Outcome, Refusal, Reply, Wrote};
 use query::{Page, Query, SearchBody};
@@ -205,7 +207,6 @@ pub(crate) fn refusal_of(fault: &CopyFault) -> Refusal
     }
 }
 
-#[tactic(auto, using(crate::proofs::Found::each_in_turn))]
 fn search<D: LogDevice>(
     alloc: Global,
     copy: &Copy<D>,
@@ -219,6 +220,18 @@ fn search<D: LogDevice>(
     let Some(snapshot) = copy.snapshot() else {
         return Err(CopyFault::Closed);
     };
+    Ok(search_of(alloc, snapshot, body)?)
+}
+
+/// The documents of a page that a query means.
+#[tactic(auto, using(crate::proofs::Found::each_in_turn))]
+pub(crate) fn search_of(
+    alloc: Global,
+    snapshot: &Snapshot,
+    body: &SearchBody,
+) -> Result<Reply, AllocError>
+    ensures { IfOk result (λ r. reply_view r ≡ spec.hits_of (answer_of snapshot.now (query_view body.now.query) body.now.page)) }
+{
     let found = snapshot.search(alloc, &body.query, body.page)?;
     let hits = hits_of(alloc, &found.hits)?;
     Ok(Reply::Hits(found.total, hits))
@@ -252,8 +265,19 @@ fn count<D: LogDevice>(alloc: Global, copy: &Copy<D>, query: &Query) -> Result<R
     let Some(snapshot) = copy.snapshot() else {
         return Err(CopyFault::Closed);
     };
+    Ok(count_of(alloc, snapshot, query)?)
+}
+
+/// How many documents a query means.
+pub(crate) fn count_of(
+    alloc: Global,
+    snapshot: &Snapshot,
+    query: &Query,
+) -> Result<Reply, AllocError>
+    ensures { IfOk result (λ r. reply_view r ≡ counted (length (found snapshot.now (query_view query.now)))) }
+{
     let Ok(page) = Page::new(0, 0) else {
-        return Err(CopyFault::NoMemory);
+        return Err(AllocError);
     };
     let found = snapshot.search(alloc, query, page)?;
     Ok(Reply::Counted(found.total))

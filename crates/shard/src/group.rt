@@ -25,7 +25,7 @@ use translog::LogDevice;
 
 /// A searcher of a copy.
 #[derive(Drop)]
-pub struct Seat {
+struct Seat {
     copy: u32,
     searcher: Searcher<Unnamed>,
 }
@@ -39,8 +39,8 @@ pub struct Group<'a, R: Wait, D: LogDevice> {
     pub name: &'a str,
     pub mapping: &'a Mapping,
     pub client: &'a Client<D>,
-    /// The searcher of the last search; none before the first.
-    pub seat: Option<Seat>,
+    /// The searcher of the last search, if any.
+    seat: Option<Seat>,
 }
 
 impl<'a, R: Wait, D: LogDevice> Service for Group<'a, R, D> {
@@ -70,6 +70,31 @@ impl<'a, R: Wait, D: LogDevice> Service for Group<'a, R, D> {
 }
 
 impl<'a, R: Wait, D: LogDevice> Group<'a, R, D> {
+    /// An index of copies, with a searcher of the primary where that can be had; else the first search asks for it.
+    pub fn new(
+        rt: &'a R,
+        alloc: Global,
+        name: &'a str,
+        mapping: &'a Mapping,
+        client: &'a Client<D>,
+    ) -> Group<'a, R, D>
+        ensures { (result.name.now ≡ name.now) × (result.mapping.now ≡ mapping.now) }
+    {
+        let mut group = Group {
+            rt,
+            alloc,
+            name,
+            mapping,
+            client,
+            seat: None,
+        };
+        match group.seated() {
+            Ok(seat) => group.keep(seat, true),
+            Err(fault) => drop(fault),
+        }
+        group
+    }
+
     /// Has the copies do a command.
     fn answer(&mut self, command: Command) -> Result<Reply, ClusterFault>
         ensures done { IfOk result (λ r. IsDone (command_view command) (reply_view r)) }

@@ -2,10 +2,12 @@
 #![tactic(auto)]
 
 mod answering;
+pub mod desk;
 pub mod group;
 mod promoting;
 mod ready;
 pub mod shard;
 
-pub use group::{Group, Seat};
+pub use desk::{Desk, SharedShard};
+pub use group::Group;
 pub use shard::Shard;

@@ -1,21 +1,25 @@
 //! An index of one copy and its master, over devices of one kind.
-ghost use Rattle.std.specs.Prelude.{◌≡◌, ◌&&◌, true, false, not, IfOk, OnErr, OnOk, string_bytes};
+ghost use Rattle.std.specs.Prelude.{◌≡◌, ◌&&◌, true, false, not, IfOk, IfSome, OnErr, OnOk, string_bytes};
+ghost use Rattle.std.specs.Arc.{arc_value};
 ghost use Rattle.serde_json.specs.View.{view};
 ghost use Rattle.doc.specs.Fault.{fault_of};
 ghost use Rattle.doc.specs.Outcome.{Gives};
 ghost use Rattle.shard.specs.Answering.{begun_under};
 ghost use Rattle.shard.specs.Ready as spec;
 ghost use Rattle.shard.specs.Ready.{IsReady, IsUnready};
+ghost use Rattle.shard.specs.Seen.{IsSeen};
 
 use crate::answering::reply_to;
 use crate::ready::{is_primary, is_write, make_ready};
 use doc::{DocFault, Mapping};
+use engine::Snapshot;
 use front::reply::Refusal;
 use front::{Command, Reply, Service};
 use master::Master;
 use replica::Copy;
 use serde_json::Value;
 use std::alloc::{AllocError, Global};
+use std::sync::Arc;
 use translog::{LogDevice, MemDevice};
 
 /// An index of a name and a mapping over its one copy, and the master that makes the copy its primary again after it was opened anew.
@@ -82,6 +86,15 @@ impl<D: LogDevice> Shard<D> {
     {
         make_ready(self.alloc, &mut self.copy, &mut self.master, true)?;
         Ok(self.copy.snapshot().is_some() && is_primary(self.copy.role()))
+    }
+
+    /// What searches see; nothing while the copy is closed.
+    #[tactic(auto, using(crate::proofs::Seen::seen_now))]
+    pub(crate) fn snapshot(&self) -> Option<&Arc<Snapshot, Global>>
+        ensures { IfSome result (λ s. ∥ IsSeen (arc_value s.now) ∥₁) }
+    {
+        let _master = &self.master;
+        self.copy.snapshot()
     }
 }
 
