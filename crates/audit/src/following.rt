@@ -131,7 +131,7 @@ fn follow_open(
                 if !may_fail(alloc, copy, &deed.input)? {
                     return Err(Wrong::At(place));
                 }
-                let input = copy_input(alloc, &deed.input)?;
+                let input = deed.input.copy(alloc)?;
                 return Ok((Some(Cut { place, input }), None));
             }
             if !may_refuse(alloc, copy, &deed.input, fault)? {
@@ -201,7 +201,7 @@ fn takes(
     ensures copy { IfOk result (λ is. IsTrue is → copy.new.copy ≡ left_by copy.old.copy (copy_step copy.old.copy input.now)) }
     ensures open { copy.new.closed ≡ false }
 {
-    match copy.prepare(alloc, copy_input(alloc, input)?) {
+    match copy.prepare(alloc, input.copy(alloc)?) {
         Ok(prepared) => commits(alloc, copy, prepared, output),
         Err(CopyFault::NoMemory) => Err(AllocError),
         Err(_) => Ok(false),
@@ -250,7 +250,7 @@ fn may_refuse(
     if is_memory(fault) {
         return Ok(true);
     }
-    match copy.prepare(alloc, copy_input(alloc, input)?) {
+    match copy.prepare(alloc, input.copy(alloc)?) {
         Ok(prepared) => {
             drop(prepared);
             Ok(false)
@@ -287,7 +287,7 @@ fn may_fail(alloc: Global, copy: &mut OneCopy, input: &Input) -> Result<bool, Al
     if is_restart(input) {
         return Ok(true);
     }
-    match copy.prepare(alloc, copy_input(alloc, input)?) {
+    match copy.prepare(alloc, input.copy(alloc)?) {
         Ok(prepared) => {
             let keeps = matches!(prepared, Prepared::Kept(_, _));
             drop(prepared);
@@ -385,7 +385,7 @@ fn reopen(alloc: Global, copy: &mut OneCopy, cut: &Cut, is_kept: bool) -> Result
             Err(_) => Err(AllocError),
         };
     }
-    let input = copy_input(alloc, &cut.input)?;
+    let input = cut.input.copy(alloc)?;
     copy.tear(alloc, input, is_kept)?;
     Ok(())
 }
@@ -403,7 +403,7 @@ fn done(alloc: Global, place: u64, input: &Input) -> Result<Placed, AllocError>
 {
     Ok(Placed {
         place,
-        what: Move::Does(copy_input(alloc, input)?),
+        what: Move::Does(input.copy(alloc)?),
     })
 }
 
@@ -436,20 +436,6 @@ fn torn(cut: Cut, is_kept: bool) -> Placed
         Move::Tears(input, is_kept)
     };
     Placed { place, what }
-}
-
-/// An equal input.
-fn copy_input(alloc: Global, input: &Input) -> Result<Input, AllocError>
-    ensures { IfOk result (λ i. i ≡ input.now) }
-{
-    match input {
-        Input::Write(write) => Ok(Input::Write(write.copy(alloc)?)),
-        Input::Take(message) => Ok(Input::Take(message.copy(alloc)?)),
-        Input::Report(id) => Ok(Input::Report(*id)),
-        Input::Refresh => Ok(Input::Refresh),
-        Input::Get(id) => Ok(Input::Get(id.copy(alloc)?)),
-        Input::Restart => Ok(Input::Restart),
-    }
 }
 
 // ---- its beginning

@@ -1,5 +1,5 @@
 //! Steps of the copies of a world.
-ghost use Rattle.std.specs.Prelude.{◌≡◌, ◌≤◌, ◌<◌, ◌+◌, ◌++◌, ◌∷◌, [], false, map, vec_len, vec_capacity, IfOk, IfSome, OnOk, OnErr};
+ghost use Rattle.std.specs.Prelude.{◌≡◌, ◌≤◌, ◌<◌, ◌+◌, ◌++◌, ◌∷◌, [], false, map, vec_len, vec_capacity, IfOk, IfSome, IsOk, OnOk, OnErr};
 ghost use Rattle.std.specs.Option.{option_map};
 ghost use Rattle.op.specs.Ids.{ids_up_to};
 ghost use Rattle.replica.specs.Copy.{begun, opened};
@@ -235,8 +235,18 @@ fn copied(alloc: Global, messages: &[Msg]) -> Result<Vec<Msg>, AllocError>
 {
     let mut items = Vec::new(alloc);
     for message in messages {
-        items.push(message.copy(alloc)?)?;
+        items = pushed(items, message.copy(alloc))?;
     }
+    Ok(items)
+}
+
+/// The items and one more, where that could be made. It is a function over any type, so that what may be large is let go once and for all.
+fn pushed<T: Drop>(items: Vec<T>, one: Result<T, AllocError>) -> Result<Vec<T>, AllocError>
+    ensures made { OnOk result (IsOk one) }
+    ensures pushed { IfOk result (λ v. IfOk one (λ it. v.items ≡ items.items ++ it ∷ [])) }
+{
+    let mut items = items;
+    items.push(one?)?;
     Ok(items)
 }
 
