@@ -8,6 +8,10 @@ use caseless::default_case_fold_str;
 use std::alloc::{AllocError, Global};
 use unicode_segmentation::UnicodeSegmentation;
 
+mod words;
+
+pub use words::{Words, words_of};
+
 /// The words of a text in order, cut by UAX #29 and each under default case folding (the Unicode Standard, section 3.13).
 /// White space, punctuation and the like are no words.
 #[tactic(auto, unfolding(crate::specs::Tokens::tokens_of))]
