@@ -1,10 +1,9 @@
 -- Columns of the documents so far.
-use Rattle.std.proofs.Common.{◌≡◌, ◌<◌, ℕ, ℤ, zero, suc, Bool, true, false, ◌||◌, List, [], ◌∷◌, ◌++◌, length, map, replicate, refl, sym, ap, ◌∙◌, subst, slice_set, if◌then◌else◌, Option, Some, None, All, String, Global, BTreeMap, true≢false, string_bytes, Vec}
+use Rattle.std.proofs.Common.{◌≡◌, ◌<◌, ℕ, ℤ, zero, suc, Bool, true, false, ◌||◌, List, [], ◌∷◌, ◌++◌, length, map, replicate, refl, sym, ap, ◌∙◌, subst, slice_set, if◌then◌else◌, Option, Some, None, All, String, Global, BTreeMap, true≢false, string_bytes}
 use Rattle.std.specs.Prelude.{IfSome, is_some}
 use Rattle.std.specs.BTreeMap as tree
 use Rattle.std.specs.Map.{update, lookup}
-use Rattle.std.specs.Ordering.{is_eq, nat_cmp, int_eq}
-use Rattle.std.specs.Cmp.Lexicographic.{slice_cmp}
+use Rattle.std.specs.Ordering.{int_eq}
 use Rattle.std.proofs.lemmas.List.Elements.{All-push}
 use Rattle.std.specs.Option.{option_map_or}
 use Rattle.std.specs.Str.{bytes_eq}
@@ -17,27 +16,27 @@ use Rattle.query.specs.Meaning.{terms_at}
 use Rattle.marks.specs.Lists.{marked, places, zip_with}
 use Rattle.segment.specs.Blocks.{AreBlocks}
 use Rattle.segment.specs.Indexed.{has_term, has_value, IsColumn, IsColumnOr, AreColumns}
-use Rattle.segment.specs.Places.{places_at, places_at_long, one_if}
-use Rattle.segment.specs.Posted.{IsPosted, IsEmptyColumn, with_if, set_if}
-use Rattle.segment.specs.declared.blocks.Block.{Block}
+use Rattle.segment.specs.Places.{places_in, places_at_long, one_if}
+use Rattle.segment.specs.Posted.{IsPosted, IsEmptyMaking, IsFinished, with_if, set_if}
 use Rattle.segment.specs.declared.column.Column.{Column}
+use Rattle.segment.specs.declared.making.Making.{Making}
 use Rattle.segment.proofs.Ahead.{with_if-below}
 use Rattle.segment.proofs.Steps.{places-push, places-below}
 use Rattle.segment.proofs.Zips.{marked-zip}
 use Rattle.segment.proofs.PostedLaws.{values_at-append}
 
--- a column that has the documents so far, of n in all
-pub record IsColumnOf (fields : Fields) (docs : List Values) (name : List ℕ) (n : ℕ) (c : Column) : Type 0 where
+-- a column in the making that has the documents so far, of n in all
+pub record IsColumnOf (fields : Fields) (docs : List Values) (name : List ℕ) (n : ℕ) (c : Making) : Type 0 where
   pub has : c.has ≡ marked (replicate n false) (places (has_value name) docs)
-  pub texts : (w : List ℕ) → places_at c.texts w ≡ places (has_term fields name (text w)) docs
+  pub texts : (w : List ℕ) → places_in c.texts w ≡ places (has_term fields name (text w)) docs
   pub longs : (z : ℤ) → places_at_long c.longs z ≡ places (has_term fields name (long z)) docs
   pub yes : c.yes ≡ marked (replicate n false) (places (has_term fields name (flag true)) docs)
   pub no : c.no ≡ marked (replicate n false) (places (has_term fields name (flag false)) docs)
 
-pub IsColumnOf-empty : (fields : Fields) (name : List ℕ) (n : ℕ) (c : Column) → IsEmptyColumn n c → IsColumnOf fields [] name n c
+pub IsColumnOf-empty : (fields : Fields) (name : List ℕ) (n : ℕ) (c : Making) → IsEmptyMaking n c → IsColumnOf fields [] name n c
 IsColumnOf-empty fields name n c is = record {
   has = is.has;
-  texts = λ w. ap (λ es. option_map_or (λ v. v.items) (lookup (λ k. is_eq (slice_cmp nat_cmp w (string_bytes k))) es) []) is.texts;
+  texts = λ w. ap (λ es. option_map_or (λ v. v.items) (lookup (λ k. bytes_eq w (string_bytes k)) es) []) is.texts;
   longs = λ z. ap (λ es. option_map_or (λ v. v.items) (lookup (int_eq z) es) []) is.longs;
   yes = is.yes;
   no = is.no;
@@ -55,13 +54,13 @@ length-replicate (suc n) = ap suc (length-replicate n)
 long-marks : (n : ℕ) (ms : List Bool) (ps : List ℕ) → ms ≡ marked (replicate n false) ps → length ms ≡ n
 long-marks n ms ps is = ap length is ∙ length-marked (replicate n false) ps ∙ length-replicate n
 
-pub length-has : (fields : Fields) (docs : List Values) (name : List ℕ) (n : ℕ) (c : Column) → IsColumnOf fields docs name n c → length c.has ≡ n
+pub length-has : (fields : Fields) (docs : List Values) (name : List ℕ) (n : ℕ) (c : Making) → IsColumnOf fields docs name n c → length c.has ≡ n
 length-has fields docs name n c is = long-marks n c.has (places (has_value name) docs) is.has
 
-pub length-yes : (fields : Fields) (docs : List Values) (name : List ℕ) (n : ℕ) (c : Column) → IsColumnOf fields docs name n c → length c.yes ≡ n
+pub length-yes : (fields : Fields) (docs : List Values) (name : List ℕ) (n : ℕ) (c : Making) → IsColumnOf fields docs name n c → length c.yes ≡ n
 length-yes fields docs name n c is = long-marks n c.yes (places (has_term fields name (flag true)) docs) is.yes
 
-pub length-no : (fields : Fields) (docs : List Values) (name : List ℕ) (n : ℕ) (c : Column) → IsColumnOf fields docs name n c → length c.no ≡ n
+pub length-no : (fields : Fields) (docs : List Values) (name : List ℕ) (n : ℕ) (c : Making) → IsColumnOf fields docs name n c → length c.no ≡ n
 length-no fields docs name n c is = long-marks n c.no (places (has_term fields name (flag false)) docs) is.no
 
 marked-append : (ms : List Bool) (ps qs : List ℕ) → marked ms (ps ++ qs) ≡ marked (marked ms ps) qs
@@ -87,14 +86,14 @@ module _ (docs : List Values) (d : Values) (at : ℕ) (here : at ≡ length docs
       ∙ ap (marked (replicate n false)) (sym (places-push test docs d))
 
 -- one document more
-pub document-more : (fields : Fields) (docs : List Values) (name : List ℕ) (n : ℕ) (d : Values) (at : ℕ) (a b c : Column) → at ≡ length docs → IsColumnOf fields docs name n a → IsPosted (terms_at fields d name) at a b
+pub document-more : (fields : Fields) (docs : List Values) (name : List ℕ) (n : ℕ) (d : Values) (at : ℕ) (a b c : Making) → at ≡ length docs → IsColumnOf fields docs name n a → IsPosted (terms_at fields d name) at a b
     → c.has ≡ set_if (has_value name d) at b.has → c ≡ record b { has = c.has } → IsColumnOf fields (docs ++ d ∷ []) name n c
 document-more fields docs name n d at a b c here is posted value same = record {
   has = value ∙ ap (set_if (has_value name d) at) posted.has ∙ mark-more docs d at here (has_value name) n a.has is.has;
-  texts = λ w. ap (λ (x : Column). places_at x.texts w) same ∙ posted.texts w ∙ place-more docs d at here (has_term fields name (text w)) (places_at a.texts w) (is.texts w);
-  longs = λ z. ap (λ (x : Column). places_at_long x.longs z) same ∙ posted.longs z ∙ place-more docs d at here (has_term fields name (long z)) (places_at_long a.longs z) (is.longs z);
-  yes = ap (λ (x : Column). x.yes) same ∙ posted.yes ∙ mark-more docs d at here (has_term fields name (flag true)) n a.yes is.yes;
-  no = ap (λ (x : Column). x.no) same ∙ posted.no ∙ mark-more docs d at here (has_term fields name (flag false)) n a.no is.no;
+  texts = λ w. ap (λ (x : Making). places_in x.texts w) same ∙ posted.texts w ∙ place-more docs d at here (has_term fields name (text w)) (places_in a.texts w) (is.texts w);
+  longs = λ z. ap (λ (x : Making). places_at_long x.longs z) same ∙ posted.longs z ∙ place-more docs d at here (has_term fields name (long z)) (places_at_long a.longs z) (is.longs z);
+  yes = ap (λ (x : Making). x.yes) same ∙ posted.yes ∙ mark-more docs d at here (has_term fields name (flag true)) n a.yes is.yes;
+  no = ap (λ (x : Making). x.no) same ∙ posted.no ∙ mark-more docs d at here (has_term fields name (flag false)) n a.no is.no;
 }
 
 from_none : (test : Values → Bool) (docs : List Values) → zip_with (λ b d. b || test d) (replicate (length docs) false) docs ≡ map test docs
@@ -106,19 +105,19 @@ all_marked test docs n ms all is =
     is ∙ ap (λ k. marked (replicate k false) (places test docs)) all ∙ marked-zip test (replicate (length docs) false) docs (length-replicate (length docs)) ∙ from_none test docs
 
 -- the places of a number are those of documents
-pub number-places : (fields : Fields) (docs : List Values) (name : List ℕ) (n : ℕ) (c : Column) → n ≡ length docs → IsColumnOf fields docs name n c → (z : ℤ) → All (λ p. p < n) (places_at_long c.longs z)
+pub number-places : (fields : Fields) (docs : List Values) (name : List ℕ) (n : ℕ) (c : Making) → n ≡ length docs → IsColumnOf fields docs name n c → (z : ℤ) → All (λ p. p < n) (places_at_long c.longs z)
 number-places fields docs name n c all is z =
     subst (λ ps. All (λ p. p < n) ps) (sym (is.longs z)) (subst (λ k. All (λ p. p < k) (places (has_term fields name (long z)) docs)) (sym all) (places-below (has_term fields name (long z)) docs))
 
 -- all documents
-pub IsColumnOf-all : (fields : Fields) (docs : List Values) (name : List ℕ) (n : ℕ) (c : Column) (bs : Vec Block Global) → n ≡ length docs → IsColumnOf fields docs name n c → AreBlocks n c.longs bs.items → IsColumn fields docs name (record c { blocks = bs })
-IsColumnOf-all fields docs name n c bs all is are = record {
-  has = all_marked (has_value name) docs n c.has all is.has;
-  texts = is.texts;
-  longs = is.longs;
-  blocks = subst (λ k. AreBlocks k c.longs bs.items) all are;
-  yes = all_marked (has_term fields name (flag true)) docs n c.yes all is.yes;
-  no = all_marked (has_term fields name (flag false)) docs n c.no all is.no;
+pub IsColumnOf-all : (fields : Fields) (docs : List Values) (name : List ℕ) (n : ℕ) (m : Making) (c : Column) → n ≡ length docs → IsColumnOf fields docs name n m → IsFinished n m c → IsColumn fields docs name c
+IsColumnOf-all fields docs name n m c all is made = record {
+  has = made.has ∙ all_marked (has_value name) docs n m.has all is.has;
+  texts = λ w. made.texts w ∙ is.texts w;
+  longs = λ z. ap (λ l. places_at_long l z) made.longs ∙ is.longs z;
+  blocks = subst (λ k. AreBlocks k c.longs c.blocks.items) all made.blocks;
+  yes = made.yes ∙ all_marked (has_term fields name (flag true)) docs n m.yes all is.yes;
+  no = made.no ∙ all_marked (has_term fields name (flag false)) docs n m.no all is.no;
 }
 
 -- ---- the columns by their names

@@ -15,3 +15,4 @@ pub mod BuiltLaws
 pub mod SpanLaws
 pub mod Blocked
 pub mod MergedLaws
+pub mod InOrder

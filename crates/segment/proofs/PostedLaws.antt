@@ -11,10 +11,9 @@ use Rattle.doc.specs.declared.mapping.Kind.{Kind}
 use Rattle.doc.specs.declared.mapping.Kind.TheVariants.{Keyword, Text, Long, Boolean}
 use Rattle.query.specs.Meaning.{has, terms_of_value, terms_by}
 use Rattle.doc.specs.Document.{Values, values_at}
-use Rattle.segment.specs.Places.{added, places_at, places_at_long, has_word}
-use Rattle.segment.proofs.Steps.{has_word-push}
+use Rattle.segment.specs.Places.{added, places_in, places_at_long, has_word}
 use Rattle.segment.specs.Posted.{IsPosted, IsRoomFor, with_if, set_if}
-use Rattle.segment.specs.declared.column.Column.{Column}
+use Rattle.segment.specs.declared.making.Making.{Making}
 use Rattle.segment.proofs.Ahead.{has-append, with_if-twice}
 
 set_twice : (at : ℕ) (ms : List Bool) → slice_set (slice_set ms at true) at true ≡ slice_set ms at true
@@ -37,13 +36,13 @@ or_false true = refl
 or_false false = refl
 
 -- no term
-pub IsPosted-none : (at : ℕ) (c : Column) → IsPosted [] at c c
+pub IsPosted-none : (at : ℕ) (c : Making) → IsPosted [] at c c
 IsPosted-none at c = record { texts = λ w. refl; longs = λ z. refl; yes = refl; no = refl; has = refl }
 
 -- terms, and then more
-pub IsPosted-trans : (ts us : List Scalar) (at : ℕ) (a b c : Column) → IsPosted ts at a b → IsPosted us at b c → IsPosted (ts ++ us) at a c
+pub IsPosted-trans : (ts us : List Scalar) (at : ℕ) (a b c : Making) → IsPosted ts at a b → IsPosted us at b c → IsPosted (ts ++ us) at a c
 IsPosted-trans ts us at a b c p q = record {
-  texts = λ w. q.texts w ∙ ap (with_if (has us (text w)) at) (p.texts w) ∙ with_if-twice (has ts (text w)) (has us (text w)) at (places_at a.texts w) ∙ ap (λ h. with_if h at (places_at a.texts w)) (sym (has-append ts us (text w)));
+  texts = λ w. q.texts w ∙ ap (with_if (has us (text w)) at) (p.texts w) ∙ with_if-twice (has ts (text w)) (has us (text w)) at (places_in a.texts w) ∙ ap (λ h. with_if h at (places_in a.texts w)) (sym (has-append ts us (text w)));
   longs = λ z. q.longs z ∙ ap (with_if (has us (long z)) at) (p.longs z) ∙ with_if-twice (has ts (long z)) (has us (long z)) at (places_at_long a.longs z) ∙ ap (λ h. with_if h at (places_at_long a.longs z)) (sym (has-append ts us (long z)));
   yes = q.yes ∙ ap (set_if (has us (flag true)) at) p.yes ∙ set_if-twice (has ts (flag true)) (has us (flag true)) at a.yes ∙ ap (λ h. set_if h at a.yes) (sym (has-append ts us (flag true)));
   no = q.no ∙ ap (set_if (has us (flag false)) at) p.no ∙ set_if-twice (has ts (flag false)) (has us (flag false)) at a.no ∙ ap (λ h. set_if h at a.no) (sym (has-append ts us (flag false)));
@@ -51,7 +50,7 @@ IsPosted-trans ts us at a b c p q = record {
 }
 
 -- the room stays
-pub IsRoomFor-posted : (ts : List Scalar) (at : ℕ) (a b : Column) → IsPosted ts at a b → IsRoomFor at a → IsRoomFor at b
+pub IsRoomFor-posted : (ts : List Scalar) (at : ℕ) (a b : Making) → IsPosted ts at a b → IsRoomFor at a → IsRoomFor at b
 IsRoomFor-posted ts at a b p room = record {
   yes = omega (arith, room.yes, ap length p.yes, length-set_if (has ts (flag true)) at a.yes);
   no = omega (arith, room.no, ap length p.no, length-set_if (has ts (flag false)) at a.no);
@@ -75,22 +74,22 @@ module _ (at : ℕ) (old new : ℤ → List ℕ) (number : ℤ) (here : new numb
   pub one_number : (z : ℤ) → new z ≡ with_if (int_eq z number) at (old z)
   one_number z = by_number z (int_eq z number) refl
 
-pub posted-text : (at : ℕ) (c n : Column) (word : List ℕ) → ((w : List ℕ) → places_at n.texts w ≡ with_if (bytes_eq w word) at (places_at c.texts w)) → n ≡ record c { texts = n.texts } → IsPosted (text word ∷ []) at c n
+pub posted-text : (at : ℕ) (c n : Making) (word : List ℕ) → ((w : List ℕ) → places_in n.texts w ≡ with_if (bytes_eq w word) at (places_in c.texts w)) → n ≡ record c { texts = n.texts } → IsPosted (text word ∷ []) at c n
 posted-text at c n word is same = record {
-  texts = λ w. is w ∙ ap (λ b. with_if b at (places_at c.texts w)) (sym (or_false (bytes_eq w word)));
-  longs = λ z. ap (λ (x : Column). places_at_long x.longs z) same;
-  yes = ap (λ (x : Column). x.yes) same;
-  no = ap (λ (x : Column). x.no) same;
-  has = ap (λ (x : Column). x.has) same;
+  texts = λ w. is w ∙ ap (λ b. with_if b at (places_in c.texts w)) (sym (or_false (bytes_eq w word)));
+  longs = λ z. ap (λ (x : Making). places_at_long x.longs z) same;
+  yes = ap (λ (x : Making). x.yes) same;
+  no = ap (λ (x : Making). x.no) same;
+  has = ap (λ (x : Making). x.has) same;
 }
 
-pub posted-long : (at : ℕ) (c n : Column) (number : ℤ) → ((z : ℤ) → places_at_long n.longs z ≡ with_if (int_eq z number) at (places_at_long c.longs z)) → n ≡ record c { longs = n.longs } → IsPosted (long number ∷ []) at c n
+pub posted-long : (at : ℕ) (c n : Making) (number : ℤ) → ((z : ℤ) → places_at_long n.longs z ≡ with_if (int_eq z number) at (places_at_long c.longs z)) → n ≡ record c { longs = n.longs } → IsPosted (long number ∷ []) at c n
 posted-long at c n number is same = record {
-  texts = λ w. ap (λ (x : Column). places_at x.texts w) same;
+  texts = λ w. ap (λ (x : Making). places_in x.texts w) same;
   longs = λ z. is z ∙ ap (λ b. with_if b at (places_at_long c.longs z)) (sym (or_false (int_eq z number)));
-  yes = ap (λ (x : Column). x.yes) same;
-  no = ap (λ (x : Column). x.no) same;
-  has = ap (λ (x : Column). x.has) same;
+  yes = ap (λ (x : Making). x.yes) same;
+  no = ap (λ (x : Making). x.no) same;
+  has = ap (λ (x : Making). x.has) same;
 }
 
 -- ---- tokens
@@ -107,19 +106,18 @@ no_truths : (b : Bool) (ws : List (List ℕ)) → has (map text ws) (flag b) ≡
 no_truths b [] = refl
 no_truths b (v ∷ ws) = no_truths b ws
 
-pub posted-words : (at : ℕ) (c n : Column) (ws : List (List ℕ)) → ((w : List ℕ) → places_at n.texts w ≡ with_if (has_word w ws) at (places_at c.texts w)) → n ≡ record c { texts = n.texts } → IsPosted (map text ws) at c n
+pub posted-words : (at : ℕ) (c n : Making) (ws : List (List ℕ)) → ((w : List ℕ) → places_in n.texts w ≡ with_if (has_word w ws) at (places_in c.texts w)) → n ≡ record c { texts = n.texts; word = n.word } → IsPosted (map text ws) at c n
 posted-words at c n ws is same = record {
-  texts = λ w. is w ∙ ap (λ b. with_if b at (places_at c.texts w)) (sym (has_words w ws));
-  longs = λ z. ap (λ (x : Column). places_at_long x.longs z) same ∙ sym (ap (λ b. with_if b at (places_at_long c.longs z)) (no_numbers z ws));
-  yes = ap (λ (x : Column). x.yes) same ∙ sym (ap (λ b. set_if b at c.yes) (no_truths true ws));
-  no = ap (λ (x : Column). x.no) same ∙ sym (ap (λ b. set_if b at c.no) (no_truths false ws));
-  has = ap (λ (x : Column). x.has) same;
+  texts = λ w. is w ∙ ap (λ b. with_if b at (places_in c.texts w)) (sym (has_words w ws));
+  longs = λ z. ap (λ (x : Making). places_at_long x.longs z) same ∙ sym (ap (λ b. with_if b at (places_at_long c.longs z)) (no_numbers z ws));
+  yes = ap (λ (x : Making). x.yes) same ∙ sym (ap (λ b. set_if b at c.yes) (no_truths true ws));
+  no = ap (λ (x : Making). x.no) same ∙ sym (ap (λ b. set_if b at c.no) (no_truths false ws));
+  has = ap (λ (x : Making). x.has) same;
 }
 
--- one word more
-pub words-push : (at : ℕ) (ws : List (List ℕ)) (word : List ℕ) (first old new : List ℕ) (w : List ℕ) → old ≡ with_if (has_word w ws) at first → new ≡ with_if (bytes_eq w word) at old → new ≡ with_if (has_word w (ws ++ word ∷ [])) at first
-words-push at ws word first old new w is more =
-    more ∙ ap (with_if (bytes_eq w word) at) is ∙ with_if-twice (has_word w ws) (bytes_eq w word) at first ∙ ap (λ b. with_if b at first) (sym (has_word-push w ws word))
+-- the first of the words that are left
+pub words-first : (at : ℕ) (v : List ℕ) (vs : List (List ℕ)) (w : List ℕ) (old new : List ℕ) → new ≡ with_if (bytes_eq w v) at old → with_if (has_word w vs) at new ≡ with_if (has_word w (v ∷ vs)) at old
+words-first at v vs w old new is = ap (with_if (has_word w vs) at) is ∙ with_if-twice (bytes_eq w v) (has_word w vs) at old
 
 -- ---- values and fields, one after another
 
@@ -142,11 +140,11 @@ values_at-append name [] ys = refl
 values_at-append name (f ∷ xs) ys = first_values (bytes_eq f.0 name) f.1 _ _ _ (values_at-append name xs ys)
 
 -- one value more
-pub value-more : (k : Kind) (vs : List Scalar) (v : Scalar) (at : ℕ) (a b c : Column) → IsPosted (terms_by (Some k) vs) at a b → IsPosted (terms_by (Some k) (v ∷ [])) at b c → IsPosted (terms_by (Some k) (vs ++ v ∷ [])) at a c
+pub value-more : (k : Kind) (vs : List Scalar) (v : Scalar) (at : ℕ) (a b c : Making) → IsPosted (terms_by (Some k) vs) at a b → IsPosted (terms_by (Some k) (v ∷ [])) at b c → IsPosted (terms_by (Some k) (vs ++ v ∷ [])) at a c
 value-more k vs v at a b c p q = subst (λ ts. IsPosted ts at a c) (sym (terms_by-append k vs (v ∷ []))) (IsPosted-trans (terms_by (Some k) vs) (terms_by (Some k) (v ∷ [])) at a b c p q)
 
 -- one field more
-pub field-more : (k : Kind) (name : List ℕ) (fs : Values) (f : List ℕ × List Scalar) (at : ℕ) (a b c : Column) → IsPosted (terms_by (Some k) (values_at name fs)) at a b → IsPosted (terms_by (Some k) (values_at name (f ∷ []))) at b c
+pub field-more : (k : Kind) (name : List ℕ) (fs : Values) (f : List ℕ × List Scalar) (at : ℕ) (a b c : Making) → IsPosted (terms_by (Some k) (values_at name fs)) at a b → IsPosted (terms_by (Some k) (values_at name (f ∷ []))) at b c
     → IsPosted (terms_by (Some k) (values_at name (fs ++ f ∷ []))) at a c
 field-more k name fs f at a b c p q =
     subst (λ ts. IsPosted ts at a c) (sym (ap (terms_by (Some k)) (values_at-append name fs (f ∷ [])) ∙ terms_by-append k (values_at name fs) (values_at name (f ∷ []))))

@@ -1,9 +1,11 @@
--- A column with the terms of one more document.
+-- A column in the making with the terms of one more document.
 use Rattle.std.specs.Prelude.{◌≡◌, ◌<◌, ℕ, ℤ, Bool, true, false, List, [], length, replicate, slice_set, if◌then◌else◌}
 use Rattle.doc.specs.Scalar.{Scalar, text, long, flag}
 use Rattle.query.specs.Meaning.{has}
-use Rattle.segment.specs.Places.{added, places_at, places_at_long}
+use Rattle.segment.specs.Blocks.{AreBlocks}
+use Rattle.segment.specs.Places.{added, places_at, places_in, places_at_long}
 use Rattle.segment.specs.declared.column.Column.{Column}
+use Rattle.segment.specs.declared.making.Making.{Making}
 
 -- the places with this one added, or as they are
 abbrev pub with_if : Bool → ℕ → List ℕ → List ℕ
@@ -14,22 +16,31 @@ abbrev pub set_if : Bool → ℕ → List Bool → List Bool
 set_if b at ms = if b then slice_set ms at true else ms
 
 -- the marks of truth values reach to the place
-pub record IsRoomFor (at : ℕ) (c : Column) : Type 0 where
+pub record IsRoomFor (at : ℕ) (c : Making) : Type 0 where
   pub yes : at < length c.yes
   pub no : at < length c.no
 
 -- the column has these terms at the place, too
-pub record IsPosted (ts : List Scalar) (at : ℕ) (old new : Column) : Type 0 where
-  pub texts : (w : List ℕ) → places_at new.texts w ≡ with_if (has ts (text w)) at (places_at old.texts w)
+pub record IsPosted (ts : List Scalar) (at : ℕ) (old new : Making) : Type 0 where
+  pub texts : (w : List ℕ) → places_in new.texts w ≡ with_if (has ts (text w)) at (places_in old.texts w)
   pub longs : (z : ℤ) → places_at_long new.longs z ≡ with_if (has ts (long z)) at (places_at_long old.longs z)
   pub yes : new.yes ≡ set_if (has ts (flag true)) at old.yes
   pub no : new.no ≡ set_if (has ts (flag false)) at old.no
   pub has : new.has ≡ old.has
 
--- a column of n documents without values
-pub record IsEmptyColumn (n : ℕ) (c : Column) : Type 0 where
+-- nothing of n documents
+pub record IsEmptyMaking (n : ℕ) (c : Making) : Type 0 where
   pub has : c.has ≡ replicate n false
   pub texts : c.texts.entries ≡ []
   pub longs : c.longs.entries ≡ []
   pub yes : c.yes ≡ replicate n false
   pub no : c.no ≡ replicate n false
+
+-- the column of n documents that one in the making is
+pub record IsFinished (n : ℕ) (m : Making) (c : Column) : Type 0 where
+  pub has : c.has ≡ m.has
+  pub texts : (w : List ℕ) → places_at c.texts w ≡ places_in m.texts w
+  pub longs : c.longs ≡ m.longs
+  pub blocks : AreBlocks n c.longs c.blocks.items
+  pub yes : c.yes ≡ m.yes
+  pub no : c.no ≡ m.no

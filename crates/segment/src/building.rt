@@ -6,10 +6,10 @@ ghost use Rattle.doc.specs.Document.{values_at};
 ghost use Rattle.doc.specs.ScalarView.{values_view};
 ghost use Rattle.query.specs.Meaning.{terms_by};
 ghost use Rattle.segment.specs.Indexed.{has_value, AreColumns, IsColumn, IsColumnOr};
-ghost use Rattle.segment.specs.Posted.{IsEmptyColumn, IsPosted, IsRoomFor, set_if};
+ghost use Rattle.segment.specs.Posted.{IsPosted, IsRoomFor, set_if};
 
-use crate::blocks::blocks_of;
 use crate::column::Column;
+use crate::making::Making;
 use crate::posting::post_fields;
 use doc::{Doc, FieldValues, Kind, Mapping, Source};
 use marks::Marks;
@@ -85,46 +85,30 @@ fn column_of(
     ensures { IfOk result (IsColumn mapping.now.fields (map (λ d. d.values) docs.now) name.now) }
 {
     let kind = mapping.kind(name);
-    let mut column = empty(alloc, docs.len())?;
+    let mut making = Making::none(alloc, docs.len())?;
     let mut at = 0u32;
     for doc in docs {
-        post(alloc, &mut column, kind, name, doc.fields(), at)?;
-        mark_value(&mut column.has, name, doc.fields(), at);
+        post(alloc, &mut making, kind, name, doc.fields(), at)?;
+        mark_value(&mut making.has, name, doc.fields(), at);
         at += 1;
     }
-    let made = blocks_of(alloc, &column.longs, docs.len())?;
-    column.blocks = made;
-    Ok(column)
-}
-
-/// A column of so many documents without values.
-fn empty(alloc: Global, len: usize) -> Result<Column, AllocError>
-    ensures { IfOk result (IsEmptyColumn len) }
-{
-    Ok(Column {
-        has: Marks::none(alloc, len)?,
-        texts: BTreeMap::new(alloc),
-        longs: BTreeMap::new(alloc),
-        blocks: Vec::new(alloc),
-        yes: Marks::none(alloc, len)?,
-        no: Marks::none(alloc, len)?,
-    })
+    making.finish(alloc, docs.len())
 }
 
 /// Posts the terms that the fields of a document with the name have.
 fn post(
     alloc: Global,
-    column: &mut Column,
+    making: &mut Making,
     kind: Option<Kind>,
     name: &str,
     fields: &[FieldValues],
     at: u32,
 ) -> Result<(), AllocError>
-    requires { IsRoomFor at column.old }
-    ensures { OnOk result (IsPosted (terms_by kind (values_at name.now (values_view fields.now))) at column.old column.new) }
+    requires { IsRoomFor at making.old }
+    ensures { OnOk result (IsPosted (terms_by kind (values_at name.now (values_view fields.now))) at making.old making.new) }
 {
     match kind {
-        Some(kind) => post_fields(alloc, column, kind, name, fields, at),
+        Some(kind) => post_fields(alloc, making, kind, name, fields, at),
         None => Ok(()),
     }
 }

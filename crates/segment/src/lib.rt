@@ -5,6 +5,7 @@ pub mod blocks;
 mod building;
 pub mod column;
 mod limits;
+mod making;
 pub mod merging;
 mod posting;
 pub mod segment;

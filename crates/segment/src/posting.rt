@@ -1,19 +1,20 @@
-//! The terms of one more document, put into a column.
-ghost use Rattle.std.specs.Prelude.{◌≡◌, ℕ, ℤ, List, [], ◌∷◌, map, false, Some, OnOk, string_bytes};
+//! The terms of one more document, put into a column in the making.
+ghost use Rattle.std.specs.Prelude.{◌≡◌, ℕ, ℤ, List, [], ◌∷◌, false, Some, OnOk};
 ghost use Rattle.std.specs.Ordering.{int_eq};
 ghost use Rattle.std.specs.Str.{bytes_eq};
+ghost use Rattle.analysis.specs.Tokens.{tokens_of};
 ghost use Rattle.doc.specs.Document.{values_at};
 ghost use Rattle.doc.specs.ScalarView.{scalar_view, scalars_view, field_values_view, values_view};
 ghost use Rattle.doc.specs.Scalar as scalar;
 ghost use Rattle.query.specs.Meaning.{terms_of_value, terms_by};
-ghost use Rattle.segment.specs.Places.{added, ends_at, places_at, places_at_long, has_word};
+ghost use Rattle.segment.specs.Places.{added, ends_at, places_in, places_at_long, has_word};
 ghost use Rattle.segment.specs.Posted.{IsPosted, IsRoomFor, with_if};
 
-use crate::column::Column;
-use analysis::tokens;
+use crate::making::Making;
+use analysis::words_of;
 use doc::{FieldValues, Kind, Scalar};
 use std::alloc::{AllocError, Global};
-use std::collections::BTreeMap;
+use std::collections::{BTreeMap, HashMap};
 
 /// Whether the last place is this one.
 fn ends_at(places: &[u32], at: u32) -> bool
@@ -34,12 +35,12 @@ fn add_place(places: &mut Vec<u32>, at: u32) -> Result<(), AllocError>
 /// Adds a place to those of a text.
 fn post_text(
     alloc: Global,
-    texts: &mut BTreeMap<String, Vec<u32>>,
+    texts: &mut HashMap<String, Vec<u32>>,
     word: &str,
     at: u32,
 ) -> Result<(), AllocError>
-    ensures here { OnOk result (places_at texts.new word.now ≡ added (places_at texts.old word.now) at) }
-    ensures others { OnOk result ((w : List ℕ) → bytes_eq word.now w ≡ false → places_at texts.new w ≡ places_at texts.old w) }
+    ensures here { OnOk result (places_in texts.new word.now ≡ added (places_in texts.old word.now) at) }
+    ensures others { OnOk result ((w : List ℕ) → bytes_eq word.now w ≡ false → places_in texts.new w ≡ places_in texts.old w) }
 {
     if let Some(places) = texts.get_mut(word) {
         return add_place(places, at);
@@ -76,99 +77,100 @@ fn taken(alloc: Global, longs: &mut BTreeMap<i64, Vec<u32>>, number: i64) -> Vec
     }
 }
 
-/// Adds a place to those of each of some words.
+/// Adds a place to those of each token of a text, one after another in the buffer.
 fn post_words(
     alloc: Global,
-    texts: &mut BTreeMap<String, Vec<u32>>,
-    words: &[String],
+    texts: &mut HashMap<String, Vec<u32>>,
+    buffer: &mut String,
+    text: &str,
     at: u32,
 ) -> Result<(), AllocError>
-    ensures { OnOk result ((w : List ℕ) → places_at texts.new w ≡ with_if (has_word w (map string_bytes words.now)) at (places_at texts.old w)) }
+    ensures { OnOk result ((w : List ℕ) → places_in texts.new w ≡ with_if (has_word w (tokens_of text.now)) at (places_in texts.old w)) }
 {
-    for word in words {
-        post_text(alloc, texts, word.as_str(), at)?;
+    let mut words = words_of(text);
+    'words: while words.next_into(alloc, buffer)? {
+        post_text(alloc, texts, buffer.as_str(), at)?;
     }
     Ok(())
 }
 
 /// Posts a term of a document.
-fn post_term(alloc: Global, column: &mut Column, term: &Scalar, at: u32) -> Result<(), AllocError>
-    requires { IsRoomFor at column.old }
-    ensures { OnOk result (IsPosted (scalar_view term.now ∷ []) at column.old column.new) }
+fn post_term(alloc: Global, making: &mut Making, term: &Scalar, at: u32) -> Result<(), AllocError>
+    requires { IsRoomFor at making.old }
+    ensures { OnOk result (IsPosted (scalar_view term.now ∷ []) at making.old making.new) }
 {
     match term {
         Scalar::Text(text) => {
-            post_text(alloc, &mut column.texts, text.as_str(), at)?;
+            post_text(alloc, &mut making.texts, text.as_str(), at)?;
             Ok(())
         }
         Scalar::Long(number) => {
-            post_long(alloc, &mut column.longs, *number, at)?;
+            post_long(alloc, &mut making.longs, *number, at)?;
             Ok(())
         }
         Scalar::Flag(true) => {
-            column.yes.set(at);
+            making.yes.set(at);
             Ok(())
         }
         Scalar::Flag(false) => {
-            column.no.set(at);
+            making.no.set(at);
             Ok(())
         }
     }
 }
 
 /// Posts the tokens of a text.
-fn post_tokens(alloc: Global, column: &mut Column, text: &str, at: u32) -> Result<(), AllocError>
-    ensures { OnOk result (IsPosted (terms_of_value (scalar.text text.now)) at column.old column.new) }
+fn post_tokens(alloc: Global, making: &mut Making, text: &str, at: u32) -> Result<(), AllocError>
+    ensures { OnOk result (IsPosted (terms_of_value (scalar.text text.now)) at making.old making.new) }
 {
-    let words = tokens(alloc, text)?;
-    post_words(alloc, &mut column.texts, &words, at)?;
+    post_words(alloc, &mut making.texts, &mut making.word, text, at)?;
     Ok(())
 }
 
 /// Posts the terms of one value of a field of this kind.
 fn post_value(
     alloc: Global,
-    column: &mut Column,
+    making: &mut Making,
     kind: Kind,
     value: &Scalar,
     at: u32,
 ) -> Result<(), AllocError>
-    requires { IsRoomFor at column.old }
-    ensures { OnOk result (IsPosted (terms_by (Some kind) (scalar_view value.now ∷ [])) at column.old column.new) }
+    requires { IsRoomFor at making.old }
+    ensures { OnOk result (IsPosted (terms_by (Some kind) (scalar_view value.now ∷ [])) at making.old making.new) }
 {
     match kind {
-        Kind::Text => post_cut(alloc, column, value, at),
-        Kind::Keyword => post_term(alloc, column, value, at),
-        Kind::Long => post_term(alloc, column, value, at),
-        Kind::Boolean => post_term(alloc, column, value, at),
+        Kind::Text => post_cut(alloc, making, value, at),
+        Kind::Keyword => post_term(alloc, making, value, at),
+        Kind::Long => post_term(alloc, making, value, at),
+        Kind::Boolean => post_term(alloc, making, value, at),
     }
 }
 
 /// Posts the terms of one value of a text field: the tokens of a text.
-fn post_cut(alloc: Global, column: &mut Column, value: &Scalar, at: u32) -> Result<(), AllocError>
-    requires { IsRoomFor at column.old }
-    ensures { OnOk result (IsPosted (terms_by (Some Kind.Text) (scalar_view value.now ∷ [])) at column.old column.new) }
+fn post_cut(alloc: Global, making: &mut Making, value: &Scalar, at: u32) -> Result<(), AllocError>
+    requires { IsRoomFor at making.old }
+    ensures { OnOk result (IsPosted (terms_by (Some Kind.Text) (scalar_view value.now ∷ [])) at making.old making.new) }
 {
     match value {
-        Scalar::Text(text) => post_tokens(alloc, column, text.as_str(), at),
-        Scalar::Long(_) => post_term(alloc, column, value, at),
-        Scalar::Flag(_) => post_term(alloc, column, value, at),
+        Scalar::Text(text) => post_tokens(alloc, making, text.as_str(), at),
+        Scalar::Long(_) => post_term(alloc, making, value, at),
+        Scalar::Flag(_) => post_term(alloc, making, value, at),
     }
 }
 
 /// Posts the terms of some values.
 fn post_values(
     alloc: Global,
-    column: &mut Column,
+    making: &mut Making,
     kind: Kind,
     values: &[Scalar],
     at: u32,
 ) -> Result<(), AllocError>
-    requires { IsRoomFor at column.old }
-    ensures { OnOk result (IsPosted (terms_by (Some kind) (scalars_view values.now)) at column.old column.new) }
+    requires { IsRoomFor at making.old }
+    ensures { OnOk result (IsPosted (terms_by (Some kind) (scalars_view values.now)) at making.old making.new) }
 {
     for value in values {
-        post_value(alloc, column, kind, value, at)?;
+        post_value(alloc, making, kind, value, at)?;
     }
     Ok(())
 }
@@ -176,17 +178,17 @@ fn post_values(
 /// Posts the terms that the fields of a document with the name have.
 pub(crate) fn post_fields(
     alloc: Global,
-    column: &mut Column,
+    making: &mut Making,
     kind: Kind,
     name: &str,
     fields: &[FieldValues],
     at: u32,
 ) -> Result<(), AllocError>
-    requires { IsRoomFor at column.old }
-    ensures { OnOk result (IsPosted (terms_by (Some kind) (values_at name.now (values_view fields.now))) at column.old column.new) }
+    requires { IsRoomFor at making.old }
+    ensures { OnOk result (IsPosted (terms_by (Some kind) (values_at name.now (values_view fields.now))) at making.old making.new) }
 {
     for field in fields {
-        post_field(alloc, column, kind, name, field, at)?;
+        post_field(alloc, making, kind, name, field, at)?;
     }
     Ok(())
 }
@@ -194,17 +196,17 @@ pub(crate) fn post_fields(
 /// Posts the terms of a field, where it has the name.
 fn post_field(
     alloc: Global,
-    column: &mut Column,
+    making: &mut Making,
     kind: Kind,
     name: &str,
     field: &FieldValues,
     at: u32,
 ) -> Result<(), AllocError>
-    requires { IsRoomFor at column.old }
-    ensures { OnOk result (IsPosted (terms_by (Some kind) (values_at name.now (field_values_view field.now ∷ []))) at column.old column.new) }
+    requires { IsRoomFor at making.old }
+    ensures { OnOk result (IsPosted (terms_by (Some kind) (values_at name.now (field_values_view field.now ∷ []))) at making.old making.new) }
 {
     if field.name.as_str() != name {
         return Ok(());
     }
-    post_values(alloc, column, kind, &field.values, at)
+    post_values(alloc, making, kind, &field.values, at)
 }

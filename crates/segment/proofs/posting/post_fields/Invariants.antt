@@ -7,4 +7,4 @@ use Rattle.segment.proofs.posting.post_fields.Given as goal
 
 -- the fields so far are posted
 abbrev pub invariant-loop-field : goal.invariant-loop-field
-invariant-loop-field l = IsPosted (terms_by (Some l.kind) (values_at l.name (values_view (take l.field-index l.fields)))) l.at l.initial.column l.column
+invariant-loop-field l = IsPosted (terms_by (Some l.kind) (values_at l.name (values_view (take l.field-index l.fields)))) l.at l.initial.making l.making

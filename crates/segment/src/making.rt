@@ -1,0 +1,75 @@
+//! Columns in the making.
+ghost use Rattle.std.specs.Prelude.{◌≡◌, ◌<◌, ℕ, ℤ, List, All, IfOk};
+ghost use Rattle.segment.specs.Places.{places_at, places_at_long, places_in};
+ghost use Rattle.segment.specs.Blocks.{AreBlocks};
+ghost use Rattle.segment.specs.Posted.{IsEmptyMaking, IsFinished};
+
+use crate::blocks::blocks_of;
+use crate::column::Column;
+use marks::Marks;
+use std::alloc::{AllocError, Global};
+use std::collections::{BTreeMap, HashMap};
+
+/// The terms of a field in the documents so far. The texts are in no order yet.
+#[derive(Drop)]
+pub struct Making {
+    pub has: Marks,
+    pub texts: HashMap<String, Vec<u32>>,
+    pub longs: BTreeMap<i64, Vec<u32>>,
+    pub yes: Marks,
+    pub no: Marks,
+    /// Where a token of a text is put.
+    pub word: String,
+}
+
+impl Making {
+    /// Nothing of so many documents.
+    pub(crate) fn none(alloc: Global, len: usize) -> Result<Making, AllocError>
+        ensures { IfOk result (IsEmptyMaking len) }
+    {
+        Ok(Making {
+            has: Marks::none(alloc, len)?,
+            texts: HashMap::new(alloc),
+            longs: BTreeMap::new(alloc),
+            yes: Marks::none(alloc, len)?,
+            no: Marks::none(alloc, len)?,
+            word: String::new(alloc),
+        })
+    }
+
+    /// The column that it is, of so many documents.
+    pub(crate) fn finish(self, alloc: Global, len: usize) -> Result<Column, AllocError>
+        requires { (z : ℤ) → All (λ p. p < len) (places_at_long self.longs z) }
+        ensures { IfOk result (IsFinished len self) }
+    {
+        let Making {
+            has,
+            texts,
+            longs,
+            yes,
+            no,
+            word: _,
+        } = self;
+        let blocks = blocks_of(alloc, &longs, len)?;
+        let texts = in_order(alloc, texts)?;
+        Ok(Column {
+            has,
+            texts,
+            longs,
+            blocks,
+            yes,
+            no,
+        })
+    }
+}
+
+/// The same places, in order of the texts.
+fn in_order(
+    alloc: Global,
+    texts: HashMap<String, Vec<u32>>,
+) -> Result<BTreeMap<String, Vec<u32>>, AllocError>
+    ensures { IfOk result (λ m. (w : List ℕ) → places_at m w ≡ places_in texts w) }
+{
+    let _unique = texts.len();
+    BTreeMap::from_iter(alloc, texts)
+}
