@@ -1,5 +1,5 @@
 -- Columns of the documents so far.
-use Rattle.std.proofs.Common.{◌≡◌, ◌<◌, ℕ, ℤ, zero, suc, Bool, true, false, ◌||◌, List, [], ◌∷◌, ◌++◌, length, map, replicate, refl, sym, ap, ◌∙◌, subst, slice_set, if◌then◌else◌, Option, Some, None, All, String, Global, BTreeMap, true≢false, string_bytes}
+use Rattle.std.proofs.Common.{◌≡◌, ◌<◌, ℕ, ℤ, zero, suc, Bool, true, false, ◌||◌, List, [], ◌∷◌, ◌++◌, length, map, replicate, refl, sym, ap, ◌∙◌, subst, slice_set, if◌then◌else◌, Option, Some, None, All, String, Global, BTreeMap, true≢false}
 use Rattle.std.specs.Prelude.{IfSome, is_some}
 use Rattle.std.specs.BTreeMap as tree
 use Rattle.std.specs.Map.{update, lookup}
@@ -16,8 +16,8 @@ use Rattle.query.specs.Meaning.{terms_at}
 use Rattle.marks.specs.Lists.{marked, places, zip_with}
 use Rattle.segment.specs.Blocks.{AreBlocks}
 use Rattle.segment.specs.Indexed.{has_term, has_value, IsColumn, IsColumnOr, AreColumns}
-use Rattle.segment.specs.Places.{places_in, places_at_long, one_if}
-use Rattle.segment.specs.Posted.{IsPosted, IsEmptyMaking, IsFinished, with_if, set_if}
+use Rattle.segment.specs.Places.{places_at_long, one_if}
+use Rattle.segment.specs.Posted.{IsPosted, IsEmptyMaking, IsFinished, places_so_far, with_if, set_if}
 use Rattle.segment.specs.declared.column.Column.{Column}
 use Rattle.segment.specs.declared.making.Making.{Making}
 use Rattle.segment.proofs.Ahead.{with_if-below}
@@ -28,7 +28,7 @@ use Rattle.segment.proofs.PostedLaws.{values_at-append}
 -- a column in the making that has the documents so far, of n in all
 pub record IsColumnOf (fields : Fields) (docs : List Values) (name : List ℕ) (n : ℕ) (c : Making) : Type 0 where
   pub has : c.has ≡ marked (replicate n false) (places (has_value name) docs)
-  pub texts : (w : List ℕ) → places_in c.texts w ≡ places (has_term fields name (text w)) docs
+  pub texts : (w : List ℕ) → places_so_far c.texts w ≡ places (has_term fields name (text w)) docs
   pub longs : (z : ℤ) → places_at_long c.longs z ≡ places (has_term fields name (long z)) docs
   pub yes : c.yes ≡ marked (replicate n false) (places (has_term fields name (flag true)) docs)
   pub no : c.no ≡ marked (replicate n false) (places (has_term fields name (flag false)) docs)
@@ -36,7 +36,7 @@ pub record IsColumnOf (fields : Fields) (docs : List Values) (name : List ℕ) (
 pub IsColumnOf-empty : (fields : Fields) (name : List ℕ) (n : ℕ) (c : Making) → IsEmptyMaking n c → IsColumnOf fields [] name n c
 IsColumnOf-empty fields name n c is = record {
   has = is.has;
-  texts = λ w. ap (λ es. option_map_or (λ v. v.items) (lookup (λ k. bytes_eq w (string_bytes k)) es) []) is.texts;
+  texts = λ w. is.texts w;
   longs = λ z. ap (λ es. option_map_or (λ v. v.items) (lookup (int_eq z) es) []) is.longs;
   yes = is.yes;
   no = is.no;
@@ -90,7 +90,7 @@ pub document-more : (fields : Fields) (docs : List Values) (name : List ℕ) (n 
     → c.has ≡ set_if (has_value name d) at b.has → c ≡ record b { has = c.has } → IsColumnOf fields (docs ++ d ∷ []) name n c
 document-more fields docs name n d at a b c here is posted value same = record {
   has = value ∙ ap (set_if (has_value name d) at) posted.has ∙ mark-more docs d at here (has_value name) n a.has is.has;
-  texts = λ w. ap (λ (x : Making). places_in x.texts w) same ∙ posted.texts w ∙ place-more docs d at here (has_term fields name (text w)) (places_in a.texts w) (is.texts w);
+  texts = λ w. ap (λ (x : Making). places_so_far x.texts w) same ∙ posted.texts w ∙ place-more docs d at here (has_term fields name (text w)) (places_so_far a.texts w) (is.texts w);
   longs = λ z. ap (λ (x : Making). places_at_long x.longs z) same ∙ posted.longs z ∙ place-more docs d at here (has_term fields name (long z)) (places_at_long a.longs z) (is.longs z);
   yes = ap (λ (x : Making). x.yes) same ∙ posted.yes ∙ mark-more docs d at here (has_term fields name (flag true)) n a.yes is.yes;
   no = ap (λ (x : Making). x.no) same ∙ posted.no ∙ mark-more docs d at here (has_term fields name (flag false)) n a.no is.no;

@@ -6,6 +6,13 @@ use Rattle.segment.specs.Blocks.{AreBlocks}
 use Rattle.segment.specs.Places.{added, places_at, places_in, places_at_long}
 use Rattle.segment.specs.declared.column.Column.{Column}
 use Rattle.segment.specs.declared.making.Making.{Making}
+use Rattle.segment.specs.declared.texts.Texts.{Texts}
+use Rattle.segment.specs.declared.texts.Texts.TheVariants.{Ordered, Table}
+
+-- the places of a text in the making
+abbrev pub places_so_far : Texts → List ℕ → List ℕ
+places_so_far (Ordered m) w = places_at m w
+places_so_far (Table m) w = places_in m w
 
 -- the places with this one added, or as they are
 abbrev pub with_if : Bool → ℕ → List ℕ → List ℕ
@@ -22,7 +29,7 @@ pub record IsRoomFor (at : ℕ) (c : Making) : Type 0 where
 
 -- the column has these terms at the place, too
 pub record IsPosted (ts : List Scalar) (at : ℕ) (old new : Making) : Type 0 where
-  pub texts : (w : List ℕ) → places_in new.texts w ≡ with_if (has ts (text w)) at (places_in old.texts w)
+  pub texts : (w : List ℕ) → places_so_far new.texts w ≡ with_if (has ts (text w)) at (places_so_far old.texts w)
   pub longs : (z : ℤ) → places_at_long new.longs z ≡ with_if (has ts (long z)) at (places_at_long old.longs z)
   pub yes : new.yes ≡ set_if (has ts (flag true)) at old.yes
   pub no : new.no ≡ set_if (has ts (flag false)) at old.no
@@ -31,7 +38,7 @@ pub record IsPosted (ts : List Scalar) (at : ℕ) (old new : Making) : Type 0 wh
 -- nothing of n documents
 pub record IsEmptyMaking (n : ℕ) (c : Making) : Type 0 where
   pub has : c.has ≡ replicate n false
-  pub texts : c.texts.entries ≡ []
+  pub texts : (w : List ℕ) → places_so_far c.texts w ≡ []
   pub longs : c.longs.entries ≡ []
   pub yes : c.yes ≡ replicate n false
   pub no : c.no ≡ replicate n false
@@ -39,7 +46,7 @@ pub record IsEmptyMaking (n : ℕ) (c : Making) : Type 0 where
 -- the column of n documents that one in the making is
 pub record IsFinished (n : ℕ) (m : Making) (c : Column) : Type 0 where
   pub has : c.has ≡ m.has
-  pub texts : (w : List ℕ) → places_at c.texts w ≡ places_in m.texts w
+  pub texts : (w : List ℕ) → places_at c.texts w ≡ places_so_far m.texts w
   pub longs : c.longs ≡ m.longs
   pub blocks : AreBlocks n c.longs c.blocks.items
   pub yes : c.yes ≡ m.yes

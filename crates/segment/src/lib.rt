@@ -11,6 +11,7 @@ mod posting;
 pub mod segment;
 mod spans;
 mod term;
+mod texts;
 
 pub use column::Column;
 pub use merging::{LiveSegment, merge, read_kept};

@@ -6,15 +6,16 @@ ghost use Rattle.segment.specs.Posted.{IsEmptyMaking, IsFinished};
 
 use crate::blocks::blocks_of;
 use crate::column::Column;
+use crate::texts::Texts;
 use marks::Marks;
 use std::alloc::{AllocError, Global};
-use std::collections::{BTreeMap, HashMap};
+use std::collections::BTreeMap;
 
-/// The terms of a field in the documents so far. The texts are in no order yet.
+/// The terms of a field in the documents so far.
 #[derive(Drop)]
 pub struct Making {
     pub has: Marks,
-    pub texts: HashMap<String, Vec<u32>>,
+    pub texts: Texts,
     pub longs: BTreeMap<i64, Vec<u32>>,
     pub yes: Marks,
     pub no: Marks,
@@ -29,7 +30,7 @@ impl Making {
     {
         Ok(Making {
             has: Marks::none(alloc, len)?,
-            texts: HashMap::new(alloc),
+            texts: Texts::none(alloc, len),
             longs: BTreeMap::new(alloc),
             yes: Marks::none(alloc, len)?,
             no: Marks::none(alloc, len)?,
@@ -51,7 +52,7 @@ impl Making {
             word: _,
         } = self;
         let blocks = blocks_of(alloc, &longs, len)?;
-        let texts = in_order(alloc, texts)?;
+        let texts = texts.in_order(alloc)?;
         Ok(Column {
             has,
             texts,
@@ -61,15 +62,4 @@ impl Making {
             no,
         })
     }
-}
-
-/// The same places, in order of the texts.
-fn in_order(
-    alloc: Global,
-    texts: HashMap<String, Vec<u32>>,
-) -> Result<BTreeMap<String, Vec<u32>>, AllocError>
-    ensures { IfOk result (λ m. (w : List ℕ) → places_at m w ≡ places_in texts w) }
-{
-    let _unique = texts.len();
-    BTreeMap::from_iter(alloc, texts)
 }

@@ -1,54 +1,20 @@
 //! The terms of one more document, put into a column in the making.
 ghost use Rattle.std.specs.Prelude.{◌≡◌, ℕ, ℤ, List, [], ◌∷◌, false, Some, OnOk};
 ghost use Rattle.std.specs.Ordering.{int_eq};
-ghost use Rattle.std.specs.Str.{bytes_eq};
 ghost use Rattle.analysis.specs.Tokens.{tokens_of};
 ghost use Rattle.doc.specs.Document.{values_at};
 ghost use Rattle.doc.specs.ScalarView.{scalar_view, scalars_view, field_values_view, values_view};
 ghost use Rattle.doc.specs.Scalar as scalar;
 ghost use Rattle.query.specs.Meaning.{terms_of_value, terms_by};
-ghost use Rattle.segment.specs.Places.{added, ends_at, places_in, places_at_long, has_word};
-ghost use Rattle.segment.specs.Posted.{IsPosted, IsRoomFor, with_if};
+ghost use Rattle.segment.specs.Places.{added, places_at_long, has_word};
+ghost use Rattle.segment.specs.Posted.{IsPosted, IsRoomFor, places_so_far, with_if};
 
 use crate::making::Making;
+use crate::texts::{Texts, add_place};
 use analysis::words_of;
 use doc::{FieldValues, Kind, Scalar};
 use std::alloc::{AllocError, Global};
-use std::collections::{BTreeMap, HashMap};
-
-/// Whether the last place is this one.
-fn ends_at(places: &[u32], at: u32) -> bool
-    ensures { result ≡ ends_at at places.now }
-{
-    !places.is_empty() && places[places.len() - 1] == at
-}
-
-fn add_place(places: &mut Vec<u32>, at: u32) -> Result<(), AllocError>
-    ensures { OnOk result (places.new.items ≡ added places.old.items at) }
-{
-    if !ends_at(places, at) {
-        places.push(at)?;
-    }
-    Ok(())
-}
-
-/// Adds a place to those of a text.
-fn post_text(
-    alloc: Global,
-    texts: &mut HashMap<String, Vec<u32>>,
-    word: &str,
-    at: u32,
-) -> Result<(), AllocError>
-    ensures here { OnOk result (places_in texts.new word.now ≡ added (places_in texts.old word.now) at) }
-    ensures others { OnOk result ((w : List ℕ) → bytes_eq word.now w ≡ false → places_in texts.new w ≡ places_in texts.old w) }
-{
-    if let Some(places) = texts.get_mut(word) {
-        return add_place(places, at);
-    }
-    let places = vec![in alloc; at]?;
-    texts.insert(String::from_str(alloc, word)?, places)?;
-    Ok(())
-}
+use std::collections::BTreeMap;
 
 /// Adds a place to those of a number.
 fn post_long(
@@ -60,36 +26,28 @@ fn post_long(
     ensures here { OnOk result (places_at_long longs.new number ≡ added (places_at_long longs.old number) at) }
     ensures others { OnOk result ((z : ℤ) → int_eq number z ≡ false → places_at_long longs.new z ≡ places_at_long longs.old z) }
 {
-    let mut places = taken(alloc, longs, number);
-    add_place(&mut places, at)?;
+    if let Some(places) = longs.get_mut(&number) {
+        add_place(places, at)?;
+        return Ok(());
+    }
+    let places = vec![in alloc; at]?;
     longs.insert(number, places)?;
     Ok(())
-}
-
-/// Takes the places of a number away.
-fn taken(alloc: Global, longs: &mut BTreeMap<i64, Vec<u32>>, number: i64) -> Vec<u32>
-    ensures here { result.items ≡ places_at_long longs.old number }
-    ensures others { (z : ℤ) → int_eq number z ≡ false → places_at_long longs.new z ≡ places_at_long longs.old z }
-{
-    match longs.remove(&number) {
-        Some(places) => places,
-        None => Vec::new(alloc),
-    }
 }
 
 /// Adds a place to those of each token of a text, one after another in the buffer.
 fn post_words(
     alloc: Global,
-    texts: &mut HashMap<String, Vec<u32>>,
+    texts: &mut Texts,
     buffer: &mut String,
     text: &str,
     at: u32,
 ) -> Result<(), AllocError>
-    ensures { OnOk result ((w : List ℕ) → places_in texts.new w ≡ with_if (has_word w (tokens_of text.now)) at (places_in texts.old w)) }
+    ensures { OnOk result ((w : List ℕ) → places_so_far texts.new w ≡ with_if (has_word w (tokens_of text.now)) at (places_so_far texts.old w)) }
 {
     let mut words = words_of(text);
     'words: while words.next_into(alloc, buffer)? {
-        post_text(alloc, texts, buffer.as_str(), at)?;
+        texts.post(alloc, buffer.as_str(), at)?;
     }
     Ok(())
 }
@@ -101,7 +59,7 @@ fn post_term(alloc: Global, making: &mut Making, term: &Scalar, at: u32) -> Resu
 {
     match term {
         Scalar::Text(text) => {
-            post_text(alloc, &mut making.texts, text.as_str(), at)?;
+            making.texts.post(alloc, text.as_str(), at)?;
             Ok(())
         }
         Scalar::Long(number) => {

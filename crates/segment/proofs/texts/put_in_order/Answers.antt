@@ -6,7 +6,7 @@ use Rattle.std.proofs.lemmas.Iterator.Adapters.{fact_from_collect}
 use Rattle.std.proofs.lemmas.Iterator.Consumers.{YieldsList-from_rest}
 use Rattle.std.proofs.lemmas.Result.{IfOk-weaker}
 use Rattle.segment.proofs.InOrder.{same_at}
-use Rattle.segment.proofs.making.in_order.Goals as goal
+use Rattle.segment.proofs.texts.put_in_order.Goals as goal
 
 pub returns : goal.returns
 returns c = IfOk-weaker c.from_iter.result _ _

@@ -1,0 +1,110 @@
+//! The texts of a column in the making.
+ghost use Rattle.std.specs.Prelude.{◌≡◌, [], ℕ, List, false, IfOk, OnOk};
+ghost use Rattle.std.specs.Str.{bytes_eq};
+ghost use Rattle.segment.specs.Places.{added, ends_at, places_at, places_in};
+ghost use Rattle.segment.specs.Posted.{places_so_far};
+
+use std::alloc::{AllocError, Global};
+use std::collections::{BTreeMap, HashMap};
+
+/// The texts of so many documents are found sooner in a table, even if they are put in order after that.
+const LEAST_DOCUMENTS: usize = 64;
+
+/// Texts with their places, in order from the first, or else to be put in order at the end.
+#[derive(Drop)]
+pub enum Texts {
+    Ordered(BTreeMap<String, Vec<u32>>),
+    Table(HashMap<String, Vec<u32>>),
+}
+
+impl Texts {
+    /// No text of so many documents.
+    pub(crate) fn none(alloc: Global, len: usize) -> Texts
+        ensures { (w : List ℕ) → places_so_far result w ≡ [] }
+    {
+        if len < LEAST_DOCUMENTS {
+            Texts::Ordered(BTreeMap::new(alloc))
+        } else {
+            Texts::Table(HashMap::new(alloc))
+        }
+    }
+
+    /// Adds a place to those of a text.
+    pub(crate) fn post(&mut self, alloc: Global, word: &str, at: u32) -> Result<(), AllocError>
+        ensures here { OnOk result (places_so_far self.new word.now ≡ added (places_so_far self.old word.now) at) }
+        ensures others { OnOk result ((w : List ℕ) → bytes_eq word.now w ≡ false → places_so_far self.new w ≡ places_so_far self.old w) }
+    {
+        match self {
+            Texts::Ordered(texts) => post_in_order(alloc, texts, word, at),
+            Texts::Table(texts) => post_in_table(alloc, texts, word, at),
+        }
+    }
+
+    /// The same places, in order of the texts.
+    pub(crate) fn in_order(self, alloc: Global) -> Result<BTreeMap<String, Vec<u32>>, AllocError>
+        ensures { IfOk result (λ m. (w : List ℕ) → places_at m w ≡ places_so_far self w) }
+    {
+        match self {
+            Texts::Ordered(texts) => Ok(texts),
+            Texts::Table(texts) => put_in_order(alloc, texts),
+        }
+    }
+}
+
+fn post_in_order(
+    alloc: Global,
+    texts: &mut BTreeMap<String, Vec<u32>>,
+    word: &str,
+    at: u32,
+) -> Result<(), AllocError>
+    ensures here { OnOk result (places_at texts.new word.now ≡ added (places_at texts.old word.now) at) }
+    ensures others { OnOk result ((w : List ℕ) → bytes_eq word.now w ≡ false → places_at texts.new w ≡ places_at texts.old w) }
+{
+    let key = String::from_str(alloc, word)?;
+    let places = texts.entry(key)?.or_insert(Vec::new(alloc));
+    add_place(places, at)
+}
+
+fn post_in_table(
+    alloc: Global,
+    texts: &mut HashMap<String, Vec<u32>>,
+    word: &str,
+    at: u32,
+) -> Result<(), AllocError>
+    ensures here { OnOk result (places_in texts.new word.now ≡ added (places_in texts.old word.now) at) }
+    ensures others { OnOk result ((w : List ℕ) → bytes_eq word.now w ≡ false → places_in texts.new w ≡ places_in texts.old w) }
+{
+    if let Some(places) = texts.get_mut(word) {
+        return add_place(places, at);
+    }
+    let places = vec![in alloc; at]?;
+    texts.insert(String::from_str(alloc, word)?, places)?;
+    Ok(())
+}
+
+fn put_in_order(
+    alloc: Global,
+    texts: HashMap<String, Vec<u32>>,
+) -> Result<BTreeMap<String, Vec<u32>>, AllocError>
+    ensures { IfOk result (λ m. (w : List ℕ) → places_at m w ≡ places_in texts w) }
+{
+    let _unique = texts.len();
+    BTreeMap::from_iter(alloc, texts)
+}
+
+/// Adds a place, where it isn't the last.
+pub(crate) fn add_place(places: &mut Vec<u32>, at: u32) -> Result<(), AllocError>
+    ensures { OnOk result (places.new.items ≡ added places.old.items at) }
+{
+    if !ends_at(places, at) {
+        places.push(at)?;
+    }
+    Ok(())
+}
+
+/// Whether the last place is this one.
+fn ends_at(places: &[u32], at: u32) -> bool
+    ensures { result ≡ ends_at at places.now }
+{
+    !places.is_empty() && places[places.len() - 1] == at
+}
