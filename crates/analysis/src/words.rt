@@ -1,5 +1,5 @@
 //! The words of a text one by one, in one buffer.
-ghost use Rattle.std.specs.Prelude.{◌≡◌, [], ◌∷◌, map, drop, IfOk, OnOk, MatchBool, string_bytes};
+ghost use Rattle.std.specs.Prelude.{◌≡◌, [], ◌∷◌, drop, IfOk, OnOk, MatchBool, string_bytes};
 ghost use Rattle.analysis.specs.Tokens.{tokens_of, folded};
 
 use caseless::default_case_fold_str;

@@ -1,7 +1,6 @@
 //! Columns in the making.
-ghost use Rattle.std.specs.Prelude.{◌≡◌, ◌<◌, ℕ, ℤ, List, All, IfOk};
-ghost use Rattle.segment.specs.Places.{places_at, places_at_long, places_in};
-ghost use Rattle.segment.specs.Blocks.{AreBlocks};
+ghost use Rattle.std.specs.Prelude.{◌<◌, ℤ, All, IfOk};
+ghost use Rattle.segment.specs.Places.{places_at_long};
 ghost use Rattle.segment.specs.Posted.{IsEmptyMaking, IsFinished};
 
 use crate::blocks::blocks_of;
