@@ -1,5 +1,5 @@
 -- The numbers of a column in blocks, and the documents of those that pass.
-use Rattle.std.proofs.Common.{◌≡◌, ◌<◌, ◌≤ℤ◌, ℕ, ℤ, ◌+◌, suc, zero, Bool, true, false, not, ◌&&◌, ◌||◌, ◌∷◌, List, [], ◌++◌, length, map, refl, sym, ap, ◌∙◌, subst, filter, cond, arith, All, Option, Some, None, option_map, replicate, slice_set, get_or, take, if◌then◌else◌, true≢false, append-nil, append_assoc, Vec, BTreeMap}
+use Rattle.std.proofs.Common.{◌≡◌, ◌<◌, ◌≤ℤ◌, ℕ, ℤ, ◌+◌, suc, zero, Bool, true, false, not, ◌&&◌, ◌||◌, ◌∷◌, List, [], ◌++◌, length, map, refl, sym, ap, ◌∙◌, subst, filter, cond, arith, All, Option, Some, None, option_map, replicate, slice_set, get_or, take, if◌then◌else◌, true≢false, append-nil, append_assoc, BTreeMap}
 use Rattle.std.specs.BTreeMap as tree
 use Rattle.std.specs.List.{list_any}
 use Rattle.std.specs.Option.{option_map_or}
@@ -18,11 +18,12 @@ use Rattle.marks.specs.Lists.{zip_with, marked, places}
 use Rattle.segment.specs.Blocks.{IsBlock, AreBlocks, numbered, listed, numbers_of, places_of, hits}
 use Rattle.segment.specs.Indexed.{has_term}
 use Rattle.segment.specs.Limits.{limits_view}
-use Rattle.segment.specs.Places.{places_at_long}
+use Rattle.segment.specs.Places.{as_list, places_at_long}
 use Rattle.segment.specs.Term.{is_long}
 use Rattle.segment.specs.declared.blocks.Block.{Block}
 use Rattle.segment.specs.declared.blocks.Number.{Number}
 use Rattle.segment.specs.declared.limits.Limits.{Limits}
+use Rattle.segment.specs.declared.places.Places.{Places}
 use Rattle.segment.proofs.Withins.{so_far, long_hit, marked-if, longs-end}
 use Rattle.segment.proofs.Joins.{length-zip, or-end, or-more}
 
@@ -206,21 +207,20 @@ IsBlock-more n b c z ps is there items low low_here high high_here marks = recor
     grown : (P : Number → Type 0) → All P b.numbers.items → All (λ p. P (record { value = z; place = p })) ps → All P c.numbers.items
     grown P one more = subst (λ ks. All P ks) (sym items) (All-append P b.numbers.items (numbered z ps) one (All-map P (λ p. record { value = z; place = p }) ps more))
 
-module _ {Z : Type 0} where
-  -- one key more in the open block
-  pub listed-more : (bs : List Block) (ns : List Number) (seen : List (ℤ × Vec ℕ Z)) (e : ℤ × Vec ℕ Z) → numbers_of bs ++ ns ≡ listed seen → numbers_of bs ++ (ns ++ numbered e.0 e.1.items) ≡ listed (seen ++ e ∷ [])
-  listed-more bs ns seen e before =
-      sym (append_assoc (numbers_of bs) ns (numbered e.0 e.1.items)) ∙ ap (λ ks. ks ++ numbered e.0 e.1.items) before
-      ∙ ap (λ ks. listed seen ++ ks) (sym (append-nil (numbered e.0 e.1.items)))
-      ∙ sym (flat_map-append (λ (f : ℤ × Vec ℕ Z). numbered f.0 f.1.items) seen (e ∷ []))
+-- one key more in the open block
+pub listed-more : (bs : List Block) (ns : List Number) (seen : List (ℤ × Places)) (e : ℤ × Places) → numbers_of bs ++ ns ≡ listed seen → numbers_of bs ++ (ns ++ numbered e.0 (as_list e.1)) ≡ listed (seen ++ e ∷ [])
+listed-more bs ns seen e before =
+    sym (append_assoc (numbers_of bs) ns (numbered e.0 (as_list e.1))) ∙ ap (λ ks. ks ++ numbered e.0 (as_list e.1)) before
+    ∙ ap (λ ks. listed seen ++ ks) (sym (append-nil (numbered e.0 (as_list e.1))))
+    ∙ sym (flat_map-append (λ (f : ℤ × Places). numbered f.0 (as_list f.1)) seen (e ∷ []))
 
-  -- at the end the open block is one of them
-  pub AreBlocks-all : (n : ℕ) (longs : BTreeMap ℤ (Vec ℕ Z)) (bs cs : List Block) (b : Block) → tree.IsOrdered int_cmp longs → All (IsBlock n) bs → IsBlock n b → cs ≡ bs ++ b ∷ [] → numbers_of bs ++ b.numbers.items ≡ listed longs.entries → AreBlocks n longs cs
-  AreBlocks-all n longs bs cs b ordered are is items all = record {
-    each = subst (λ ds. All (IsBlock n) ds) (sym items) (All-push (IsBlock n) bs b are is);
-    ordered = λ lt. ordered;
-    all = λ lt. ap numbers_of items ∙ flat_map-append (λ (d : Block). d.numbers.items) bs (b ∷ []) ∙ ap (λ ns. numbers_of bs ++ ns) (append-nil b.numbers.items) ∙ all;
-  }
+-- at the end the open block is one of them
+pub AreBlocks-all : (n : ℕ) (longs : BTreeMap ℤ Places) (bs cs : List Block) (b : Block) → tree.IsOrdered int_cmp longs → All (IsBlock n) bs → IsBlock n b → cs ≡ bs ++ b ∷ [] → numbers_of bs ++ b.numbers.items ≡ listed longs.entries → AreBlocks n longs cs
+AreBlocks-all n longs bs cs b ordered are is items all = record {
+  each = subst (λ ds. All (IsBlock n) ds) (sym items) (All-push (IsBlock n) bs b are is);
+  ordered = λ lt. ordered;
+  all = λ lt. ap numbers_of items ∙ flat_map-append (λ (d : Block). d.numbers.items) bs (b ∷ []) ∙ ap (λ ns. numbers_of bs ++ ns) (append-nil b.numbers.items) ∙ all;
+}
 
 -- ---- all numbers
 
@@ -230,34 +230,34 @@ module _ (m : MappingData) (name : List ℕ) (test : Scalar → Bool) where
   some_of false z ps is = hits-none (λ y. test (long y)) (numbered z ps) (All-map (λ (n : Number). test (long n.value) ≡ false) (λ p. record { value = z; place = p }) ps (λ k d lt. is))
 
   -- the entry of a number has the places of its documents
-  abbrev IsRight : {Z : Type 0} → List (List ℕ) → ℤ × Vec ℕ Z → Type 0
-  IsRight sources e = e.1.items ≡ places (has_term m.fields name (long e.0)) (map (all_values m) sources)
+  abbrev IsRight : List (List ℕ) → ℤ × Places → Type 0
+  IsRight sources e = as_list e.1 ≡ places (has_term m.fields name (long e.0)) (map (all_values m) sources)
 
   -- the documents of each number of a dictionary that passes are marked
-  marked-listed : {Z : Type 0} (es : List (ℤ × Vec ℕ Z)) (old : List Bool) (sources : List (List ℕ)) → length old ≡ length sources
+  marked-listed : (es : List (ℤ × Places)) (old : List Bool) (sources : List (List ℕ)) → length old ≡ length sources
       → All (IsRight sources) es
       → marked old (hits (λ z. test (long z)) (listed es)) ≡ so_far (long_hit m name test) old sources es
   marked-listed [] old sources same right = sym (or-end old sources same)
   marked-listed (e ∷ es) old sources same right =
       let q = λ (z : ℤ). test (long z) in
       let once = λ (s : List ℕ). test (long e.0) && has_term m.fields name (long e.0) (all_values m s) in
-      let first : marked old (if test (long e.0) then e.1.items else []) ≡ zip_with (λ b s. b || once s) old sources = marked-if m old sources same old same (test (long e.0)) (has_term m.fields name (long e.0)) e.1.items (All-head (IsRight sources) e es right) in
-      ap (marked old) (hits-append q (numbered e.0 e.1.items) (listed es)) ∙ marked-append old (hits q (numbered e.0 e.1.items)) (hits q (listed es))
-      ∙ ap (λ ps. marked (marked old ps) (hits q (listed es))) (some_of (test (long e.0)) e.0 e.1.items refl)
+      let first : marked old (if test (long e.0) then as_list e.1 else []) ≡ zip_with (λ b s. b || once s) old sources = marked-if m old sources same old same (test (long e.0)) (has_term m.fields name (long e.0)) (as_list e.1) (All-head (IsRight sources) e es right) in
+      ap (marked old) (hits-append q (numbered e.0 (as_list e.1)) (listed es)) ∙ marked-append old (hits q (numbered e.0 (as_list e.1))) (hits q (listed es))
+      ∙ ap (λ ps. marked (marked old ps) (hits q (listed es))) (some_of (test (long e.0)) e.0 (as_list e.1) refl)
       ∙ ap (λ ms. marked ms (hits q (listed es))) first
       ∙ marked-listed es (zip_with (λ b s. b || once s) old sources) sources (length-zip (λ b s. b || once s) old sources same) (All-tail (IsRight sources) e es right)
       ∙ or-more once (λ s. list_any (λ e. long_hit m name test e s) es) old sources
 
-  kept : {Z : Type 0} (es : List (ℤ × Vec ℕ Z)) → filter (λ e. true) es ≡ es
+  kept : (es : List (ℤ × Places)) → filter (λ e. true) es ≡ es
   kept [] = refl
   kept (e ∷ es) = ap (λ fs. e ∷ fs) (kept es)
 
   -- the numbers of all blocks that pass mark the documents that have one
-  pub blocks-end : {Z : Type 0} (longs : BTreeMap ℤ (Vec ℕ Z)) → tree.IsOrdered int_cmp longs → (old : List Bool) (sources : List (List ℕ)) → length old ≡ length sources
+  pub blocks-end : (longs : BTreeMap ℤ Places) → tree.IsOrdered int_cmp longs → (old : List Bool) (sources : List (List ℕ)) → length old ≡ length sources
       → ((z : ℤ) → places_at_long longs z ≡ places (has_term m.fields name (long z)) (map (all_values m) sources))
       → marked old (hits (λ z. test (long z)) (listed longs.entries)) ≡ zip_with (λ b s. b || list_any (λ t. is_long t && test t) (terms_at m.fields (all_values m s) name)) old sources
   blocks-end longs ordered old sources same index =
-      marked-listed longs.entries old sources same (λ k d lt. ap (λ o. option_map_or (λ v. v.items) o []) (sym (All-found int_cmp_total longs ordered k d lt)) ∙ index _)
+      marked-listed longs.entries old sources same (λ k d lt. ap (λ o. option_map_or as_list o []) (sym (All-found int_cmp_total longs ordered k d lt)) ∙ index _)
       ∙ ap (so_far (long_hit m name test) old sources) (sym (kept longs.entries))
       ∙ longs-end m old sources same name test longs.entries (λ z. true) (λ z is. refl) index
 

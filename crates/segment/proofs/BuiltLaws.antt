@@ -1,5 +1,5 @@
 -- Columns of the documents so far.
-use Rattle.std.proofs.Common.{◌≡◌, ◌<◌, ℕ, ℤ, zero, suc, Bool, true, false, ◌||◌, List, [], ◌∷◌, ◌++◌, length, map, replicate, refl, sym, ap, ◌∙◌, subst, slice_set, if◌then◌else◌, Option, Some, None, All, String, Global, BTreeMap, true≢false}
+use Rattle.std.proofs.Common.{◌≡◌, ◌<◌, ℕ, ℤ, zero, suc, Bool, true, false, ◌||◌, List, [], ◌∷◌, ◌++◌, length, map, replicate, refl, sym, ap, ◌∙◌, subst, slice_set, if◌then◌else◌, Option, Some, None, All, String, Box, Global, BTreeMap, option_map, true≢false}
 use Rattle.std.specs.Prelude.{IfSome, is_some}
 use Rattle.std.specs.BTreeMap as tree
 use Rattle.std.specs.Map.{update, lookup}
@@ -15,8 +15,8 @@ use Rattle.doc.specs.Document.{Values, values_at}
 use Rattle.query.specs.Meaning.{terms_at}
 use Rattle.marks.specs.Lists.{marked, places, zip_with}
 use Rattle.segment.specs.Blocks.{AreBlocks}
-use Rattle.segment.specs.Indexed.{has_term, has_value, IsColumn, IsColumnOr, AreColumns}
-use Rattle.segment.specs.Places.{places_at_long, one_if}
+use Rattle.segment.specs.Indexed.{has_term, has_value, column_at, IsColumn, IsColumnOr, AreColumns}
+use Rattle.segment.specs.Places.{as_list, places_at_long, one_if}
 use Rattle.segment.specs.Posted.{IsPosted, IsEmptyMaking, IsFinished, places_so_far, with_if, set_if}
 use Rattle.segment.specs.declared.column.Column.{Column}
 use Rattle.segment.specs.declared.making.Making.{Making}
@@ -37,7 +37,7 @@ pub IsColumnOf-empty : (fields : Fields) (name : List ℕ) (n : ℕ) (c : Making
 IsColumnOf-empty fields name n c is = record {
   has = is.has;
   texts = λ w. is.texts w;
-  longs = λ z. ap (λ es. option_map_or (λ v. v.items) (lookup (int_eq z) es) []) is.longs;
+  longs = λ z. ap (λ es. option_map_or as_list (lookup (int_eq z) es) []) is.longs;
   yes = is.yes;
   no = is.no;
 }
@@ -122,15 +122,15 @@ IsColumnOf-all fields docs name n m c all is made = record {
 
 -- ---- the columns by their names
 
-module _ (fields : Fields) (docs : List Values) (old new : BTreeMap (String Global) Column) (name : List ℕ) (column : Column)
+module _ (fields : Fields) (docs : List Values) (old new : BTreeMap (String Global) (Box Column Global)) (name : List ℕ) (column : Box Column Global)
     (sets : (w : List ℕ) → tree.get_by_text new w ≡ update bytes_eq (tree.get_by_text old) name (Some column) w) where
-  column_at : (w : List ℕ) (b : Bool) → bytes_eq name w ≡ b → IfSome (tree.get_by_text old w) (IsColumn fields docs w) → IsColumn fields docs name column → IfSome (if b then Some column else tree.get_by_text old w) (IsColumn fields docs w)
-  column_at w true is before here = subst (λ v. IsColumn fields docs v column) ((bytes_decides name w).0 is) here
-  column_at w false is before here = before
+  is_at : (w : List ℕ) (b : Bool) → bytes_eq name w ≡ b → IfSome (column_at old w) (IsColumn fields docs w) → IsColumn fields docs name column.value → IfSome (option_map (λ b. b.value) (if b then Some column else tree.get_by_text old w)) (IsColumn fields docs w)
+  is_at w true is before here = subst (λ v. IsColumn fields docs v column.value) ((bytes_decides name w).0 is) here
+  is_at w false is before here = before
 
   -- the new column is one
-  pub columns-set : AreColumns fields docs old → IsColumn fields docs name column → AreColumns fields docs new
-  columns-set are here w = subst (λ o. IfSome o (IsColumn fields docs w)) (sym (sets w)) (column_at w (bytes_eq name w) refl (are w) here)
+  pub columns-set : AreColumns fields docs old → IsColumn fields docs name column.value → AreColumns fields docs new
+  columns-set are here w = subst (λ (o : Option (Box Column Global)). IfSome (option_map (λ b. b.value) o) (IsColumn fields docs w)) (sym (sets w)) (is_at w (bytes_eq name w) refl (are w) here)
 
   gone : (w : List ℕ) (b : Bool) → bytes_eq name w ≡ b → (if b then Some column else tree.get_by_text old w) ≡ None → (tree.get_by_text old w ≡ None) × (bytes_eq name w ≡ false)
   gone w true is none = cc
@@ -141,7 +141,7 @@ module _ (fields : Fields) (docs : List Values) (old new : BTreeMap (String Glob
   still-none w none = gone w (bytes_eq name w) refl (sym (sets w) ∙ none)
 
 -- a field that has a column isn't one that has none
-pub not-this : (m : BTreeMap (String Global) Column) (name : List ℕ) → is_some (tree.get_by_text m name) ≡ true → (w : List ℕ) → tree.get_by_text m w ≡ None → bytes_eq name w ≡ false
+pub not-this : (m : BTreeMap (String Global) (Box Column Global)) (name : List ℕ) → is_some (tree.get_by_text m name) ≡ true → (w : List ℕ) → tree.get_by_text m w ≡ None → bytes_eq name w ≡ false
 not-this m name there w none = by_test (bytes_eq name w) refl
   where
     by_test : (b : Bool) → bytes_eq name w ≡ b → b ≡ false
@@ -157,7 +157,7 @@ pub all-none-more : (name : List ℕ) (docs : List Values) (d : Values) → All 
 all-none-more name docs d all none = All-push (λ v. values_at name v ≡ []) docs d all none
 
 -- each field has its column, or no document has a value in it
-pub column-or : (fields : Fields) (docs : List Values) (name : List ℕ) (o : Option Column) → IfSome o (IsColumn fields docs name) → (o ≡ None → All (λ d. values_at name d ≡ []) docs) → IsColumnOr fields docs name o
+pub column-or : (fields : Fields) (docs : List Values) (name : List ℕ) (o : Option (Box Column Global)) → IfSome (option_map (λ b. b.value) o) (IsColumn fields docs name) → (o ≡ None → All (λ d. values_at name d ≡ []) docs) → IsColumnOr fields docs name (option_map (λ b. b.value) o)
 column-or fields docs name None is none = none refl
 column-or fields docs name (Some c) is none = is
 

@@ -1,5 +1,5 @@
 -- The words of documents are in the dictionary, and those with a prefix mark their documents.
-use Rattle.std.proofs.Common.{◌≡◌, ℕ, ◌+◌, Bool, true, false, ◌||◌, List, [], ◌∷◌, ◌++◌, length, map, refl, sym, ap, ◌∙◌, subst, arith, String, Vec, string_bytes, true≢false, filter, Option, Some, None, is_some, if◌then◌else◌, cond, nat_eq, replicate, All, suc, Ordering, ◌&&◌}
+use Rattle.std.proofs.Common.{◌≡◌, ℕ, ◌+◌, Bool, true, false, ◌||◌, List, [], ◌∷◌, ◌++◌, length, map, refl, sym, ap, ◌∙◌, subst, arith, String, string_bytes, true≢false, filter, Option, Some, None, is_some, if◌then◌else◌, cond, nat_eq, replicate, All, suc, Ordering, ◌&&◌}
 use Rattle.std.specs.Ordering.{is_gt}
 use Rattle.std.proofs.lemmas.List.Folds.{list_any-append}
 use Rattle.std.specs.Ordering.{is_le, nat_cmp}
@@ -13,8 +13,9 @@ use Rattle.std.specs.String.{string_cmp}
 use Rattle.std.proofs.lemmas.Map.Made.{is_some-lookup}
 use Rattle.std.proofs.lemmas.Map.Keys.{sorted_head, sorted_tail}
 use Rattle.std.proofs.lemmas.List.Kept.{IsStrictlySortedBy-filter}
-use Rattle.segment.specs.Places.{has_word, has_prefix}
+use Rattle.segment.specs.Places.{as_list, has_word, has_prefix}
 use Rattle.marks.specs.Lists.{places, places_from}
+use Rattle.segment.specs.declared.places.Places.{Places}
 use Rattle.segment.proofs.Prefixes.{is_word, pre, sound, complete}
 
 pub bool_same : (a b : Bool) → (a ≡ true → b ≡ true) → (b ≡ true → a ≡ true) → a ≡ b
@@ -51,13 +52,13 @@ module _ {A : Type 0} where
   swapped P [] all = tt
   swapped P (x ∷ xs) all = ((λ w. (all w).0), swapped P xs (λ w. (all w).1))
 
-module _ {Y Z A : Type 0} (words : A → List (List ℕ)) (docs : List A) (es : List (String Y × Vec ℕ Z))
-    (index : (w : List ℕ) → option_map_or (λ v. v.items) (lookup (is_word w) es) [] ≡ places (λ d. has_word w (words d)) docs) where
+module _ {Y A : Type 0} (words : A → List (List ℕ)) (docs : List A) (es : List (String Y × Places))
+    (index : (w : List ℕ) → option_map_or as_list (lookup (is_word w) es) [] ≡ places (λ d. has_word w (words d)) docs) where
   by_word : (w : List ℕ) (b : Bool) → list_any (is_word w) (keys_of es) ≡ b → AllByRecursion (λ d. has_word w (words d) ≡ true → list_any (is_word w) (keys_of es) ≡ true) docs
   by_word w true is = always (λ d has. is) docs
   by_word w false is =
       let gone : lookup (is_word w) es ≡ None = none_there _ (is_some-lookup (is_word w) es ∙ is) in
-      let empty : places (λ d. has_word w (words d)) docs ≡ [] = sym (index w) ∙ ap (λ o. option_map_or (λ v. v.items) o []) gone in
+      let empty : places (λ d. has_word w (words d)) docs ≡ [] = sym (index w) ∙ ap (λ o. option_map_or as_list o []) gone in
       every (λ d not has. absurd (true≢false (sym has ∙ not))) docs (none_pass (λ d. has_word w (words d)) 0 docs empty)
 
   -- each word of a document is a key
@@ -65,7 +66,7 @@ module _ {Y Z A : Type 0} (words : A → List (List ℕ)) (docs : List A) (es : 
   listed = swapped (λ (w : List ℕ) (d : A). has_word w (words d) ≡ true → list_any (is_word w) (keys_of es) ≡ true) docs (λ w. by_word w (list_any (is_word w) (keys_of es)) refl)
 
   -- the documents of the words so far are those with a word that begins with the prefix
-  pub marked-prefix : (p : List ℕ) (q : String Y → Bool) → ((k : String Y) → is_le (slice_cmp nat_cmp p (string_bytes k)) ≡ true → q k ≡ true) → (seen rest : List (String Y × Vec ℕ Z)) → filter (λ e. q e.0) es ≡ seen ++ rest
+  pub marked-prefix : (p : List ℕ) (q : String Y → Bool) → ((k : String Y) → is_le (slice_cmp nat_cmp p (string_bytes k)) ≡ true → q k ≡ true) → (seen rest : List (String Y × Places)) → filter (λ e. q e.0) es ≡ seen ++ rest
       → ((w : List ℕ) → starts_with nat_eq w p ≡ true → list_any (is_word w) (keys_of rest) ≡ false) → list_all (pre p) seen ≡ true
       → map (λ d. list_any (λ e. has_word (string_bytes e.0) (words d)) seen) docs ≡ map (λ d. has_prefix p (words d)) docs
   marked-prefix p q passes seen rest parted none all = map_same _ _ docs (every (λ d keys. bool_same _ _ (sound p seen (words d) all) (complete p q passes es seen rest parted none (words d) keys)) docs listed)

@@ -1,5 +1,5 @@
 -- The documents of the words so far, marked.
-use Rattle.std.proofs.Common.{◌≡◌, ℕ, Bool, true, false, ◌||◌, ◌∷◌, List, [], ◌++◌, length, map, refl, sym, ap, ◌∙◌, ◌+◌, String, Vec, string_bytes, filter, nat_eq, if◌then◌else◌}
+use Rattle.std.proofs.Common.{◌≡◌, ℕ, Bool, true, false, ◌||◌, ◌∷◌, List, [], ◌++◌, length, map, refl, sym, ap, ◌∙◌, ◌+◌, String, string_bytes, filter, nat_eq, if◌then◌else◌}
 use Rattle.std.specs.List.{list_any, list_all, starts_with}
 use Rattle.std.specs.Map.{keys_of, lookup}
 use Rattle.std.specs.Option.{option_map_or}
@@ -11,7 +11,8 @@ use Rattle.doc.specs.Document.{Values, all_values}
 use Rattle.query.specs.Meaning.{terms_at, begins_with}
 use Rattle.marks.specs.Lists.{zip_with, places, places_from}
 use Rattle.segment.specs.Indexed.{has_term}
-use Rattle.segment.specs.Places.{has_word, has_prefix}
+use Rattle.segment.specs.Places.{as_list, has_word, has_prefix}
+use Rattle.segment.specs.declared.places.Places.{Places}
 use Rattle.segment.proofs.Ahead.{words_in, has-words, begins-words}
 use Rattle.segment.proofs.Joins.{or-more, or-end}
 use Rattle.segment.proofs.Zips.{zip-test, zip-map}
@@ -36,13 +37,13 @@ module _ (m : MappingData) (name : List ℕ) where
   words d = words_in (terms_at m.fields d name)
 
   -- the column of the field has the words of each document
-  pub index : {Y Z : Type 0} (docs : List Values) (es : List (String Y × Vec ℕ Z))
-      → ((w : List ℕ) → option_map_or (λ v. v.items) (lookup (is_word w) es) [] ≡ places (has_term m.fields name (text w)) docs)
-      → (w : List ℕ) → option_map_or (λ v. v.items) (lookup (is_word w) es) [] ≡ places (λ d. has_word w (words d)) docs
+  pub index : {Y : Type 0} (docs : List Values) (es : List (String Y × Places))
+      → ((w : List ℕ) → option_map_or as_list (lookup (is_word w) es) [] ≡ places (has_term m.fields name (text w)) docs)
+      → (w : List ℕ) → option_map_or as_list (lookup (is_word w) es) [] ≡ places (λ d. has_word w (words d)) docs
   index docs es is w = is w ∙ places_from-ext (has_term m.fields name (text w)) (λ d. has_word w (words d)) (λ d. has-words (terms_at m.fields d name) w) 0 docs
 
   -- the documents of the entries so far are marked
-  abbrev pub seen_marks : {Y Z : Type 0} → List Bool → List (List ℕ) → List (String Y × Vec ℕ Z) → List Bool
+  abbrev pub seen_marks : {Y : Type 0} → List Bool → List (List ℕ) → List (String Y × Places) → List Bool
   seen_marks old sources seen = zip_with (λ b s. b || list_any (λ e. has_word (string_bytes e.0) (words (all_values m s))) seen) old sources
 
   module _ (old : List Bool) (sources : List (List ℕ)) where
@@ -50,7 +51,7 @@ module _ (m : MappingData) (name : List ℕ) where
     none-seen same = sym (or-end old sources same)
 
     -- one entry more
-    pub more-seen : {Y Z : Type 0} (seen : List (String Y × Vec ℕ Z)) (entry : String Y × Vec ℕ Z) →
+    pub more-seen : {Y : Type 0} (seen : List (String Y × Places)) (entry : String Y × Places) →
         zip_with (λ b s. b || has_word (string_bytes entry.0) (words (all_values m s))) (seen_marks old sources seen) sources ≡ seen_marks old sources (seen ++ entry ∷ [])
     more-seen seen entry =
         or-more (λ s. list_any (λ e. has_word (string_bytes e.0) (words (all_values m s))) seen) (λ s. has_word (string_bytes entry.0) (words (all_values m s))) old sources
@@ -66,9 +67,9 @@ module _ (m : MappingData) (name : List ℕ) where
         ∙ zip-map (all_values m) (λ b d. b || g d) old sources
 
     -- at the end of the run of a prefix, those with a term that begins with it
-    pub prefix-seen : {Y Z : Type 0} (es : List (String Y × Vec ℕ Z))
-        → ((w : List ℕ) → option_map_or (λ v. v.items) (lookup (is_word w) es) [] ≡ places (has_term m.fields name (text w)) (map (all_values m) sources))
-        → (p : List ℕ) (q : String Y → Bool) → ((k : String Y) → is_le (slice_cmp nat_cmp p (string_bytes k)) ≡ true → q k ≡ true) → (seen rest : List (String Y × Vec ℕ Z)) → filter (λ e. q e.0) es ≡ seen ++ rest
+    pub prefix-seen : {Y : Type 0} (es : List (String Y × Places))
+        → ((w : List ℕ) → option_map_or as_list (lookup (is_word w) es) [] ≡ places (has_term m.fields name (text w)) (map (all_values m) sources))
+        → (p : List ℕ) (q : String Y → Bool) → ((k : String Y) → is_le (slice_cmp nat_cmp p (string_bytes k)) ≡ true → q k ≡ true) → (seen rest : List (String Y × Places)) → filter (λ e. q e.0) es ≡ seen ++ rest
         → ((w : List ℕ) → starts_with nat_eq w p ≡ true → list_any (is_word w) (keys_of rest) ≡ false) → list_all (pre p) seen ≡ true
         → seen_marks old sources seen ≡ zip_with (λ b s. b || list_any (begins_with p) (terms_at m.fields (all_values m s) name)) old sources
     prefix-seen es is p q passes seen rest parted none all =

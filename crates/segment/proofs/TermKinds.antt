@@ -1,5 +1,5 @@
 -- The terms of one kind that pass a test, by the keys of their dictionary.
-use Rattle.std.proofs.Common.{◌≡◌, ℕ, ℤ, Bool, true, false, ◌&&◌, ◌||◌, ◌∷◌, List, [], refl, sym, ap, ◌∙◌, subst, Vec, true≢false, None, filter}
+use Rattle.std.proofs.Common.{◌≡◌, ℕ, ℤ, Bool, true, false, ◌&&◌, ◌||◌, ◌∷◌, List, [], refl, sym, ap, ◌∙◌, subst, true≢false, None, filter}
 use Rattle.std.specs.List.{list_any, AllByRecursion}
 use Rattle.std.specs.Map.{keys_of, lookup}
 use Rattle.std.specs.Option.{option_map_or}
@@ -11,6 +11,8 @@ use Rattle.doc.specs.Scalar.{Scalar, text, long, flag, is_scalar}
 use Rattle.query.specs.Meaning.{has}
 use Rattle.marks.specs.Lists.{places}
 use Rattle.segment.specs.Term.{is_text, is_long, is_truth}
+use Rattle.segment.specs.Places.{as_list}
+use Rattle.segment.specs.declared.places.Places.{Places}
 use Rattle.segment.proofs.Prefixes.{any_kept}
 use Rattle.segment.proofs.Listed.{bool_same, none_there, none_pass, every, always, swapped}
 
@@ -75,25 +77,25 @@ any_is p (t ∷ ts) is = one_of (p t) (list_any p ts) is
     (λ here. (t, here, first (is_scalar t t) (has ts t) (itself t)))
     (λ more. let r = any_is p ts more in (r.0, r.1, later (is_scalar r.0 t) (has ts r.0) r.2))
 
-module _ {K W Z : Type 0} (of : W → Scalar) (key : K → W) (at : W → K → Bool) (at_is : (w : W) (k : K) → at w k ≡ true → w ≡ key k)
+module _ {K W : Type 0} (of : W → Scalar) (key : K → W) (at : W → K → Bool) (at_is : (w : W) (k : K) → at w k ≡ true → w ≡ key k)
     (is_kind : Scalar → Bool) (made : (t : Scalar) → is_kind t ≡ true → (w : W) × (t ≡ of w)) (kind : (w : W) → is_kind (of w) ≡ true) (test : Scalar → Bool) where
   -- whether the entry's key passes and is among the terms
-  abbrev pub hit : List Scalar → K × Vec ℕ Z → Bool
+  abbrev pub hit : List Scalar → K × Places → Bool
   hit ts e = test (of (key e.0)) && has ts (of (key e.0))
 
-  sound : (ts : List Scalar) (es : List (K × Vec ℕ Z)) → list_any (hit ts) es ≡ true → list_any (λ t. is_kind t && test t) ts ≡ true
+  sound : (ts : List Scalar) (es : List (K × Places)) → list_any (hit ts) es ≡ true → list_any (λ t. is_kind t && test t) ts ≡ true
   sound ts [] is = absurd (true≢false (sym is))
   sound ts (e ∷ es) is = one_of (hit ts e) (list_any (hit ts) es) is
       (λ here. has_any (of (key e.0)) (λ t. is_kind t && test t) (both _ _ (kind (key e.0)) (left _ _ here)) ts (right _ _ here))
       (λ more. sound ts es more)
 
-  key_hit : (ts : List Scalar) (w : W) → test (of w) ≡ true → has ts (of w) ≡ true → (es : List (K × Vec ℕ Z)) → list_any (at w) (keys_of es) ≡ true → list_any (hit ts) es ≡ true
+  key_hit : (ts : List Scalar) (w : W) → test (of w) ≡ true → has ts (of w) ≡ true → (es : List (K × Places)) → list_any (at w) (keys_of es) ≡ true → list_any (hit ts) es ≡ true
   key_hit ts w passes has_it [] is = absurd (true≢false (sym is))
   key_hit ts w passes has_it (e ∷ es) is = one_of (at w e.0) (list_any (at w) (keys_of es)) is
       (λ here. let P : W → Type 0 = λ v. (test (of v) && has ts (of v)) ≡ true in first (hit ts e) (list_any (hit ts) es) (subst P (at_is w e.0 here) (both _ _ passes has_it)))
       (λ more. later (hit ts e) (list_any (hit ts) es) (key_hit ts w passes has_it es more))
 
-  complete : (ts : List Scalar) (es : List (K × Vec ℕ Z)) → ((w : W) → test (of w) ≡ true → has ts (of w) ≡ true → list_any (at w) (keys_of es) ≡ true) → list_any (λ t. is_kind t && test t) ts ≡ true → list_any (hit ts) es ≡ true
+  complete : (ts : List Scalar) (es : List (K × Places)) → ((w : W) → test (of w) ≡ true → has ts (of w) ≡ true → list_any (at w) (keys_of es) ≡ true) → list_any (λ t. is_kind t && test t) ts ≡ true → list_any (hit ts) es ≡ true
   complete ts es listed some =
       let r = any_is (λ t. is_kind t && test t) ts some in
       let w = made r.0 (left _ _ r.1) in
@@ -101,19 +103,19 @@ module _ {K W Z : Type 0} (of : W → Scalar) (key : K → W) (at : W → K → 
       let passes : test (of w.0) ≡ true = subst (λ t. test t ≡ true) w.1 (right _ _ r.1) in
       key_hit ts w.0 passes has_it es (listed w.0 passes has_it)
 
-  module _ {A : Type 0} (terms : A → List Scalar) (docs : List A) (es : List (K × Vec ℕ Z))
-      (index : (w : W) → option_map_or (λ v. v.items) (lookup (at w) es) [] ≡ places (λ d. has (terms d) (of w)) docs) where
+  module _ {A : Type 0} (terms : A → List Scalar) (docs : List A) (es : List (K × Places))
+      (index : (w : W) → option_map_or as_list (lookup (at w) es) [] ≡ places (λ d. has (terms d) (of w)) docs) where
     by_key : (w : W) (b : Bool) → list_any (at w) (keys_of es) ≡ b → AllByRecursion (λ d. has (terms d) (of w) ≡ true → list_any (at w) (keys_of es) ≡ true) docs
     by_key w true is = always (λ d has. is) docs
     by_key w false is =
         let gone : lookup (at w) es ≡ None = none_there _ (is_some-lookup (at w) es ∙ is) in
-        let empty : places (λ d. has (terms d) (of w)) docs ≡ [] = sym (index w) ∙ ap (λ o. option_map_or (λ v. v.items) o []) gone in
+        let empty : places (λ d. has (terms d) (of w)) docs ≡ [] = sym (index w) ∙ ap (λ o. option_map_or as_list o []) gone in
         every (λ d not has. absurd (true≢false (sym has ∙ not))) docs (none_pass (λ d. has (terms d) (of w)) 0 docs empty)
 
     -- each term of the kind is a key, so the keys that pass find the documents that have a term that does; keys that don't pass may be left out
     pub of_kind : (q : K → Bool) → ((k : K) → test (of (key k)) ≡ true → q k ≡ true) → AllByRecursion (λ d. list_any (hit (terms d)) (filter (λ e. q e.0) es) ≡ list_any (λ t. is_kind t && test t) (terms d)) docs
     of_kind q wide =
-        let kept = filter (λ (e : K × Vec ℕ Z). q e.0) es in
+        let kept = filter (λ (e : K × Places). q e.0) es in
         let still = λ (w : W) (passes : test (of w) ≡ true). any_kept (at w) q (λ k is. wide k (subst (λ v. test (of v) ≡ true) (at_is w k is) passes)) es in
         every (λ d listed. bool_same _ _ (sound (terms d) kept) (complete (terms d) kept (λ w passes has_it. still w passes ∙ listed w has_it))) docs
         (swapped (λ (w : W) (d : A). has (terms d) (of w) ≡ true → list_any (at w) (keys_of es) ≡ true) docs (λ w. by_key w (list_any (at w) (keys_of es)) refl))

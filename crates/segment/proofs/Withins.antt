@@ -1,5 +1,5 @@
 -- The documents of the keys that pass, marked.
-use Rattle.std.proofs.Common.{◌≡◌, ◌<◌, ℕ, ℤ, Bool, true, false, ◌&&◌, ◌||◌, ◌∷◌, List, [], ◌++◌, length, map, refl, sym, ap, ◌∙◌, String, Vec, string_bytes, filter, int_eq, if◌then◌else◌, All}
+use Rattle.std.proofs.Common.{◌≡◌, ◌<◌, ℕ, ℤ, Bool, true, false, ◌&&◌, ◌||◌, ◌∷◌, List, [], ◌++◌, length, map, refl, sym, ap, ◌∙◌, String, string_bytes, filter, int_eq, if◌then◌else◌, All}
 use Rattle.std.specs.List.{list_any}
 use Rattle.std.specs.Map.{lookup}
 use Rattle.std.specs.Option.{option_map_or}
@@ -11,6 +11,8 @@ use Rattle.std.proofs.lemmas.Bool.Decides.{Decides-int_eq}
 use Rattle.marks.specs.Lists.{zip_with, marked, places}
 use Rattle.segment.specs.Indexed.{has_term}
 use Rattle.segment.specs.Term.{is_text, is_long, is_truth}
+use Rattle.segment.specs.Places.{as_list}
+use Rattle.segment.specs.declared.places.Places.{Places}
 use Rattle.segment.proofs.Columns.{by_places, places-within}
 use Rattle.segment.proofs.Joins.{or-more, or-end, length-zip}
 use Rattle.segment.proofs.Listed.{any-push, map_same}
@@ -25,11 +27,11 @@ so_far hits old sources seen = zip_with (λ b s. b || list_any (λ e. hits e s) 
 
 module _ (m : MappingData) (name : List ℕ) (test : Scalar → Bool) where
   -- whether the text of an entry passes and is a term of the document
-  abbrev pub text_hit : {Y Z : Type 0} → String Y × Vec ℕ Z → List ℕ → Bool
+  abbrev pub text_hit : {Y : Type 0} → String Y × Places → List ℕ → Bool
   text_hit e s = test (text (string_bytes e.0)) && has_term m.fields name (text (string_bytes e.0)) (all_values m s)
 
   -- the same of a number
-  abbrev pub long_hit : {Z : Type 0} → ℤ × Vec ℕ Z → List ℕ → Bool
+  abbrev pub long_hit : ℤ × Places → List ℕ → Bool
   long_hit e s = test (long e.0) && has_term m.fields name (long e.0) (all_values m s)
 
 module _ (m : MappingData) (old : List Bool) (sources : List (List ℕ)) (same : length old ≡ length sources) where
@@ -60,8 +62,8 @@ module _ (m : MappingData) (old : List Bool) (sources : List (List ℕ)) (same :
 
   module _ (name : List ℕ) (test : Scalar → Bool) where
     -- at the end of a span of the dictionary that has all texts that pass, the documents with one of these
-    pub texts-end : {Y Z : Type 0} (es : List (String Y × Vec ℕ Z)) (q : String Y → Bool) → ((k : String Y) → test (text (string_bytes k)) ≡ true → q k ≡ true)
-        → ((w : List ℕ) → option_map_or (λ v. v.items) (lookup (is_word w) es) [] ≡ places (has_term m.fields name (text w)) (map (all_values m) sources))
+    pub texts-end : {Y : Type 0} (es : List (String Y × Places)) (q : String Y → Bool) → ((k : String Y) → test (text (string_bytes k)) ≡ true → q k ≡ true)
+        → ((w : List ℕ) → option_map_or as_list (lookup (is_word w) es) [] ≡ places (has_term m.fields name (text w)) (map (all_values m) sources))
         → so_far (text_hit m name test) old sources (filter (λ e. q e.0) es)
         ≡ zip_with (λ b s. b || list_any (λ t. is_text t && test t) (terms_at m.fields (all_values m s) name)) old sources
     texts-end es q wide index =
@@ -69,8 +71,8 @@ module _ (m : MappingData) (old : List Bool) (sources : List (List ℕ)) (same :
         (map_same _ _ (map (all_values m) sources) (of_kind text string_bytes is_word word_is is_text text_made (λ w. refl) test (λ d. terms_at m.fields d name) (map (all_values m) sources) es index q wide))
 
     -- and the same of numbers
-    pub longs-end : {Z : Type 0} (es : List (ℤ × Vec ℕ Z)) (q : ℤ → Bool) → ((z : ℤ) → test (long z) ≡ true → q z ≡ true)
-        → ((z : ℤ) → option_map_or (λ v. v.items) (lookup (int_eq z) es) [] ≡ places (has_term m.fields name (long z)) (map (all_values m) sources))
+    pub longs-end : (es : List (ℤ × Places)) (q : ℤ → Bool) → ((z : ℤ) → test (long z) ≡ true → q z ≡ true)
+        → ((z : ℤ) → option_map_or as_list (lookup (int_eq z) es) [] ≡ places (has_term m.fields name (long z)) (map (all_values m) sources))
         → so_far (long_hit m name test) old sources (filter (λ e. q e.0) es)
         ≡ zip_with (λ b s. b || list_any (λ t. is_long t && test t) (terms_at m.fields (all_values m s) name)) old sources
     longs-end es q wide index =

@@ -1,5 +1,5 @@
 -- Documents by the terms of their fields.
-use Rattle.std.specs.Prelude.{◌≡◌, ◌<◌, ◌^◌, ℕ, ℤ, Bool, true, false, List, [], map, length, nat_lt, Option, Some, None, IfSome, String, All}
+use Rattle.std.specs.Prelude.{◌≡◌, ◌<◌, ◌^◌, ℕ, ℤ, Bool, true, false, List, [], map, length, nat_lt, Option, Some, None, option_map, IfSome, String, Box, All}
 use Rattle.std.specs.BTreeMap.{BTreeMap}
 use Rattle.std.specs.declared.alloc.Global.{Global}
 use Rattle.std.specs.BTreeMap as tree
@@ -35,16 +35,20 @@ pub record IsColumn (fields : Fields) (docs : List Values) (name : List ℕ) (c 
   pub yes : c.yes ≡ map (has_term fields name (flag true)) docs
   pub no : c.no ≡ map (has_term fields name (flag false)) docs
 
+-- the column of a field, where it has one
+abbrev pub column_at : BTreeMap (String Global) (Box Column Global) → List ℕ → Option Column
+column_at columns name = option_map (λ b. b.value) (tree.get_by_text columns name)
+
 -- a field without a column has no value in any document
 abbrev pub IsColumnOr : Fields → List Values → List ℕ → Option Column → Type 0
 IsColumnOr fields docs name None = All (λ d. values_at name d ≡ []) docs
 IsColumnOr fields docs name (Some c) = IsColumn fields docs name c
 
 -- the columns that are there
-abbrev pub AreColumns : Fields → List Values → BTreeMap (String Global) Column → Type 0
-AreColumns fields docs columns = (name : List ℕ) → IfSome (tree.get_by_text columns name) (IsColumn fields docs name)
+abbrev pub AreColumns : Fields → List Values → BTreeMap (String Global) (Box Column Global) → Type 0
+AreColumns fields docs columns = (name : List ℕ) → IfSome (column_at columns name) (IsColumn fields docs name)
 
 -- each field has its column
-pub record IsIndexed (m : MappingData) (sources : List (List ℕ)) (columns : BTreeMap (String Global) Column) : Type 0 where
+pub record IsIndexed (m : MappingData) (sources : List (List ℕ)) (columns : BTreeMap (String Global) (Box Column Global)) : Type 0 where
   pub few : length sources < 2 ^ 32
-  pub each : (name : List ℕ) → IsColumnOr m.fields (map (all_values m) sources) name (tree.get_by_text columns name)
+  pub each : (name : List ℕ) → IsColumnOr m.fields (map (all_values m) sources) name (column_at columns name)

@@ -8,6 +8,13 @@ use Rattle.std.specs.BTreeMap.{BTreeMap}
 use Rattle.std.specs.Map.{lookup}
 use Rattle.std.specs.Ordering.{int_eq}
 use Rattle.std.specs.HashMap.{HashMap, get_by_text}
+use Rattle.segment.specs.declared.places.Places.{Places}
+use Rattle.segment.specs.declared.places.Places.TheVariants.{One, Many}
+
+-- the places, one after another
+abbrev pub as_list : Places → List ℕ
+as_list (One at) = at ∷ []
+as_list (Many places) = places.items
 
 -- whether a word is among the words
 abbrev pub has_word : List ℕ → List (List ℕ) → Bool
@@ -26,21 +33,21 @@ abbrev pub one_if : Bool → ℕ → List ℕ
 one_if b at = if b then at ∷ [] else []
 
 -- the places of a word, none where the table hasn't it
-abbrev pub places_in : {Y Z S : Type 0} → HashMap (String Y) (Vec ℕ Z) S → List ℕ → List ℕ
-places_in m w = option_map_or (λ v. v.items) (get_by_text m w) []
+abbrev pub places_in : {Y S : Type 0} → HashMap (String Y) Places S → List ℕ → List ℕ
+places_in m w = option_map_or as_list (get_by_text m w) []
 
 -- the words as bytes
 abbrev pub words_of : {Y Z : Type 0} → Vec (String Y) Z → List (List ℕ)
 words_of v = map string_bytes v.items
 
 -- the same of a dictionary in order
-abbrev pub places_at : {Y Z : Type 0} → BTreeMap (String Y) (Vec ℕ Z) → List ℕ → List ℕ
-places_at m w = option_map_or (λ v. v.items) (tree.get_by_text m w) []
+abbrev pub places_at : {Y : Type 0} → BTreeMap (String Y) Places → List ℕ → List ℕ
+places_at m w = option_map_or as_list (tree.get_by_text m w) []
 
 -- whether one of the words begins with the prefix
 abbrev pub has_prefix : List ℕ → List (List ℕ) → Bool
 has_prefix p ws = list_any (λ w. starts_with nat_eq w p) ws
 
 -- the same of numbers
-abbrev pub places_at_long : {Z : Type 0} → BTreeMap ℤ (Vec ℕ Z) → ℤ → List ℕ
-places_at_long m z = option_map_or (λ v. v.items) (lookup (int_eq z) m.entries) []
+abbrev pub places_at_long : BTreeMap ℤ Places → ℤ → List ℕ
+places_at_long m z = option_map_or as_list (lookup (int_eq z) m.entries) []

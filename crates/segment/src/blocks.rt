@@ -8,6 +8,7 @@ ghost use Rattle.segment.specs.Limits.{limits_view};
 ghost use Rattle.segment.specs.Places.{places_at_long};
 
 use crate::limits::Limits;
+use crate::places::Places;
 use marks::Marks;
 use std::alloc::{AllocError, Global};
 use std::collections::BTreeMap;
@@ -85,7 +86,7 @@ fn add_places(numbers: &mut Vec<Number>, value: i64, places: &[u32]) -> Result<(
 /// The blocks of the numbers of so many documents.
 pub(crate) fn blocks_of(
     alloc: Global,
-    longs: &BTreeMap<i64, Vec<u32>>,
+    longs: &BTreeMap<i64, Places>,
     len: usize,
 ) -> Result<Vec<Block>, AllocError>
     requires { (z : ℤ) → All (λ p. p < len) (places_at_long longs.now z) }
@@ -97,7 +98,7 @@ pub(crate) fn blocks_of(
     }
     let mut block = Block::none(alloc, len)?;
     for (number, places) in longs {
-        block.add(*number, places)?;
+        block.add(*number, places.as_slice())?;
         close_if_full(alloc, &mut closed, &mut block, len)?;
     }
     closed.push(block)?;

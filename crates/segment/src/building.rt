@@ -5,7 +5,7 @@ ghost use Rattle.std.specs.Str.{bytes_eq};
 ghost use Rattle.doc.specs.Document.{values_at};
 ghost use Rattle.doc.specs.ScalarView.{values_view};
 ghost use Rattle.query.specs.Meaning.{terms_by};
-ghost use Rattle.segment.specs.Indexed.{has_value, AreColumns, IsColumn, IsColumnOr};
+ghost use Rattle.segment.specs.Indexed.{has_value, column_at, AreColumns, IsColumn, IsColumnOr};
 ghost use Rattle.segment.specs.Posted.{IsPosted, IsRoomFor, set_if};
 
 use crate::column::Column;
@@ -21,9 +21,9 @@ pub(crate) fn columns_of(
     alloc: Global,
     mapping: &Mapping,
     docs: &[Doc],
-) -> Result<BTreeMap<String, Column>, AllocError>
+) -> Result<BTreeMap<String, Box<Column>>, AllocError>
     requires { length docs.now < 2 ^ 32 }
-    ensures { IfOk result (λ m. (name : List ℕ) → IsColumnOr mapping.now.fields (map (λ d. d.values) docs.now) name (tree.get_by_text m name)) }
+    ensures { IfOk result (λ m. (name : List ℕ) → IsColumnOr mapping.now.fields (map (λ d. d.values) docs.now) name (column_at m name)) }
 {
     let mut columns = BTreeMap::new(alloc);
     for doc in docs {
@@ -35,7 +35,7 @@ pub(crate) fn columns_of(
 /// Adds the columns of these fields, where they aren't there.
 fn add_columns(
     alloc: Global,
-    columns: &mut BTreeMap<String, Column>,
+    columns: &mut BTreeMap<String, Box<Column>>,
     mapping: &Mapping,
     fields: &[FieldValues],
     docs: &[Doc],
@@ -55,7 +55,7 @@ fn add_columns(
 /// Adds the column of a field, where it isn't there.
 fn add_column(
     alloc: Global,
-    columns: &mut BTreeMap<String, Column>,
+    columns: &mut BTreeMap<String, Box<Column>>,
     mapping: &Mapping,
     name: &str,
     docs: &[Doc],
@@ -70,7 +70,8 @@ fn add_column(
         return Ok(());
     }
     let column = column_of(alloc, mapping, name, docs)?;
-    columns.insert(String::from_str(alloc, name)?, column)?;
+    let boxed = Box::new(alloc, column)?;
+    columns.insert(String::from_str(alloc, name)?, boxed)?;
     Ok(())
 }
 

@@ -7,6 +7,7 @@ pub mod column;
 mod limits;
 mod making;
 pub mod merging;
+pub mod places;
 mod posting;
 pub mod segment;
 mod spans;

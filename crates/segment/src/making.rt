@@ -5,6 +5,7 @@ ghost use Rattle.segment.specs.Posted.{IsEmptyMaking, IsFinished};
 
 use crate::blocks::blocks_of;
 use crate::column::Column;
+use crate::places::Places;
 use crate::texts::Texts;
 use marks::Marks;
 use std::alloc::{AllocError, Global};
@@ -15,7 +16,7 @@ use std::collections::BTreeMap;
 pub struct Making {
     pub has: Marks,
     pub texts: Texts,
-    pub longs: BTreeMap<i64, Vec<u32>>,
+    pub longs: BTreeMap<i64, Places>,
     pub yes: Marks,
     pub no: Marks,
     /// Where a token of a text is put.

@@ -10,6 +10,7 @@ ghost use Rattle.segment.specs.Places.{added, places_at_long, has_word};
 ghost use Rattle.segment.specs.Posted.{IsPosted, IsRoomFor, places_so_far, with_if};
 
 use crate::making::Making;
+use crate::places::Places;
 use crate::texts::{Texts, add_place};
 use analysis::words_of;
 use doc::{FieldValues, Kind, Scalar};
@@ -19,7 +20,7 @@ use std::collections::BTreeMap;
 /// Adds a place to those of a number.
 fn post_long(
     alloc: Global,
-    longs: &mut BTreeMap<i64, Vec<u32>>,
+    longs: &mut BTreeMap<i64, Places>,
     number: i64,
     at: u32,
 ) -> Result<(), AllocError>
@@ -27,11 +28,10 @@ fn post_long(
     ensures others { OnOk result ((z : ℤ) → int_eq number z ≡ false → places_at_long longs.new z ≡ places_at_long longs.old z) }
 {
     if let Some(places) = longs.get_mut(&number) {
-        add_place(places, at)?;
+        add_place(alloc, places, at)?;
         return Ok(());
     }
-    let places = vec![in alloc; at]?;
-    longs.insert(number, places)?;
+    longs.insert(number, Places::One(at))?;
     Ok(())
 }
 

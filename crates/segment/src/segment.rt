@@ -36,7 +36,7 @@ const DOCUMENTS_PER_PLACE: usize = 8;
 pub struct Segment {
     mapping: Arc<Mapping, Global>,
     sources: Vec<Source>,
-    columns: BTreeMap<String, Column>,
+    columns: BTreeMap<String, Box<Column>>,
 }
 
 impl Model for Segment {
@@ -79,6 +79,13 @@ impl Segment {
         self.sources.len()
     }
 
+    /// The mapping that its documents were read under.
+    pub fn mapping(&self) -> &Mapping
+        ensures { result.now ≡ self.now.mapping }
+    {
+        &self.mapping
+    }
+
     /// The texts of its documents.
     pub(crate) fn sources(&self) -> &[Source]
         ensures { result.now ≡ self.now.sources }
@@ -90,7 +97,10 @@ impl Segment {
     fn column(&self, name: &str) -> Option<&Column>
         ensures { IsColumnOr self.now.mapping.fields (map (all_values self.now.mapping) self.now.sources) name.now (option_map (λ c. c.now) result) }
     {
-        self.columns.get(name)
+        match self.columns.get(name) {
+            Some(column) => Some(column.as_ref()),
+            None => None,
+        }
     }
 
     /// The places of the documents in which a term of the field is the value, rising. Those of a truth value aren't listed.
@@ -215,7 +225,7 @@ impl Segment {
             if !begins_with(word, text) {
                 return Ok(());
             }
-            marks.mark(places);
+            marks.mark(places.as_slice());
         }
         Ok(())
     }
@@ -241,7 +251,7 @@ impl Segment {
     {
         for (word, places) in column.texts.range(spans::of_texts(bounds)) {
             let passes = term::is_within(bounds, Term::Text(word.as_str()));
-            mark_if(marks, places, passes);
+            mark_if(marks, places.as_slice(), passes);
         }
     }
 
@@ -280,7 +290,7 @@ impl Segment {
     {
         for (number, places) in column.longs.range(spans::of_longs(bounds)) {
             let passes = term::is_within(bounds, Term::Long(*number));
-            mark_if(marks, places, passes);
+            mark_if(marks, places.as_slice(), passes);
         }
     }
 
@@ -312,7 +322,7 @@ fn limits_of_many(column: &Column, bounds: &Bounds) -> Option<Limits>
 fn are_many(column: &Column, bounds: &Bounds) -> bool {
     let mut left = column.has.len() / DOCUMENTS_PER_PLACE;
     for (_, places) in column.longs.range(spans::of_longs(bounds)) {
-        left = left.saturating_sub(PLACES_PER_LIST.saturating_add(places.len()));
+        left = left.saturating_sub(PLACES_PER_LIST.saturating_add(places.as_slice().len()));
         if left == 0 {
             return true;
         }

@@ -1,9 +1,10 @@
 //! The texts of a column in the making.
 ghost use Rattle.std.specs.Prelude.{◌≡◌, [], ℕ, List, false, IfOk, OnOk};
 ghost use Rattle.std.specs.Str.{bytes_eq};
-ghost use Rattle.segment.specs.Places.{added, ends_at, places_at, places_in};
+ghost use Rattle.segment.specs.Places.{added, as_list, ends_at, places_at, places_in};
 ghost use Rattle.segment.specs.Posted.{places_so_far};
 
+use crate::places::Places;
 use std::alloc::{AllocError, Global};
 use std::collections::{BTreeMap, HashMap};
 
@@ -13,8 +14,8 @@ const LEAST_DOCUMENTS: usize = 64;
 /// Texts with their places, in order from the first, or else to be put in order at the end.
 #[derive(Drop)]
 pub enum Texts {
-    Ordered(BTreeMap<String, Vec<u32>>),
-    Table(HashMap<String, Vec<u32>>),
+    Ordered(BTreeMap<String, Places>),
+    Table(HashMap<String, Places>),
 }
 
 impl Texts {
@@ -41,7 +42,7 @@ impl Texts {
     }
 
     /// The same places, in order of the texts.
-    pub(crate) fn in_order(self, alloc: Global) -> Result<BTreeMap<String, Vec<u32>>, AllocError>
+    pub(crate) fn in_order(self, alloc: Global) -> Result<BTreeMap<String, Places>, AllocError>
         ensures { IfOk result (λ m. (w : List ℕ) → places_at m w ≡ places_so_far self w) }
     {
         match self {
@@ -53,7 +54,7 @@ impl Texts {
 
 fn post_in_order(
     alloc: Global,
-    texts: &mut BTreeMap<String, Vec<u32>>,
+    texts: &mut BTreeMap<String, Places>,
     word: &str,
     at: u32,
 ) -> Result<(), AllocError>
@@ -61,13 +62,13 @@ fn post_in_order(
     ensures others { OnOk result ((w : List ℕ) → bytes_eq word.now w ≡ false → places_at texts.new w ≡ places_at texts.old w) }
 {
     let key = String::from_str(alloc, word)?;
-    let places = texts.entry(key)?.or_insert(Vec::new(alloc));
-    add_place(places, at)
+    let places = texts.entry(key)?.or_insert(Places::One(at));
+    add_place(alloc, places, at)
 }
 
 fn post_in_table(
     alloc: Global,
-    texts: &mut HashMap<String, Vec<u32>>,
+    texts: &mut HashMap<String, Places>,
     word: &str,
     at: u32,
 ) -> Result<(), AllocError>
@@ -75,17 +76,16 @@ fn post_in_table(
     ensures others { OnOk result ((w : List ℕ) → bytes_eq word.now w ≡ false → places_in texts.new w ≡ places_in texts.old w) }
 {
     if let Some(places) = texts.get_mut(word) {
-        return add_place(places, at);
+        return add_place(alloc, places, at);
     }
-    let places = vec![in alloc; at]?;
-    texts.insert(String::from_str(alloc, word)?, places)?;
+    texts.insert(String::from_str(alloc, word)?, Places::One(at))?;
     Ok(())
 }
 
 fn put_in_order(
     alloc: Global,
-    texts: HashMap<String, Vec<u32>>,
-) -> Result<BTreeMap<String, Vec<u32>>, AllocError>
+    texts: HashMap<String, Places>,
+) -> Result<BTreeMap<String, Places>, AllocError>
     ensures { IfOk result (λ m. (w : List ℕ) → places_at m w ≡ places_in texts w) }
 {
     let _unique = texts.len();
@@ -93,11 +93,11 @@ fn put_in_order(
 }
 
 /// Adds a place, where it isn't the last.
-pub(crate) fn add_place(places: &mut Vec<u32>, at: u32) -> Result<(), AllocError>
-    ensures { OnOk result (places.new.items ≡ added places.old.items at) }
+pub(crate) fn add_place(alloc: Global, places: &mut Places, at: u32) -> Result<(), AllocError>
+    ensures { OnOk result (as_list places.new ≡ added (as_list places.old) at) }
 {
-    if !ends_at(places, at) {
-        places.push(at)?;
+    if !ends_at(places.as_slice(), at) {
+        places.push(alloc, at)?;
     }
     Ok(())
 }

@@ -6,7 +6,7 @@ use Rattle.std.proofs.lemmas.Int.{to_z-of_z}
 use Rattle.std.proofs.lemmas.List.{map-append}
 use Rattle.std.proofs.lemmas.Map.Iter.{btree_map_turn, iter_end}
 use Rattle.segment.specs.Blocks.{IsBlock, listed, numbered, numbers_of}
-use Rattle.segment.specs.Places.{places_at_long}
+use Rattle.segment.specs.Places.{as_list, places_at_long}
 use Rattle.segment.specs.declared.blocks.Number.{Number}
 use Rattle.segment.proofs.Blocked.{AreBlocks-all, block-length, listed-more}
 use Rattle.segment.proofs.blocks.blocks_of.Goals as goal
@@ -27,8 +27,8 @@ pub add-requires-clause-there : goal.add-requires-clause-there
 add-requires-clause-there c =
     let gives = c.into_iter-number-iterator.ensures.into_iter_gives in
     let turn = btree_map_turn deref_pair c.loop-number.yielded c.into_iter-number-iterator.result c.loop-number.number-iterator c.next.new.self c.next.result (c.in-Some.number, c.in-Some.places) c.loop-number.yielded_by c.in-Some.is c.next.ensures.steps int_cmp_total c.args.longs.now gives.0 gives.5 in
-    let here : places_at_long c.args.longs.now c.in-Some.number.now ≡ c.deref.result.now = ap (λ o. option_map_or (λ v. v.items) o []) turn.1 ∙ sym c.deref.ensures.value in
-    subst (λ n. All (λ p. p < n) c.deref.result.now) (sym (block-length c.args.len c.loop-number.block c.loop-number.invariant.is))
+    let here : places_at_long c.args.longs.now c.in-Some.number.now ≡ c.as_slice.result.now = ap (λ o. option_map_or as_list o []) turn.1 ∙ sym c.as_slice.ensures in
+    subst (λ n. All (λ p. p < n) c.as_slice.result.now) (sym (block-length c.args.len c.loop-number.block c.loop-number.invariant.is))
     (subst (λ ps. All (λ p. p < c.args.len) ps) here (c.requires c.in-Some.number.now))
 
 -- the open block has the places of the number, too
@@ -39,7 +39,7 @@ loop-number-preserved c =
     let fits : SFits w64 k = search rules in
     let bs = c.loop-number.closed.items in
     let ns = c.loop-number.block.numbers.items in
-    let added = c.in_ok-add.ensures.more ∙ ap (λ (z : ℤ). ns ++ numbered z c.deref.result.now) (to_z-of_z w64 k fits) ∙ ap (λ ps. ns ++ numbered k ps) c.deref.ensures.value in
+    let added = c.in_ok-add.ensures.more ∙ ap (λ (z : ℤ). ns ++ numbered z c.as_slice.result.now) (to_z-of_z w64 k fits) ∙ ap (λ ps. ns ++ numbered k ps) c.as_slice.ensures in
     record {
       are = c.in_ok-close_if_full.ensures.are;
       is = c.in_ok-close_if_full.ensures.is;

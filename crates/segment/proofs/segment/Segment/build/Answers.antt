@@ -1,10 +1,9 @@
 use Rattle.std.proofs.Common.{◌≡◌, ◌∙◌, map, subst, arith}
 use Rattle.std.proofs.lemmas.List.{length-map}
 use Rattle.std.specs.Arc.{arc_value}
-use Rattle.std.specs.BTreeMap as tree
 use Rattle.doc.specs.declared.document.Doc.{Doc}
 use Rattle.doc.specs.Document.{all_values}
-use Rattle.segment.specs.Indexed.{IsColumnOr}
+use Rattle.segment.specs.Indexed.{IsColumnOr, column_at}
 use Rattle.segment.proofs.BuiltLaws.{map_twice}
 use Rattle.segment.proofs.segment.Segment.build.Goals as goal
 
@@ -18,5 +17,5 @@ invariant_of-result c =
     rw (c.in_ok-mapping.ensures, c.in_ok-sources.ensures)
     record {
       few = omega (arith, length-map docs source, c.requires.few);
-      each = λ name. subst (λ vs. IsColumnOr m.fields vs name (tree.get_by_text c.in_ok-columns.columns name)) same (rw c.deref.ensures at (c.in_ok-columns.ensures name));
+      each = λ name. subst (λ vs. IsColumnOr m.fields vs name (column_at c.in_ok-columns.columns name)) same (rw c.deref.ensures at (c.in_ok-columns.ensures name));
     }

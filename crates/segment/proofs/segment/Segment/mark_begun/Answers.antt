@@ -1,4 +1,4 @@
-use Rattle.std.proofs.Common.{refl, false, ◌≡◌, ◌∙◌, ◌∷◌, [], ◌++◌, ◌&&◌, ◌||◌, ap, sym, subst, All, length, map, true, List, ℕ, String, Vec, Global, string_bytes, nat_eq}
+use Rattle.std.proofs.Common.{refl, false, ◌≡◌, ◌∙◌, ◌∷◌, [], ◌++◌, ◌&&◌, ◌||◌, ap, sym, subst, All, length, map, true, List, ℕ, String, Global, string_bytes, nat_eq}
 use Rattle.std.specs.BTreeMap.Range.{range_contains, IsEntryInRange}
 use Rattle.std.specs.Cmp.Lexicographic.{slice_cmp}
 use Rattle.std.specs.List.{list_any, list_all, starts_with}
@@ -12,7 +12,8 @@ use Rattle.std.proofs.lemmas.List.{map-append}
 use Rattle.std.proofs.lemmas.Map.Iter.{rest_so_far}
 use Rattle.doc.specs.Document.{Values, all_values}
 use Rattle.marks.specs.Lists.{zip_with, places}
-use Rattle.segment.specs.Places.{has_word}
+use Rattle.segment.specs.Places.{as_list, has_word}
+use Rattle.segment.specs.declared.places.Places.{Places}
 use Rattle.segment.proofs.Columns.{by_places, places-within}
 use Rattle.segment.proofs.Joins.{length-zip}
 use Rattle.segment.proofs.Prefixes.{is_word, none_from, pre}
@@ -32,7 +33,7 @@ returns-then-not-begins_with c =
     let seen = map deref_pair c.loop-word.yielded in
     let rest = c.next.new.self in
     let k = c.in-Some.word.now in
-    let entry : String Global × Vec ℕ Global = (k, c.in-Some.places.now) in
+    let entry : String Global × Places = (k, c.in-Some.places.now) in
     let step : c.loop-word.word-iterator ≡ entry ∷ rest = c.in-Some.ensures.steps in
     let run_is : c.range-word-items.result ≡ seen ++ entry ∷ rest = sym c.into_iter-word-iterator.ensures.into_iter_gives ∙ rest_so_far deref_pair _ _ _ c.loop-word.yielded_by ∙ ap (λ xs. seen ++ xs) step in
     let here = IsEntryInRange string_cmp (Included c.in_ok-from.from) Unbounded c.args.column.now.texts in
@@ -53,15 +54,15 @@ mark-requires c =
     let seen = map deref_pair c.loop-word.yielded in
     let rest = c.next.new.self in
     let k = c.in-Some.word.now in
-    let entry : String Global × Vec ℕ Global = (k, c.in-Some.places.now) in
+    let entry : String Global × Places = (k, c.in-Some.places.now) in
     let step : c.loop-word.word-iterator ≡ entry ∷ rest = c.in-Some.ensures.steps in
     let run_is : c.range-word-items.result ≡ seen ++ entry ∷ rest = sym c.into_iter-word-iterator.ensures.into_iter_gives ∙ rest_so_far deref_pair _ _ _ c.loop-word.yielded_by ∙ ap (λ xs. seen ++ xs) step in
     let here = IsEntryInRange string_cmp (Included c.in_ok-from.from) Unbounded c.args.column.now.texts in
     let found : here entry = middle here seen rest entry (subst (λ xs. All here xs) run_is (c.range-word-items.ensures.in_range tt).0) in
     let test = λ (d : Values). has_word (string_bytes k) (words m c.args._name.now d) in
-    let items : c.deref.result.now ≡ places test docs = c.deref.ensures.value ∙ ap (λ o. option_map_or (λ v. v.items) o []) (sym found.1) ∙ index m c.args._name.now docs c.args.column.now.texts.entries c.requires.is.texts (string_bytes k) in
+    let items : c.as_slice.result.now ≡ places test docs = c.as_slice.ensures ∙ ap (λ o. option_map_or as_list o []) (sym found.1) ∙ index m c.args._name.now docs c.args.column.now.texts.entries c.requires.is.texts (string_bytes k) in
     let whole : length c.loop-word.marks ≡ length c.args.self.now.sources = ap length c.loop-word.invariant.marked ∙ length-zip _ c.args.marks.now c.args.self.now.sources c.requires.whole in
-    places-within m c.loop-word.marks c.args.self.now.sources whole test c.deref.result.now items
+    places-within m c.loop-word.marks c.args.self.now.sources whole test c.as_slice.result.now items
 
 -- one more word
 pub loop-word-preserved : goal.loop-word-preserved
@@ -72,18 +73,18 @@ loop-word-preserved c =
     let seen = map deref_pair c.loop-word.yielded in
     let rest = c.next.new.self in
     let k = c.in-Some.word.now in
-    let entry : String Global × Vec ℕ Global = (k, c.in-Some.places.now) in
+    let entry : String Global × Places = (k, c.in-Some.places.now) in
     let step : c.loop-word.word-iterator ≡ entry ∷ rest = c.in-Some.ensures.steps in
     let run_is : c.range-word-items.result ≡ seen ++ entry ∷ rest = sym c.into_iter-word-iterator.ensures.into_iter_gives ∙ rest_so_far deref_pair _ _ _ c.loop-word.yielded_by ∙ ap (λ xs. seen ++ xs) step in
     let here = IsEntryInRange string_cmp (Included c.in_ok-from.from) Unbounded c.args.column.now.texts in
     let found : here entry = middle here seen rest entry (subst (λ xs. All here xs) run_is (c.range-word-items.ensures.in_range tt).0) in
     let test = λ (d : Values). has_word (string_bytes k) (words m c.args._name.now d) in
-    let items : c.deref.result.now ≡ places test docs = c.deref.ensures.value ∙ ap (λ o. option_map_or (λ v. v.items) o []) (sym found.1) ∙ index m c.args._name.now docs c.args.column.now.texts.entries c.requires.is.texts (string_bytes k) in
+    let items : c.as_slice.result.now ≡ places test docs = c.as_slice.ensures ∙ ap (λ o. option_map_or as_list o []) (sym found.1) ∙ index m c.args._name.now docs c.args.column.now.texts.entries c.requires.is.texts (string_bytes k) in
     let whole : length c.loop-word.marks ≡ length sources = ap length c.loop-word.invariant.marked ∙ length-zip _ c.args.marks.now sources c.requires.whole in
     let more : map deref_pair (c.loop-word.yielded ++ (c.in-Some.word, c.in-Some.places) ∷ []) ≡ seen ++ entry ∷ [] = map-append deref_pair c.loop-word.yielded ((c.in-Some.word, c.in-Some.places) ∷ []) in
     let starts : starts_with nat_eq (string_bytes k) c.args.text.now ≡ true = sym c.begins_with.ensures ∙ c.if-not-begins_with.false in
     record {
-      marked = c.mark.ensures ∙ by_places m c.loop-word.marks sources whole test c.deref.result.now items
+      marked = c.mark.ensures ∙ by_places m c.loop-word.marks sources whole test c.as_slice.result.now items
           ∙ ap (λ ms. zip_with (λ b s. b || test (all_values m s)) ms sources) c.loop-word.invariant.marked
           ∙ more-seen m c.args._name.now c.args.marks.now sources seen entry
           ∙ ap (seen_marks m c.args._name.now c.args.marks.now sources) (sym more);

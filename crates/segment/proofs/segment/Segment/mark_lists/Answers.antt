@@ -1,6 +1,6 @@
 use Rattle.std.proofs.lemmas.Grind.{common_steps}
 use Rattle.std.proofs.lemmas.Int.{to_z-of_z}
-use Rattle.std.proofs.Common.{arith, append-nil, ◌≡◌, ◌<◌, if◌then◌else◌, ◌∙◌, ◌∷◌, [], ◌++◌, ◌&&◌, ap, sym, subst, All, filter, length, map, ℕ, ℤ, Vec, Global}
+use Rattle.std.proofs.Common.{arith, append-nil, ◌≡◌, ◌<◌, if◌then◌else◌, ◌∙◌, ◌∷◌, [], ◌++◌, ◌&&◌, ap, sym, subst, All, filter, length, map, ℤ}
 use Rattle.std.specs.BTreeMap.Range.{range_contains, IsEntryInRange}
 use Rattle.std.specs.Map.Iter.{deref_pair}
 use Rattle.std.specs.Option.{option_map_or}
@@ -12,6 +12,8 @@ use Rattle.doc.specs.Document.{Values, all_values}
 use Rattle.query.specs.Meaning.{is_within}
 use Rattle.query.specs.View.{bounds_view}
 use Rattle.marks.specs.Lists.{places, marked}
+use Rattle.segment.specs.Places.{as_list}
+use Rattle.segment.specs.declared.places.Places.{Places}
 use Rattle.segment.proofs.Listed.{middle}
 use Rattle.segment.specs.Indexed.{has_term}
 use Rattle.segment.proofs.Withins.{so_far, long_hit, none-so_far, more-so_far, whole-so_far, places-so_far, longs-end}
@@ -19,7 +21,7 @@ use Rattle.segment.proofs.segment.Segment.mark_lists.Goals as goal
 
 -- nothing more is marked yet
 pub loop-number-init : goal.loop-number-init
-loop-number-init c = none-so_far c.args.self.now.mapping c.args.marks.now c.args.self.now.sources c.requires.whole (long_hit c.args.self.now.mapping c.args._name.now (is_within (bounds_view c.args.bounds.now)) {Z = Global})
+loop-number-init c = none-so_far c.args.self.now.mapping c.args.marks.now c.args.self.now.sources c.requires.whole (long_hit c.args.self.now.mapping c.args._name.now (is_within (bounds_view c.args.bounds.now)))
 
 -- the places are those of documents
 pub mark_if-requires : goal.mark_if-requires
@@ -29,15 +31,15 @@ mark_if-requires c =
     let seen = map deref_pair c.loop-number.yielded in
     let rest = c.next.new.self in
     let k = c.in-Some.number.now in
-    let entry : ℤ × Vec ℕ Global = (k, c.in-Some.places.now) in
+    let entry : ℤ × Places = (k, c.in-Some.places.now) in
     let step : c.loop-number.number-iterator ≡ entry ∷ rest = c.in-Some.ensures.steps in
     let run_is : c.range-number-items.result ≡ seen ++ entry ∷ rest = sym c.into_iter-number-iterator.ensures.into_iter_gives ∙ rest_so_far deref_pair _ _ _ c.loop-number.yielded_by ∙ ap (λ xs. seen ++ xs) step in
     let here = IsEntryInRange int_cmp c.of_longs.result.0 c.of_longs.result.1 c.args.column.now.longs in
     let found : here entry = middle here seen rest entry (subst (λ xs. All here xs) run_is (c.range-number-items.ensures.in_range tt).0) in
     let test = λ (d : Values). has_term m.fields c.args._name.now (long (k)) d in
-    let items : c.deref.result.now ≡ places test docs = c.deref.ensures.value ∙ ap (λ o. option_map_or (λ v. v.items) o []) (sym found.1) ∙ c.requires.is.longs (k) in
-    subst (λ ms. All (λ p. p < length ms) c.deref.result.now) (sym c.loop-number.invariant)
-    (places-so_far m c.args.marks.now c.args.self.now.sources c.requires.whole (long_hit m c.args._name.now (is_within (bounds_view c.args.bounds.now))) seen test c.deref.result.now items)
+    let items : c.as_slice.result.now ≡ places test docs = c.as_slice.ensures ∙ ap (λ o. option_map_or as_list o []) (sym found.1) ∙ c.requires.is.longs (k) in
+    subst (λ ms. All (λ p. p < length ms) c.as_slice.result.now) (sym c.loop-number.invariant)
+    (places-so_far m c.args.marks.now c.args.self.now.sources c.requires.whole (long_hit m c.args._name.now (is_within (bounds_view c.args.bounds.now))) seen test c.as_slice.result.now items)
 
 -- one more key
 pub loop-number-preserved : goal.loop-number-preserved
@@ -48,20 +50,20 @@ loop-number-preserved c =
     let seen = map deref_pair c.loop-number.yielded in
     let rest = c.next.new.self in
     let k = c.in-Some.number.now in
-    let entry : ℤ × Vec ℕ Global = (k, c.in-Some.places.now) in
+    let entry : ℤ × Places = (k, c.in-Some.places.now) in
     let step : c.loop-number.number-iterator ≡ entry ∷ rest = c.in-Some.ensures.steps in
     let run_is : c.range-number-items.result ≡ seen ++ entry ∷ rest = sym c.into_iter-number-iterator.ensures.into_iter_gives ∙ rest_so_far deref_pair _ _ _ c.loop-number.yielded_by ∙ ap (λ xs. seen ++ xs) step in
     let here = IsEntryInRange int_cmp c.of_longs.result.0 c.of_longs.result.1 c.args.column.now.longs in
     let found : here entry = middle here seen rest entry (subst (λ xs. All here xs) run_is (c.range-number-items.ensures.in_range tt).0) in
     let test = λ (d : Values). has_term m.fields c.args._name.now (long (k)) d in
-    let items : c.deref.result.now ≡ places test docs = c.deref.ensures.value ∙ ap (λ o. option_map_or (λ v. v.items) o []) (sym found.1) ∙ c.requires.is.longs (k) in
+    let items : c.as_slice.result.now ≡ places test docs = c.as_slice.ensures ∙ ap (λ o. option_map_or as_list o []) (sym found.1) ∙ c.requires.is.longs (k) in
     let more : map deref_pair (c.loop-number.yielded ++ (c.in-Some.number, c.in-Some.places) ∷ []) ≡ seen ++ entry ∷ [] = map-append deref_pair c.loop-number.yielded ((c.in-Some.number, c.in-Some.places) ∷ []) in
     let asked = is_within (bounds_view c.args.bounds.now) in
     let passes : c.is_within-passes.result ≡ asked (long (k)) = grind (arith, common_steps, to_z-of_z, c.is_within-passes.ensures) in
     let hits = long_hit m c.args._name.now asked in
     c.mark_if.ensures
-    ∙ ap (λ ms. marked ms (if c.is_within-passes.result then c.deref.result.now else [])) c.loop-number.invariant
-    ∙ more-so_far m c.args.marks.now sources c.requires.whole hits seen entry c.is_within-passes.result test c.deref.result.now items (λ s. ap (λ b. b && test (all_values m s)) passes)
+    ∙ ap (λ ms. marked ms (if c.is_within-passes.result then c.as_slice.result.now else [])) c.loop-number.invariant
+    ∙ more-so_far m c.args.marks.now sources c.requires.whole hits seen entry c.is_within-passes.result test c.as_slice.result.now items (λ s. ap (λ b. b && test (all_values m s)) passes)
     ∙ ap (so_far hits c.args.marks.now sources) (sym more)
 
 -- no key is left
@@ -78,4 +80,4 @@ returns-clause-is c =
 
 pub returns-clause-whole : goal.returns-clause-whole
 returns-clause-whole c =
-    ap length c.loop-number.invariant ∙ whole-so_far c.args.self.now.mapping c.args.marks.now c.args.self.now.sources c.requires.whole (long_hit c.args.self.now.mapping c.args._name.now (is_within (bounds_view c.args.bounds.now)) {Z = Global}) (map deref_pair c.loop-number.yielded)
+    ap length c.loop-number.invariant ∙ whole-so_far c.args.self.now.mapping c.args.marks.now c.args.self.now.sources c.requires.whole (long_hit c.args.self.now.mapping c.args._name.now (is_within (bounds_view c.args.bounds.now))) (map deref_pair c.loop-number.yielded)
