@@ -33,7 +33,7 @@ has-woven (p ∷ ps) q is =
     ] refl
 
 -- where none has it, it is in none
-none_has : (ps : List Documents) (q : Id) → times q ps ≤ 0 → document_at (woven ps) q ≡ None
+pub none_has : (ps : List Documents) (q : Id) → times q ps ≤ 0 → document_at (woven ps) q ≡ None
 none_has ps q none = elim (document_at (woven ps) q) as (λ o. document_at (woven ps) q ≡ o → o ≡ None) [
   | None ↦ λ e. refl
   | Some x ↦ λ e. let has = has-woven ps q (ap is_some e) in absurd (omega (arith, has, none))

@@ -175,3 +175,16 @@ marks-more ids i id lt is [] = refl
 marks-more ids i id lt is (d ∷ ds) =
     ap (λ b. b ∷ map (λ (d : Item). is_among (take i ids) d.0 || is_id d.0 id) ds) (ap (λ (x : Id). is_among (take i ids) d.0 || is_id d.0 x) is ∙ among-more ids i id d.0 lt)
     ∙ ap (λ bs. is_among (take (i + 1) ids) d.0 ∷ bs) (marks-more ids i id lt is ds)
+
+-- lists that are the same have the same at each place
+pub same-at : {A B : Type 0} (f : A → B) (xs ys : List A) (i : ℕ) (x y : A) → i < length xs → i < length ys → x ≡ get_or xs i x → y ≡ get_or ys i y → map f xs ≡ map f ys → f x ≡ f y
+same-at f [] ys i x y lt ly is iy same = absurd (omega (arith, lt))
+same-at f (a ∷ xs) [] i x y lt ly is iy same = absurd (omega (arith, ly))
+same-at f (a ∷ xs) (b ∷ ys) zero x y lt ly is iy same = ap f is ∙ heads (f a) (f b) (map f xs) (map f ys) same ∙ ap f (sym iy)
+  where
+    heads : {C : Type 0} (p q : C) (ps qs : List C) → p ∷ ps ≡ q ∷ qs → p ≡ q
+    heads p q ps qs same = cc
+same-at f (a ∷ xs) (b ∷ ys) (suc i) x y lt ly is iy same = same-at f xs ys i x y (omega (arith, lt)) (omega (arith, ly)) is iy (tails (f a) (f b) (map f xs) (map f ys) same)
+  where
+    tails : {C : Type 0} (p q : C) (ps qs : List C) → p ∷ ps ≡ q ∷ qs → ps ≡ qs
+    tails p q ps qs same = cc

@@ -11,3 +11,4 @@ pub mod ShareLaws
 pub mod SnapshotLaws
 pub mod PageLaws
 pub mod SwapLaws
+pub mod PublishedLaws

@@ -8,9 +8,8 @@ use Rattle.segment.proofs.Ahead.{places-map}
 use Rattle.segment.proofs.Joins.{length-zip}
 use Rattle.segment.proofs.Steps.{places-below}
 use Rattle.doc.specs.Id.{Id}
-use Rattle.engine.specs.Answer.{SnapshotData}
 use Rattle.segment.specs.Merged.{chosen}
-use Rattle.engine.specs.Parts.{documents_of_parts, is_among, without, woven}
+use Rattle.engine.specs.Parts.{PartData, documents_of_parts, is_among, without, woven}
 use Rattle.engine.proofs.PartLaws.{Item, drop-take}
 use Rattle.engine.proofs.ChosenLaws.{chosen-places, chosen-counted, chosen-filter, copied}
 use Rattle.engine.proofs.FoundLaws.{each-some}
@@ -134,7 +133,7 @@ share-page g docs live whole view from size hs is =
     ∙ ap (map (λ y. Some y)) (drop-take from size found))
 
 -- one part alone
-pub one-woven : (ps : List SnapshotData) (p : SnapshotData) → length ps ≡ 1 → p ≡ get_or ps 0 p → p.documents ≡ woven (documents_of_parts ps)
+pub one-woven : (ps : List PartData) (p : PartData) → length ps ≡ 1 → p ≡ get_or ps 0 p → p.documents ≡ woven (documents_of_parts ps)
 one-woven [] p one is = absurd (omega (arith, one))
-one-woven (x ∷ []) p one is = ap (λ (s : SnapshotData). s.documents) is
+one-woven (x ∷ []) p one is = ap (λ (s : PartData). s.documents) is
 one-woven (x ∷ y ∷ ys) p one is = absurd (omega (arith, one))

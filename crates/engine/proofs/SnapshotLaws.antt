@@ -6,8 +6,7 @@ use Rattle.std.proofs.lemmas.List.{take-map, drop-map, length-map}
 use Rattle.doc.specs.Id.{Id, id_cmp}
 use Rattle.doc.specs.Mapping.{MappingData}
 use Rattle.op.specs.Documents.{Documents}
-use Rattle.engine.specs.Answer.{SnapshotData}
-use Rattle.engine.specs.Parts.{documents_of_parts, woven, merged, without, is_among, has_id, times, AreParts, AreApart, AllInOrder}
+use Rattle.engine.specs.Parts.{PartData, documents_of_parts, woven, merged, without, is_among, has_id, times, AreParts, AreApart, AllInOrder}
 use Rattle.engine.proofs.ApartLaws.{without-apart, none_left, woven-without, fronted-apart, fronted-woven, all_take}
 
 head_is : {A : Type 0} (x y : A) (xs ys : List A) → x ∷ xs ≡ y ∷ ys → x ≡ y
@@ -17,19 +16,19 @@ tail_is : {A : Type 0} (x y : A) (xs ys : List A) → x ∷ xs ≡ y ∷ ys → 
 tail_is x y xs ys is = cc
 
 -- each part has the mapping
-pub mapping-at : (m : MappingData) (ps : List SnapshotData) (i : ℕ) (p : SnapshotData) → map (λ (p : SnapshotData). p.mapping) ps ≡ replicate (length ps) m → i < length ps → p ≡ get_or ps i p → p.mapping ≡ m
+pub mapping-at : (m : MappingData) (ps : List PartData) (i : ℕ) (p : PartData) → map (λ (p : PartData). p.mapping) ps ≡ replicate (length ps) m → i < length ps → p ≡ get_or ps i p → p.mapping ≡ m
 mapping-at m [] i p same lt is = absurd (omega (arith, lt))
-mapping-at m (x ∷ xs) zero p same lt is = ap (λ (s : SnapshotData). s.mapping) is ∙ head_is _ _ _ _ same
+mapping-at m (x ∷ xs) zero p same lt is = ap (λ (s : PartData). s.mapping) is ∙ head_is _ _ _ _ same
 mapping-at m (x ∷ xs) (suc i) p same lt is = mapping-at m xs i p (tail_is _ _ _ _ same) (omega (arith, lt)) is
 
-pub documents-at : (ps : List SnapshotData) (i : ℕ) (p : SnapshotData) → i < length ps → p ≡ get_or ps i p → get_or (documents_of_parts ps) i p.documents ≡ p.documents
+pub documents-at : (ps : List PartData) (i : ℕ) (p : PartData) → i < length ps → p ≡ get_or ps i p → get_or (documents_of_parts ps) i p.documents ≡ p.documents
 documents-at [] i p lt is = absurd (omega (arith, lt))
-documents-at (x ∷ xs) zero p lt is = ap (λ (s : SnapshotData). s.documents) (sym is)
+documents-at (x ∷ xs) zero p lt is = ap (λ (s : PartData). s.documents) (sym is)
 documents-at (x ∷ xs) (suc i) p lt is = documents-at xs i p (omega (arith, lt)) is
 
 -- one part alone
-pub one-part : (m : MappingData) (ds : Documents) → is_sorted id_cmp ds ≡ true → AreParts m ((record { mapping = m; documents = ds }) ∷ [])
-one-part m ds sorted = record { mappings = refl; apart = record { sorted = (sorted, tt); once = λ id. at_most_once (has_id id ds) }; few = omega arith }
+pub one-part : (m : MappingData) (p : PartData) → p.mapping ≡ m → is_sorted id_cmp p.documents ≡ true → AreParts m (p ∷ [])
+one-part m p here sorted = record { mappings = ap (λ x. x ∷ []) here; apart = record { sorted = (sorted, tt); once = λ id. at_most_once (has_id id p.documents) }; few = omega arith }
   where
     at_most_once : (b : Bool) → cond b 1 0 + 0 ≤ 1
     at_most_once b = elim b as (λ b. cond b 1 0 + 0 ≤ 1) [ true ↦ omega arith | false ↦ omega arith ]
@@ -43,8 +42,8 @@ drop-replicate m zero k = ap (λ j. replicate j m) (long k)
 drop-replicate m (suc n) zero = refl
 drop-replicate m (suc n) (suc k) = drop-replicate m n k
 
-module _ (m : MappingData) (ps qs : List SnapshotData) (ids : List Id) (es : Documents) (n : ℕ) (are : AreParts m ps)
-    (mappings : map (λ (p : SnapshotData). p.mapping) qs ≡ map (λ (p : SnapshotData). p.mapping) ps)
+module _ (m : MappingData) (ps qs : List PartData) (ids : List Id) (es : Documents) (n : ℕ) (are : AreParts m ps)
+    (mappings : map (λ (p : PartData). p.mapping) qs ≡ map (λ (p : PartData). p.mapping) ps)
     (left : documents_of_parts qs ≡ map (without ids) (documents_of_parts ps))
     (only : (id : Id) → has_id id es ≡ true → is_among ids id ≡ true) where
   abbrev all : List Documents
@@ -57,30 +56,43 @@ module _ (m : MappingData) (ps qs : List SnapshotData) (ids : List Id) (es : Doc
   none id is = ap (times id) left ∙ none_left ids (documents_of_parts ps) id is
 
   pub newer-in_order : AllInOrder (documents_of_parts (take n qs))
-  newer-in_order = subst AllInOrder (take-map (λ (p : SnapshotData). p.documents) n qs) (all_take n all apart.sorted)
+  newer-in_order = subst AllInOrder (take-map (λ (p : PartData). p.documents) n qs) (all_take n all apart.sorted)
 
-  -- the new part
-  abbrev pub front : SnapshotData
-  front = record { mapping = m; documents = merged es (woven (documents_of_parts (take n qs))) }
-
-  fronted : merged es (woven (take n all)) ∷ drop n all ≡ documents_of_parts (front ∷ drop n qs)
-  fronted = ap (λ ds. merged es (woven ds) ∷ drop n all) (take-map (λ (p : SnapshotData). p.documents) n qs) ∙ ap (λ ds. merged es (woven (documents_of_parts (take n qs))) ∷ ds) (drop-map (λ (p : SnapshotData). p.documents) n qs)
-
-  mappings_left : map (λ (p : SnapshotData). p.mapping) (drop n qs) ≡ replicate (length (drop n qs)) m
+  mappings_left : map (λ (p : PartData). p.mapping) (drop n qs) ≡ replicate (length (drop n qs)) m
   mappings_left =
-      let same = sym (drop-map (λ (p : SnapshotData). p.mapping) n qs) ∙ ap (drop n) (mappings ∙ are.mappings) in
-      same ∙ drop-replicate m n (length ps) ∙ ap (λ k. replicate k m) (sym (ap length same) ∙ length-map (drop n qs) (λ (p : SnapshotData). p.mapping))
+      let same = sym (drop-map (λ (p : PartData). p.mapping) n qs) ∙ ap (drop n) (mappings ∙ are.mappings) in
+      same ∙ drop-replicate m n (length ps) ∙ ap (λ k. replicate k m) (sym (ap length same) ∙ length-map (drop n qs) (λ (p : PartData). p.mapping))
+
+  fronted : (p : PartData) → p.documents ≡ merged es (woven (documents_of_parts (take n qs))) → merged es (woven (take n all)) ∷ drop n all ≡ documents_of_parts (p ∷ drop n qs)
+  fronted p is =
+      ap (λ ds. merged es (woven ds) ∷ drop n all) (take-map (λ (p : PartData). p.documents) n qs)
+      ∙ ap (λ ds. ds ∷ drop n all) (sym is)
+      ∙ ap (λ ds. p.documents ∷ ds) (drop-map (λ (p : PartData). p.documents) n qs)
 
   -- the new part stands in front of the others
-  pub front-parts : length (drop n qs) + 1 ≤ 64 → AreParts m (front ∷ drop n qs)
-  front-parts fits = record {
-    mappings = ap (λ ms. m ∷ ms) mappings_left;
-    apart = subst AreApart fronted (fronted-apart ids es n all apart none only);
+  pub front-parts : (p : PartData) → p.mapping ≡ m → p.documents ≡ merged es (woven (documents_of_parts (take n qs))) → length (drop n qs) < 4294967295 → AreParts m (p ∷ drop n qs)
+  front-parts p here is fits = record {
+    mappings = ap (λ x. x ∷ map (λ (p : PartData). p.mapping) (drop n qs)) here ∙ ap (λ ms. m ∷ ms) mappings_left;
+    apart = subst AreApart (fronted p is) (fronted-apart ids es n all apart none only);
     few = omega (arith, fits);
   }
 
   -- they show the new documents, and the others as they were
-  pub front-woven : woven (documents_of_parts (front ∷ drop n qs)) ≡ merged es (without ids (woven (documents_of_parts ps)))
-  front-woven =
-      ap woven (sym fronted) ∙ fronted-woven ids es n all apart none only
+  pub front-woven : (p : PartData) → p.documents ≡ merged es (woven (documents_of_parts (take n qs))) → woven (documents_of_parts (p ∷ drop n qs)) ≡ merged es (without ids (woven (documents_of_parts ps)))
+  front-woven p is =
+      ap woven (sym (fronted p is)) ∙ fronted-woven ids es n all apart none only
       ∙ ap (merged es) (ap woven left ∙ woven-without ids (documents_of_parts ps) are.apart.sorted)
+
+  long : length qs ≡ length ps
+  long = sym (length-map qs (λ (p : PartData). p.mapping)) ∙ ap length mappings ∙ length-map ps (λ (p : PartData). p.mapping)
+
+  -- where there is no new document the others stay
+  pub left-parts : AreParts m qs
+  left-parts = record {
+    mappings = mappings ∙ are.mappings ∙ ap (λ k. replicate k m) (sym long);
+    apart = apart;
+    few = omega (arith, long, are.few);
+  }
+
+  pub left-woven : es ≡ [] → woven (documents_of_parts qs) ≡ merged es (without ids (woven (documents_of_parts ps)))
+  left-woven is = ap woven left ∙ woven-without ids (documents_of_parts ps) are.apart.sorted ∙ ap (λ ds. merged ds (without ids (woven (documents_of_parts ps)))) (sym is)

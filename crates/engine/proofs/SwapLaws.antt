@@ -1,67 +1,54 @@
--- One part in place of the oldest parts.
-use lib.Dec.{T}
-use Rattle.std.proofs.Common.{◌≡◌, ◌<◌, ◌≤◌, ℕ, ◌+◌, ◌-◌, zero, suc, Bool, true, false, cond, List, [], ◌∷◌, ◌++◌, length, length-drop, map, take, drop, refl, sym, ap, ◌∙◌, subst, arith}
-use Rattle.std.specs.Prelude.{fold, is_some, not, replicate}
+-- One part in place of those that were taken.
+use Rattle.std.proofs.Common.{◌≡◌, ◌<◌, ◌≤◌, ℕ, ◌+◌, zero, suc, Bool, true, false, cond, List, [], ◌∷◌, ◌++◌, length, map, refl, sym, ap, ◌∙◌, subst, arith, Option, Some, None, inl, inr, get_or, take, add-one}
+use Rattle.std.specs.Prelude.{is_some, replicate, slice_index_or, ◌&&◌, ◌⊎◌, All, Contains}
+use Rattle.std.specs.List.{list_all}
+use Rattle.std.proofs.lemmas.List.Elements.{Contains-push_cases}
+use Rattle.std.proofs.Math.Seq.{take-suc}
 use Rattle.std.specs.Option.{option_or}
 use Rattle.std.specs.Cmp.Lexicographic.{nat_list_cmp_total}
-use Rattle.std.specs.FinMap.Entries.{is_sorted, same_entries, where_key}
-use Rattle.std.proofs.lemmas.List.{take_all, take-map, drop-map, map-append, length-map, length_push}
+use Rattle.std.specs.FinMap.Entries.{is_sorted, same_entries}
+use Rattle.std.proofs.lemmas.List.{map-append, length_push, length-map, get_or-map}
+use Rattle.std.proofs.lemmas.List.Folds.{list_all-append}
 use Rattle.std.proofs.lemmas.List.Sums.{fold-append}
+use Rattle.std.proofs.lemmas.List.Elements.{All-push, Contains-append_left, Contains-push}
 use Rattle.std.proofs.lemmas.Map.Lookups.{exact_bytes}
 use Rattle.doc.specs.Id.{Id, id_cmp}
 use Rattle.doc.specs.Mapping.{MappingData}
 use Rattle.op.specs.Documents.{Documents, document_at}
-use Rattle.engine.specs.Answer.{SnapshotData}
-use Rattle.engine.specs.Parts.{documents_of_parts, woven, merged, without, is_among, has_id, times, AreParts, AreApart, AllInOrder}
-use Rattle.engine.proofs.PartLaws.{T_true, true_T, find-merged, in_order-merged}
-use Rattle.engine.proofs.ApartLaws.{append-woven, count-split, has-woven, in_order-woven, all_take, all_drop}
+use Rattle.engine.specs.Parts.{PartData, all_published, documents_of_parts, published_of, woven, merged, without, has_id, times, AreParts, AllInOrder, IsSplit, none, stays, goes}
+use Rattle.engine.specs.Published.{Published, IsReplaced}
+use Rattle.engine.proofs.PartLaws.{T_true, find-merged, in_order-merged, or_or}
+use Rattle.engine.proofs.ApartLaws.{has-woven, in_order-woven, none_has}
 
 -- without no ids nothing is taken away
 pub without-none : (ds : Documents) → without [] ds ≡ ds
 without-none [] = refl
 without-none (d ∷ ds) = ap (λ es. d ∷ es) (without-none ds)
 
-pub all-without-none : (ps : List Documents) → map (without []) ps ≡ ps
-all-without-none [] = refl
-all-without-none (p ∷ ps) = ap (λ d. d ∷ map (without []) ps) (without-none p) ∙ ap (λ ds. p ∷ ds) (all-without-none ps)
+-- ---- one part more behind others
 
-all-back : (n : ℕ) (ps : List Documents) (d : Documents) → AllInOrder ps → is_sorted id_cmp d ≡ true → AllInOrder (take n ps ++ d ∷ [])
-all-back zero ps d all sorted = (sorted, tt)
-all-back (suc n) [] d all sorted = (sorted, tt)
-all-back (suc n) (p ∷ ps) d all sorted = (all.0, all-back n ps d all.1 sorted)
+pub woven-push : (ps : List Documents) (d : Documents) → woven (ps ++ d ∷ []) ≡ merged (woven ps) d
+woven-push ps d = fold-append merged [] ps (d ∷ [])
 
-times-back : (q : Id) (ps : List Documents) (d : Documents) → times q (ps ++ d ∷ []) ≡ times q ps + cond (has_id q d) 1 0
-times-back q [] d = elim (has_id q d) as (λ b. cond b 1 0 + 0 ≡ 0 + cond b 1 0) [ true ↦ refl | false ↦ refl ]
-times-back q (p ∷ ps) d =
-    let rest = times-back q ps d in
+pub documents-push : (ps : List PartData) (p : PartData) → documents_of_parts (ps ++ p ∷ []) ≡ documents_of_parts ps ++ p.documents ∷ []
+documents-push ps p = map-append (λ (p : PartData). p.documents) ps (p ∷ [])
+
+pub published-push : (ps : List PartData) (p : PartData) → all_published (ps ++ p ∷ []) ≡ all_published ps ++ published_of p ∷ []
+published-push ps p = map-append published_of ps (p ∷ [])
+
+order-push : (ps : List Documents) (d : Documents) → AllInOrder ps → is_sorted id_cmp d ≡ true → AllInOrder (ps ++ d ∷ [])
+order-push [] d all sorted = (sorted, tt)
+order-push (p ∷ ps) d all sorted = (all.0, order-push ps d all.1 sorted)
+
+order-front : (ps : List Documents) (d : Documents) → AllInOrder (ps ++ d ∷ []) → AllInOrder ps × (is_sorted id_cmp d ≡ true)
+order-front [] d all = (tt, all.0)
+order-front (p ∷ ps) d all = let rest = order-front ps d all.1 in ((all.0, rest.0), rest.1)
+
+pub times-push : (q : Id) (ps : List Documents) (d : Documents) → times q (ps ++ d ∷ []) ≡ times q ps + cond (has_id q d) 1 0
+times-push q [] d = elim (has_id q d) as (λ b. cond b 1 0 + 0 ≡ 0 + cond b 1 0) [ true ↦ refl | false ↦ refl ]
+times-push q (p ∷ ps) d =
+    let rest = times-push q ps d in
     elim (has_id q p) as (λ b. cond b 1 0 + times q (ps ++ d ∷ []) ≡ (cond b 1 0 + times q ps) + cond (has_id q d) 1 0) [ true ↦ omega (arith, rest) | false ↦ omega (arith, rest) ]
-
--- the oldest parts as one
-module _ (n : ℕ) (ps : List Documents) (apart : AreApart ps) where
-  older : Documents
-  older = woven (drop n ps)
-
-  older-sorted : is_sorted id_cmp (woven (drop n ps)) ≡ true
-  older-sorted = T_true _ (in_order-woven (drop n ps) (all_drop n ps apart.sorted))
-
-  back-once : (q : Id) (b : Bool) → has_id q (woven (drop n ps)) ≡ b → times q (take n ps) + cond b 1 0 ≤ 1
-  back-once q false is = omega (arith, count-split n ps q, apart.once q)
-  back-once q true is = omega (arith, count-split n ps q, apart.once q, has-woven (drop n ps) q is)
-
-  pub backed-apart : AreApart (take n ps ++ woven (drop n ps) ∷ [])
-  backed-apart = record {
-    sorted = all-back n ps (woven (drop n ps)) apart.sorted older-sorted;
-    once = λ q. subst (λ k. k ≤ 1) (sym (times-back q (take n ps) (woven (drop n ps)))) (back-once q (has_id q (woven (drop n ps))) refl);
-  }
-
-  -- they show the same
-  pub backed-woven : woven (take n ps ++ woven (drop n ps) ∷ []) ≡ woven ps
-  backed-woven =
-      fold-append merged [] (take n ps) (woven (drop n ps) ∷ [])
-      ∙ same_entries id_cmp nat_list_cmp_total exact_bytes _ _
-      (in_order-merged (woven (take n ps)) (woven (drop n ps)) (true_T _ older-sorted))
-      (in_order-woven ps apart.sorted)
-      (λ q. find-merged (woven (take n ps)) (woven (drop n ps)) q ∙ append-woven n ps q)
 
 head_is : {A : Type 0} (x y : A) (xs ys : List A) → x ∷ xs ≡ y ∷ ys → x ≡ y
 head_is x y xs ys is = cc
@@ -69,55 +56,238 @@ head_is x y xs ys is = cc
 tail_is : {A : Type 0} (x y : A) (xs ys : List A) → x ∷ xs ≡ y ∷ ys → xs ≡ ys
 tail_is x y xs ys is = cc
 
-mappings-back : (m : MappingData) (qs : List SnapshotData) (p : SnapshotData) → map (λ (p : SnapshotData). p.mapping) qs ≡ replicate (length qs) m → p.mapping ≡ m
-    → map (λ (p : SnapshotData). p.mapping) (qs ++ p ∷ []) ≡ replicate (length (qs ++ p ∷ [])) m
-mappings-back m [] p same is = ap (λ x. x ∷ []) is
-mappings-back m (q ∷ qs) p same is =
-    ap (λ x. x ∷ map (λ (p : SnapshotData). p.mapping) (qs ++ p ∷ [])) (head_is _ _ _ _ same)
-    ∙ ap (λ xs. m ∷ xs) (mappings-back m qs p (tail_is _ _ _ _ same) is)
+abbrev pub HaveMapping : MappingData → List PartData → Type 0
+HaveMapping m ps = map (λ (p : PartData). p.mapping) ps ≡ replicate (length ps) m
 
-mappings-take : (m : MappingData) (n : ℕ) (ps : List SnapshotData) → map (λ (p : SnapshotData). p.mapping) ps ≡ replicate (length ps) m
-    → map (λ (p : SnapshotData). p.mapping) (take n ps) ≡ replicate (length (take n ps)) m
-mappings-take m zero ps same = refl
-mappings-take m (suc n) [] same = refl
-mappings-take m (suc n) (q ∷ qs) same =
-    ap (λ x. x ∷ map (λ (p : SnapshotData). p.mapping) (take n qs)) (head_is _ _ _ _ same)
-    ∙ ap (λ xs. m ∷ xs) (mappings-take m n qs (tail_is _ _ _ _ same))
+mappings-push : (m : MappingData) (qs : List PartData) (p : PartData) → HaveMapping m qs → p.mapping ≡ m → HaveMapping m (qs ++ p ∷ [])
+mappings-push m [] p same is = ap (λ x. x ∷ []) is
+mappings-push m (q ∷ qs) p same is =
+    ap (λ x. x ∷ map (λ (p : PartData). p.mapping) (qs ++ p ∷ [])) (head_is _ _ _ _ same)
+    ∙ ap (λ xs. m ∷ xs) (mappings-push m qs p (tail_is _ _ _ _ same) is)
 
-length-back : {A B : Type 0} (n : ℕ) (ps : List A) (qs : List B) (x : B) → n < length ps → length qs ≡ length (take n ps) → length (qs ++ x ∷ []) ≤ length ps
-length-back n [] qs x lt long = absurd (omega (arith, lt))
-length-back zero (p ∷ ps) qs x lt long = omega (arith, length_push qs x, long)
-length-back (suc n) (p ∷ ps) [] x lt long = absurd (omega (arith, long))
-length-back (suc n) (p ∷ ps) (q ∷ qs) x lt long = let rest = length-back n ps qs x (omega (arith, lt)) (omega (arith, long)) in omega (arith, rest)
+mappings-front : (m : MappingData) (qs : List PartData) (p : PartData) → HaveMapping m (qs ++ p ∷ []) → HaveMapping m qs × (p.mapping ≡ m)
+mappings-front m [] p same = (refl, head_is _ _ _ _ same)
+mappings-front m (q ∷ qs) p same =
+    let rest = mappings-front m qs p (tail_is _ _ _ _ same) in
+    (ap (λ x. x ∷ map (λ (p : PartData). p.mapping) qs) (head_is _ _ _ _ same) ∙ ap (λ xs. m ∷ xs) rest.0, rest.1)
 
--- the newer parts, and one part that shows what the others do
-module _ (m : MappingData) (ps qs : List SnapshotData) (n : ℕ) (p : SnapshotData) (are : AreParts m ps)
-    (mappings : map (λ (p : SnapshotData). p.mapping) qs ≡ map (λ (p : SnapshotData). p.mapping) (take n ps))
-    (copies : documents_of_parts qs ≡ map (without []) (documents_of_parts (take n ps)))
-    (here : p.mapping ≡ m) (shows : p.documents ≡ woven (documents_of_parts (drop n ps))) where
-  long : length qs ≡ length (take n ps)
-  long = sym (length-map qs (λ (p : SnapshotData). p.mapping)) ∙ ap length mappings ∙ length-map (take n ps) (λ (p : SnapshotData). p.mapping)
+-- ---- two halves
 
-  backed : take n (documents_of_parts ps) ++ woven (drop n (documents_of_parts ps)) ∷ [] ≡ documents_of_parts (qs ++ p ∷ [])
-  backed =
-      ap (λ ds. take n (documents_of_parts ps) ++ woven ds ∷ []) (drop-map (λ (p : SnapshotData). p.documents) n ps)
-      ∙ ap (λ ds. take n (documents_of_parts ps) ++ ds ∷ []) (sym shows)
-      ∙ ap (λ ds. ds ++ p.documents ∷ []) (take-map (λ (p : SnapshotData). p.documents) n ps ∙ sym (copies ∙ all-without-none (documents_of_parts (take n ps))))
-      ∙ sym (map-append (λ (p : SnapshotData). p.documents) qs (p ∷ []))
+or_none : {A : Type 0} (o : Option A) → o ≡ option_or o None
+or_none None = refl
+or_none (Some x) = refl
 
-  pub back-parts : n < length ps → AreParts m (qs ++ p ∷ [])
-  back-parts lt = record {
-    mappings = mappings-back m qs p (mappings ∙ mappings-take m n ps are.mappings ∙ ap (λ k. replicate k m) (sym long)) here;
-    apart = subst AreApart backed (backed-apart n (documents_of_parts ps) are.apart);
-    few = omega (arith, length-back n ps qs p lt long, are.few);
+swapped_or : {A : Type 0} (a b c : Option A) → (is_some b ≡ true → c ≡ None) → option_or (option_or a b) c ≡ option_or (option_or a c) b
+swapped_or (Some x) b c apart = refl
+swapped_or None None c apart = or_none c
+swapped_or None (Some x) c apart = ap (λ o. option_or o (Some x)) (sym (apart refl))
+
+counted : (b : Bool) (n : ℕ) → n + cond b 1 0 ≤ 1 → b ≡ true → n ≤ 0
+counted true n few is = omega (arith, few)
+counted false n few is = cc
+
+less_one : (n k : ℕ) → n + k ≤ 1 → n ≤ 1
+less_one n k few = omega (arith, few)
+
+abbrev pub AreOnce : List PartData → Type 0
+AreOnce ps = (q : Id) → times q (documents_of_parts ps) ≤ 1
+
+times-pushed : (q : Id) (ps before : List PartData) (p : PartData) → ps ≡ before ++ p ∷ [] → times q (documents_of_parts ps) ≡ times q (documents_of_parts before) + cond (has_id q p.documents) 1 0
+times-pushed q ps before p is = ap (λ (xs : List PartData). times q (documents_of_parts xs)) is ∙ ap (times q) (documents-push before p) ∙ times-push q (documents_of_parts before) p.documents
+
+found-pushed : (q : Id) (ps before : List PartData) (p : PartData) → ps ≡ before ++ p ∷ []
+    → document_at (woven (documents_of_parts ps)) q ≡ option_or (document_at (woven (documents_of_parts before)) q) (document_at p.documents q)
+found-pushed q ps before p is =
+    ap (λ (xs : List PartData). document_at (woven (documents_of_parts xs)) q) is
+    ∙ ap (λ (ds : List Documents). document_at (woven ds) q) (documents-push before p)
+    ∙ ap (λ ds. document_at ds q) (woven-push (documents_of_parts before) p.documents)
+    ∙ find-merged (woven (documents_of_parts before)) p.documents q
+
+module _ (taken : List Published) where
+  pub split-times : (ps stay go : List PartData) → IsSplit taken ps stay go → (q : Id) → times q (documents_of_parts stay) + times q (documents_of_parts go) ≡ times q (documents_of_parts ps)
+  split-times _ _ _ none q = refl
+  split-times _ _ _ (stays before kept ps stay go p split not_there is stay_is) q =
+      let rest = split-times before kept go split q in
+      omega (arith, rest, times-pushed q ps before p is, times-pushed q stay kept p stay_is)
+  split-times _ _ _ (goes before stay gone ps go p split there is go_is) q =
+      let rest = split-times before stay gone split q in
+      omega (arith, rest, times-pushed q ps before p is, times-pushed q go gone p go_is)
+
+  once-before : (ps before : List PartData) (p : PartData) → ps ≡ before ++ p ∷ [] → AreOnce ps → AreOnce before
+  once-before ps before p is once = λ q. less_one _ (cond (has_id q p.documents) 1 0) (subst (λ n. n ≤ 1) (times-pushed q ps before p is) (once q))
+
+  pub split-found : (ps stay go : List PartData) → IsSplit taken ps stay go → AreOnce ps → (q : Id)
+      → option_or (document_at (woven (documents_of_parts stay)) q) (document_at (woven (documents_of_parts go)) q) ≡ document_at (woven (documents_of_parts ps)) q
+  split-found _ _ _ none once q = refl
+  split-found _ _ _ (stays before kept ps stay go p split not_there is stay_is) once q =
+      let rest = split-found before kept go split (once-before ps before p is once) q in
+      let apart = λ (some : is_some (document_at p.documents q) ≡ true).
+      none_has (documents_of_parts go) q (omega (arith, counted (has_id q p.documents) (times q (documents_of_parts before)) (subst (λ n. n ≤ 1) (times-pushed q ps before p is) (once q)) some, split-times before kept go split q)) in
+      ap (λ o. option_or o (document_at (woven (documents_of_parts go)) q)) (found-pushed q stay kept p stay_is)
+      ∙ swapped_or (document_at (woven (documents_of_parts kept)) q) (document_at p.documents q) (document_at (woven (documents_of_parts go)) q) apart
+      ∙ ap (λ o. option_or o (document_at p.documents q)) rest
+      ∙ sym (found-pushed q ps before p is)
+  split-found _ _ _ (goes before stay gone ps go p split there is go_is) once q =
+      let rest = split-found before stay gone split (once-before ps before p is once) q in
+      ap (option_or (document_at (woven (documents_of_parts stay)) q)) (found-pushed q go gone p go_is)
+      ∙ sym (or_or (document_at (woven (documents_of_parts stay)) q) (document_at (woven (documents_of_parts gone)) q) (document_at p.documents q))
+      ∙ ap (λ o. option_or o (document_at p.documents q)) rest
+      ∙ sym (found-pushed q ps before p is)
+
+  front-of : (ps before : List PartData) (p : PartData) → ps ≡ before ++ p ∷ [] → AllInOrder (documents_of_parts ps) → AllInOrder (documents_of_parts before) × (is_sorted id_cmp p.documents ≡ true)
+  front-of ps before p is all = order-front (documents_of_parts before) p.documents (subst AllInOrder (ap documents_of_parts is ∙ documents-push before p) all)
+
+  pushed-order : (ps before : List PartData) (p : PartData) → ps ≡ before ++ p ∷ [] → AllInOrder (documents_of_parts before) → is_sorted id_cmp p.documents ≡ true → AllInOrder (documents_of_parts ps)
+  pushed-order ps before p is all sorted = subst AllInOrder (sym (ap documents_of_parts is ∙ documents-push before p)) (order-push (documents_of_parts before) p.documents all sorted)
+
+  pub split-order : (ps stay go : List PartData) → IsSplit taken ps stay go → AllInOrder (documents_of_parts ps) → AllInOrder (documents_of_parts stay) × AllInOrder (documents_of_parts go)
+  split-order _ _ _ none all = (tt, tt)
+  split-order _ _ _ (stays before kept ps stay go p split not_there is stay_is) all =
+      let front = front-of ps before p is all in
+      let rest = split-order before kept go split front.0 in
+      (pushed-order stay kept p stay_is rest.0 front.1, rest.1)
+  split-order _ _ _ (goes before stay gone ps go p split there is go_is) all =
+      let front = front-of ps before p is all in
+      let rest = split-order before stay gone split front.0 in
+      (rest.0, pushed-order go gone p go_is rest.1 front.1)
+
+  pub split-mappings : (m : MappingData) (ps stay go : List PartData) → IsSplit taken ps stay go → HaveMapping m ps → HaveMapping m stay
+  split-mappings m _ _ _ none same = refl
+  split-mappings m _ _ _ (stays before kept ps stay go p split not_there is stay_is) same =
+      let front = mappings-front m before p (subst (HaveMapping m) is same) in
+      subst (HaveMapping m) (sym stay_is) (mappings-push m kept p (split-mappings m before kept go split front.0) front.1)
+  split-mappings m _ _ _ (goes before stay gone ps go p split there is go_is) same =
+      split-mappings m before stay gone split (mappings-front m before p (subst (HaveMapping m) is same)).0
+
+  -- each part was taken, or stays
+  abbrev IsEither : List Published → Published → Type 0
+  IsEither ss s = Contains taken s ⊎ Contains ss s
+
+  still : (ss : List Published) (e s : Published) → IsEither ss s → IsEither (ss ++ e ∷ []) s
+  still ss e s (inl there) = inl there
+  still ss e s (inr there) = inr (Contains-append_left ss (e ∷ []) s there)
+
+  kept-pushed : (ps before : List PartData) (p : PartData) (ss : List Published) → ps ≡ before ++ p ∷ [] → All (IsEither ss) (all_published before) → IsEither ss (published_of p) → All (IsEither ss) (all_published ps)
+  kept-pushed ps before p ss is all one = subst (All (IsEither ss)) (sym (ap all_published is ∙ published-push before p)) (All-push (IsEither ss) (all_published before) (published_of p) all one)
+
+  pub split-kept : (ps stay go : List PartData) → IsSplit taken ps stay go → All (IsEither (all_published stay)) (all_published ps)
+  split-kept _ _ _ none = λ k d lt. absurd (omega (arith, lt))
+  split-kept _ _ _ (stays before kept ps stay go p split not_there is stay_is) =
+      let old = split-kept before kept go split in
+      let last : IsEither (all_published kept ++ published_of p ∷ []) (published_of p) = inr (Contains-push (all_published kept) (published_of p)) in
+      subst (λ ss. All (IsEither ss) (all_published ps)) (sym (ap all_published stay_is ∙ published-push kept p))
+      (kept-pushed ps before p (all_published kept ++ published_of p ∷ []) is (λ k d lt. still (all_published kept) (published_of p) (slice_index_or (all_published before) k d) (old k d lt)) last)
+  split-kept _ _ _ (goes before stay gone ps go p split there is go_is) =
+      let last : IsEither (all_published stay) (published_of p) = inl there in
+      kept-pushed ps before p (all_published stay) is (split-kept before stay gone split) last
+
+  -- each part that stays was there and wasn't taken
+  abbrev IsOld : List Published → Published → Type 0
+  IsOld all s = Contains all s × (Contains taken s → ⊥)
+
+  older : (ps before : List PartData) (p : PartData) → ps ≡ before ++ p ∷ [] → (ss : List Published) → All (IsOld (all_published before)) ss → All (IsOld (all_published ps)) ss
+  older ps before p is ss all = λ k d lt. still (slice_index_or ss k d) (all k d lt)
+    where
+      still : (s : Published) → IsOld (all_published before) s → IsOld (all_published ps) s
+      still s old = (subst (λ xs. Contains xs s) (sym (ap all_published is ∙ published-push before p)) (Contains-append_left (all_published before) (published_of p ∷ []) s old.0), old.1)
+
+  pub split-stays : (ps stay go : List PartData) → IsSplit taken ps stay go → All (IsOld (all_published ps)) (all_published stay)
+  split-stays _ _ _ none = λ k d lt. absurd (omega (arith, lt))
+  split-stays _ _ _ (stays before kept ps stay go p split not_there is stay_is) =
+      let last : IsOld (all_published ps) (published_of p) = (subst (λ xs. Contains xs (published_of p)) (sym (ap all_published is ∙ published-push before p)) (Contains-push (all_published before) (published_of p)), not_there) in
+      subst (All (IsOld (all_published ps))) (sym (ap all_published stay_is ∙ published-push kept p))
+      (All-push (IsOld (all_published ps)) (all_published kept) (published_of p) (older ps before p is (all_published kept) (split-stays before kept go split)) last)
+  split-stays _ _ _ (goes before stay gone ps go p split there is go_is) = older ps before p is (all_published stay) (split-stays before stay gone split)
+
+-- the parts that stay, and one part that shows what the others do
+module _ (m : MappingData) (taken : List Published) (ps stay go : List PartData) (p : PartData) (split : IsSplit taken ps stay go) (are : AreParts m ps)
+    (here : p.mapping ≡ m) (shows : p.documents ≡ woven (documents_of_parts go)) where
+  orders : AllInOrder (documents_of_parts stay) × AllInOrder (documents_of_parts go)
+  orders = split-order taken ps stay go split are.apart.sorted
+
+  sorted : is_sorted id_cmp p.documents ≡ true
+  sorted = subst (λ ds. is_sorted id_cmp ds ≡ true) (sym shows) (T_true _ (in_order-woven (documents_of_parts go) orders.1))
+
+  once : (q : Id) (b : Bool) → has_id q (woven (documents_of_parts go)) ≡ b → times q (documents_of_parts stay) + cond b 1 0 ≤ 1
+  once q true is = omega (arith, split-times taken ps stay go split q, are.apart.once q, has-woven (documents_of_parts go) q is)
+  once q false is = omega (arith, split-times taken ps stay go split q, are.apart.once q)
+
+  backed : documents_of_parts (stay ++ p ∷ []) ≡ documents_of_parts stay ++ woven (documents_of_parts go) ∷ []
+  backed = documents-push stay p ∙ ap (λ ds. documents_of_parts stay ++ ds ∷ []) shows
+
+  pub replaced-parts : length stay < 4294967295 → AreParts m (stay ++ p ∷ [])
+  replaced-parts fits = record {
+    mappings = mappings-push m stay p (split-mappings taken m ps stay go split are.mappings) here;
+    apart = record {
+      sorted = subst AllInOrder (sym (documents-push stay p)) (order-push (documents_of_parts stay) p.documents orders.0 sorted);
+      once = λ q. subst (λ n. n ≤ 1) (sym (ap (times q) backed ∙ times-push q (documents_of_parts stay) (woven (documents_of_parts go)))) (once q (has_id q (woven (documents_of_parts go))) refl);
+    };
+    few = omega (arith, length_push stay p, fits);
   }
 
-  pub back-woven : woven (documents_of_parts (qs ++ p ∷ [])) ≡ woven (documents_of_parts ps)
-  back-woven = ap woven (sym backed) ∙ backed-woven n (documents_of_parts ps) are.apart
+  -- they show the same
+  pub replaced-woven : woven (documents_of_parts (stay ++ p ∷ [])) ≡ woven (documents_of_parts ps)
+  replaced-woven =
+      ap woven backed ∙ woven-push (documents_of_parts stay) (woven (documents_of_parts go))
+      ∙ same_entries id_cmp nat_list_cmp_total exact_bytes _ _
+      (in_order-merged (woven (documents_of_parts stay)) (woven (documents_of_parts go)) (in_order-woven (documents_of_parts go) orders.1))
+      (in_order-woven (documents_of_parts ps) are.apart.sorted)
+      (λ q. find-merged (woven (documents_of_parts stay)) (woven (documents_of_parts go)) q ∙ split-found taken ps stay go split are.apart.once q)
 
-pub older-in_order : (n : ℕ) (ps : List SnapshotData) → AllInOrder (documents_of_parts ps) → AllInOrder (documents_of_parts (drop n ps))
-older-in_order n ps all = subst AllInOrder (drop-map (λ (p : SnapshotData). p.documents) n ps) (all_drop n (documents_of_parts ps) all)
+  abbrev IsOne : ℕ → Published → Type 0
+  IsOne number s = (Contains (all_published ps) s × (Contains taken s → ⊥)) ⊎ (s.number ≡ number)
 
--- the elements from a place to the end
-pub oldest : {A : Type 0} (n : ℕ) (xs : List A) → take (length xs - n) (drop n xs) ≡ drop n xs
-oldest n xs = take_all (length xs - n) (drop n xs) (omega (arith, length-drop n xs))
+  pub replaced : (number : ℕ) → p.number ≡ number → IsReplaced taken (all_published ps) (all_published (stay ++ p ∷ [])) number
+  replaced number is =
+      let last : IsOne number (published_of p) = inr is in
+      let old = split-kept taken ps stay go split in
+      let those = split-stays taken ps stay go split in
+      record {
+        kept = subst (λ ss. All (IsEither taken ss) (all_published ps)) (sym (published-push stay p)) (λ k d lt. still taken (all_published stay) (published_of p) (slice_index_or (all_published ps) k d) (old k d lt));
+        one = subst (All (IsOne number)) (sym (published-push stay p)) (All-push (IsOne number) (all_published stay) (published_of p) (λ k d lt. inl (those k d lt)) last);
+      }
+
+-- one that fails is enough
+pub not-all : {A B : Type 0} (f : A → B) (p : B → Bool) (xs : List A) (i : ℕ) (x : A) → i < length xs → x ≡ get_or xs i x → p (f x) ≡ false → list_all p (map f xs) ≡ false
+not-all f p [] i x lt is fails = absurd (omega (arith, lt))
+not-all f p (a ∷ xs) zero x lt is fails = ap (λ b. b && list_all p (map f xs)) (ap (λ y. p (f y)) (sym is) ∙ fails)
+not-all f p (a ∷ xs) (suc i) x lt is fails = ap (λ b. p (f a) && b) (not-all f p xs i x (omega (arith, lt)) is fails) ∙ both_false (p (f a))
+  where
+    both_false : (b : Bool) → (b && false) ≡ false
+    both_false true = refl
+    both_false false = refl
+
+-- ---- one part more
+
+pub taken-push : (ps : List PartData) (i : ℕ) (x : PartData) → i < length ps → x ≡ get_or ps i x → take (i + 1) ps ≡ take i ps ++ x ∷ []
+taken-push ps i x lt is = ap (λ n. take n ps) (add-one i) ∙ take-suc ps i x lt ∙ ap (λ (y : PartData). take i ps ++ y ∷ []) (sym is)
+
+pub published-more : (ps : List PartData) (i : ℕ) (x : PartData) → i < length ps → x ≡ get_or ps i x → all_published (take (i + 1) ps) ≡ all_published (take i ps) ++ published_of x ∷ []
+published-more ps i x lt is = ap all_published (taken-push ps i x lt is) ∙ published-push (take i ps) x
+
+-- one part more that isn't it
+pub none-more : (ps : List PartData) (i : ℕ) (x : PartData) (s : Published) → i < length ps → x ≡ get_or ps i x → (Contains (all_published (take i ps)) s → ⊥) → (published_of x ≡ s → ⊥) → Contains (all_published (take (i + 1) ps)) s → ⊥
+none-more ps i x s lt is before here there =
+    elim (Contains-push_cases (all_published (take i ps)) (published_of x) s (subst (λ ss. Contains ss s) (published-more ps i x lt is) there)) [ inl old ↦ before old | inr same ↦ here same ]
+
+-- one part more that passes
+pub all-more : (P : Published → Type 0) (ps : List PartData) (i : ℕ) (x : PartData) → i < length ps → x ≡ get_or ps i x → All P (all_published (take i ps)) → P (published_of x) → All P (all_published (take (i + 1) ps))
+all-more P ps i x lt is all one = subst (All P) (sym (published-more ps i x lt is)) (All-push P (all_published (take i ps)) (published_of x) all one)
+
+pub tested-more : (p : Published → Bool) (ps : List PartData) (i : ℕ) (x : PartData) → i < length ps → x ≡ get_or ps i x → list_all p (all_published (take i ps)) ≡ true → p (published_of x) ≡ true → list_all p (all_published (take (i + 1) ps)) ≡ true
+tested-more p ps i x lt is all one =
+    ap (list_all p) (published-more ps i x lt is) ∙ list_all-append p (all_published (take i ps)) (published_of x ∷ []) ∙ ap (λ b. b && (p (published_of x) && true)) all ∙ ap (λ b. b && true) one
+
+-- what all have one has
+pub all-at : (P : Published → Type 0) (ps : List PartData) (i : ℕ) (x : PartData) → i < length ps → x ≡ get_or ps i x → All P (all_published ps) → P (published_of x)
+all-at P ps i x lt is all = subst P (get_or-map published_of ps i x (published_of x) lt ∙ ap published_of (sym is)) (all i (published_of x) (omega (arith, lt, length-map ps published_of)))
+
+pub splits-none : (taken : List Published) (ps stay go : List PartData) → stay ≡ [] → go ≡ [] → IsSplit taken (take 0 ps) stay go
+splits-none taken ps stay go s g = subst (λ (xs : List PartData). IsSplit taken [] xs go) (sym s) (subst (λ (xs : List PartData). IsSplit taken [] [] xs) (sym g) none)
+
+module _ (taken : List Published) (ps : List PartData) (i : ℕ) (x copy : PartData) (stay go stay' go' : List PartData) (lt : i < length ps) (is : x ≡ get_or ps i x) (same : copy ≡ x) (split : IsSplit taken (take i ps) stay go) where
+  pub one-goes : Contains taken (published_of x) → stay' ≡ stay → go' ≡ go ++ copy ∷ [] → IsSplit taken (take (i + 1) ps) stay' go'
+  one-goes there s g = goes (take i ps) stay' go (take (i + 1) ps) go' x (subst (λ (xs : List PartData). IsSplit taken (take i ps) xs go) (sym s) split) there (taken-push ps i x lt is) (g ∙ ap (λ (y : PartData). go ++ y ∷ []) same)
+
+  pub one-stays : (Contains taken (published_of x) → ⊥) → stay' ≡ stay ++ copy ∷ [] → go' ≡ go → IsSplit taken (take (i + 1) ps) stay' go'
+  one-stays absent s g = stays (take i ps) stay (take (i + 1) ps) stay' go' x (subst (λ (xs : List PartData). IsSplit taken (take i ps) stay xs) (sym g) split) absent (taken-push ps i x lt is) (s ∙ ap (λ (y : PartData). stay ++ y ∷ []) same)

@@ -5,12 +5,31 @@ use Rattle.op.specs.declared.record.Record.{Record}
 use Rattle.op.specs.Documents.{documents}
 use Rattle.op.specs.Records.{shown}
 use Rattle.engine.specs.Answer.{SnapshotData}
+use Rattle.engine.specs.Published.{Published}
 
 -- the mapping, the records, and how many of them searches show
 pub record Contents : Type 0 where
   pub mapping : MappingData
   pub records : List Record
   pub point : ℕ
+
+-- an engine: its contents, the segments that searches look through, the newest first, and the number of the next one
+pub record EngineData : Type 0 where
+  pub mapping : MappingData
+  pub records : List Record
+  pub point : ℕ
+  pub published : List Published
+  pub next : ℕ
+
+-- its contents
+abbrev pub contents_of : EngineData → Contents
+contents_of e = record { mapping = e.mapping; records = e.records; point = e.point }
+
+-- what searches show, the segments that they look through, and the number of the next one
+pub record ShowingData : Type 0 where
+  pub snapshot : SnapshotData
+  pub published : List Published
+  pub next : ℕ
 
 -- searches show the documents of the records up to the point
 pub record Shows (m : MappingData) (rs : List Record) (point : ℕ) (s : SnapshotData) : Type 0 where

@@ -4,6 +4,7 @@ pub mod Kept
 pub mod Found
 pub mod Entry
 pub mod Answer
+pub mod Published
 pub mod Parts
 pub mod Shown
 pub mod Contents

@@ -1,8 +1,10 @@
 -- Documents that stand in several parts.
 -- For proofs alone: no public contract rests on it.
-use Rattle.std.specs.Prelude.{◌≡◌, ℕ, ◌≤◌, ◌+◌, Bool, true, not, List, [], ◌∷◌, ◌<◌, drop, fold, is_some, if◌then◌else◌, length, map, replicate}
+use Rattle.std.specs.Prelude.{◌≡◌, ℕ, ◌≤◌, ◌+◌, ◌++◌, Bool, true, not, Contains, Option, List, [], ◌∷◌, ◌<◌, drop, fold, is_some, if◌then◌else◌, length, map, replicate}
 use Rattle.doc.specs.Mapping.{MappingData}
 use Rattle.engine.specs.Answer.{SnapshotData}
+use Rattle.engine.specs.Published.{Published, MergeData, are_taken, taken_of, AreBelow}
+use Rattle.std.specs.Option.{ForSome}
 use Rattle.std.specs.List.{AllByRecursion, list_any}
 use Rattle.std.specs.FinMap.Entries.{put, where_key, is_sorted}
 use Rattle.doc.specs.Id.{Id, id_cmp, is_id}
@@ -38,19 +40,65 @@ pub record AreApart (ps : List Documents) : Type 0 where
   pub sorted : AllByRecursion (λ ds. is_sorted id_cmp ds ≡ true) ps
   pub once : (id : Id) → times id ps ≤ 1
 
+-- a part: the documents that are live, its number, and all documents that were put into it
+pub record PartData : Type 0 where
+  pub mapping : MappingData
+  pub documents : Documents
+  pub number : ℕ
+  pub built : Documents
+
 -- the parts' documents
-abbrev pub documents_of_parts : List SnapshotData → List Documents
+abbrev pub documents_of_parts : List PartData → List Documents
 documents_of_parts ps = map (λ p. p.documents) ps
+
+-- a part as it is published
+abbrev pub published_of : PartData → Published
+published_of p = record { number = p.number; mapping = p.mapping; documents = p.built }
+
+-- the parts as they are published
+abbrev pub all_published : List PartData → List Published
+all_published ps = map published_of ps
+
+-- a list of parts: the documents that are live in them, and the segments that they are
+pub record PartListData : Type 0 where
+  pub mapping : MappingData
+  pub documents : Documents
+  pub published : List Published
+
+-- what searches show through parts
+abbrev pub shown_through : PartListData → SnapshotData
+shown_through l = record { mapping = l.mapping; documents = l.documents }
+
+-- a snapshot shows what its parts do, and the next number is a new one
+pub record IsShowing (l : PartListData) (s : SnapshotData) (next : ℕ) : Type 0 where
+  pub same : s ≡ shown_through l
+  pub below : AreBelow next l.published
+
+-- where a merge takes these parts, one part has the documents of all
+pub record IsMade (l : PartListData) (made : Option PartData) : Type 0 where
+  pub some : is_some made ≡ are_taken l.published
+  pub mapping : ForSome made (λ p. p.mapping ≡ l.mapping)
+  pub documents : ForSome made (λ p. p.documents ≡ l.documents)
+
+-- the merge that takes them
+abbrev pub merge_of : PartListData → MergeData
+merge_of l = record { taken = taken_of l.published; mapping = l.mapping; documents = l.documents }
+
+-- parts in two halves: those that were taken go, the others stay
+pub data IsSplit (taken : List Published) : List PartData → List PartData → List PartData → Type 0 where
+  none : IsSplit taken [] [] []
+  stays : (before stay ps kept go : List PartData) (p : PartData) → IsSplit taken before stay go → (Contains taken (published_of p) → ⊥) → ps ≡ before ++ p ∷ [] → kept ≡ stay ++ p ∷ [] → IsSplit taken ps kept go
+  goes : (before stay go ps gone : List PartData) (p : PartData) → IsSplit taken before stay go → Contains taken (published_of p) → ps ≡ before ++ p ∷ [] → gone ≡ go ++ p ∷ [] → IsSplit taken ps stay gone
 
 -- each is in order
 abbrev pub AllInOrder : List Documents → Type 0
 AllInOrder ps = AllByRecursion (λ ds. is_sorted id_cmp ds ≡ true) ps
 
 -- parts of one snapshot
-pub record AreParts (m : MappingData) (ps : List SnapshotData) : Type 0 where
+pub record AreParts (m : MappingData) (ps : List PartData) : Type 0 where
   pub mappings : map (λ p. p.mapping) ps ≡ replicate (length ps) m
   pub apart : AreApart (documents_of_parts ps)
-  pub few : length ps ≤ 64
+  pub few : length ps < 4294967296
 
 -- documents in order, each with a mark; where it is said that all are live, they are
 pub record IsPart (ds : Documents) (live : List Bool) (all_live : Bool) : Type 0 where

@@ -2,21 +2,24 @@
 use Rattle.std.specs.Prelude.{ℕ, List, Option, Some, None}
 use Rattle.op.specs.declared.record.Record.{Record}
 use Rattle.engine.specs.Answer.{SnapshotData}
-use Rattle.engine.specs.Contents.{Contents, Shows}
+use Rattle.engine.specs.Contents.{Contents, EngineData, Shows}
+use Rattle.engine.specs.Published.{Published}
 
--- new records if there are any, what searches show, and of how many records
+-- new records if there are any, what searches show, of how many records, through which segments, and the number of the next one
 pub record StagedData : Type 0 where
   pub records : Option (List Record)
   pub snapshot : SnapshotData
   pub point : ℕ
+  pub published : List Published
+  pub next : ℕ
 
 abbrev pub records_of : List Record → Option (List Record) → List Record
 records_of rs None = rs
 records_of rs (Some new) = new
 
--- the contents after the change
-abbrev pub put_in : Contents → StagedData → Contents
-put_in c s = record c { records = records_of c.records s.records; point = s.point }
+-- the engine after the change
+abbrev pub put_in : EngineData → StagedData → EngineData
+put_in e s = record e { records = records_of e.records s.records; point = s.point; published = s.published; next = s.next }
 
 -- the snapshot is that of these contents after the change
 abbrev pub IsStagedFrom : Contents → StagedData → Type 0

@@ -1,5 +1,5 @@
 //! Documents with their segment.
-ghost use Rattle.std.specs.Prelude.{◌≡◌, ◌<◌, ◌^◌, ◌&&◌, ◌||◌, Bool, All, Some, [], true, false, map, take, length, slice_get, slice_index_or, IfOk, IfErr};
+ghost use Rattle.std.specs.Prelude.{◌≡◌, ◌↔◌, ◌<◌, IsTrue, ◌^◌, ◌&&◌, ◌||◌, Bool, All, Some, [], true, false, map, take, length, slice_get, slice_index_or, IfOk, IfErr};
 ghost use Rattle.std.specs.List.{AllByRecursion};
 ghost use Rattle.std.specs.declared.cmp.Ordering.TheVariants.{Equal};
 ghost use Rattle.std.specs.Arc.{arc_value};
@@ -90,6 +90,21 @@ impl Block {
         self.segment.len()
     }
 
+    /// Whether the other has the same documents, read under the same mapping.
+    pub(crate) fn is(&self, other: &Block) -> bool
+        ensures { IsTrue result ↔ (self.now ≡ other.now) }
+    {
+        self.segment.mapping().is(other.segment.mapping())
+            && are_same(&self.documents, &other.documents)
+    }
+
+    /// Whether its documents were read under the mapping.
+    pub(crate) fn is_under(&self, mapping: &Mapping) -> bool
+        ensures { IsTrue result ↔ (self.now.mapping ≡ mapping.now) }
+    {
+        self.segment.mapping().is(mapping)
+    }
+
     /// The live documents that the query means: how many there are, and the places of the first of them, rising, no more than wanted.
     pub(crate) fn find(
         &self,
@@ -171,6 +186,31 @@ impl Block {
             marks.set(at as u32);
         }
     }
+}
+
+/// Whether two lists have the same documents.
+fn are_same(left: &[Shown], right: &[Shown]) -> bool
+    ensures { IsTrue result ↔ (map shown_view left.now ≡ map shown_view right.now) }
+{
+    if left.len() != right.len() {
+        return false;
+    }
+    for at in 0..left.len() {
+        if !is_same(&left[at], &right[at]) {
+            return false;
+        }
+    }
+    true
+}
+
+fn is_same(left: &Shown, right: &Shown) -> bool
+    ensures { IsTrue result ↔ (shown_view left.now ≡ shown_view right.now) }
+{
+    left.seq == right.seq
+        && left.term == right.term
+        && left.version == right.version
+        && left.id.is(&right.id)
+        && left.source.is(&right.source)
 }
 
 /// The place of the document with the id, or where it would go.

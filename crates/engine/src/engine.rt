@@ -1,5 +1,5 @@
 //! The documents of one copy.
-ghost use Rattle.std.specs.Prelude.{◌≡◌, ◌<◌, ◌^◌, All, length, None, IfOk, OnOk, OnErr};
+ghost use Rattle.std.specs.Prelude.{◌≡◌, ◌↔◌, ◌⊎◌, ◌∷◌, ◌<◌, ◌≤◌, ◌^◌, [], true, false, All, Contains, length, None, IsTrue, IfOk, OnOk, OnErr};
 ghost use Rattle.std.specs.Option.{option_copied, option_map};
 ghost use Rattle.std.specs.Arc.{arc_value};
 ghost use Rattle.op.specs.Checkpoint.{checkpoint_of, known};
@@ -9,12 +9,15 @@ ghost use Rattle.op.specs.Records.{IsRecord, operations, shown};
 ghost use Rattle.engine.specs.Applied.{applied_of, records_after};
 ghost use Rattle.engine.specs.Found.{found_document};
 ghost use Rattle.engine.specs.Last.{last_of};
-ghost use Rattle.engine.specs.SnapshotChange.{changed, IsSnapshotChange};
+ghost use Rattle.engine.specs.Contents.{contents_of};
+ghost use Rattle.engine.specs.Published.{next_after, taken_of, AreAmong, AreBelow, IsSwapped};
+ghost use Rattle.engine.specs.SnapshotChange.{changed, ArePublished, IsNumbered, IsSnapshotChange, OnlyOps};
 ghost use Rattle.engine.specs.Staged.{IsStagedFrom, put_in};
 
 use crate::documents::documents_at;
 use crate::history::{Applied, Found, History};
 use crate::listed::Listed;
+use crate::showing::Showing;
 use crate::snapshot::Snapshot;
 use crate::staged::{SnapshotChange, Staged};
 use crate::swapping::{Merged, Merging};
@@ -39,35 +42,47 @@ pub struct Last {
 pub struct Engine {
     mapping: Arc<Mapping, Global>,
     history: History,
-    snapshot: Arc<Snapshot, Global>,
+    showing: Showing,
     point: usize,
 }
 
 impl Model for Engine {
     ghost use Rattle.std.specs.Arc.{arc_value};
-    ghost use Rattle.engine.specs.Contents.{Contents, Shows};
+    ghost use Rattle.engine.specs.Contents.{EngineData, Shows};
 
-    ghost Value = { Contents };
+    ghost Value = { EngineData };
 
-    ghost view = { λ e. record { mapping = arc_value e.mapping; records = e.history; point = e.point } };
+    ghost view = { λ e. record {
+      mapping = arc_value e.mapping;
+      records = e.history;
+      point = e.point;
+      published = e.showing.published;
+      next = e.showing.next;
+    } };
 
-    ghost invariant = { λ e. Shows (arc_value e.mapping) e.history e.point (arc_value e.snapshot) };
+    ghost invariant = { λ e. Shows (arc_value e.mapping) e.history e.point e.showing.snapshot };
 }
 
 impl Engine {
-    /// The engine of these records; searches show them all.
+    /// The engine of these records; searches show them all, through one segment, whose number is 0.
     pub fn open(alloc: Global, mapping: Mapping, records: Vec<Record>) -> Result<Engine, AllocError>
         requires { All IsRecord records.items }
-        ensures { IfOk result (λ e. e ≡ record { mapping = mapping; records = records.items; point = length records.items }) }
+        ensures { IfOk result (λ e. e ≡ record {
+          mapping = mapping;
+          records = records.items;
+          point = length records.items;
+          published = (record { number = 0; mapping = mapping; documents = documents (operations records.items) }) ∷ [];
+          next = 1;
+        }) }
     {
         let mapping = Arc::new(alloc, mapping)?;
         let history = History::of(alloc, records)?;
-        let snapshot = snapshot_of(alloc, &mapping, 0, &history)?;
+        let showing = Showing::of(alloc, &mapping, 0, history.operations())?;
         let point = history.len();
         Ok(Engine {
             mapping,
             history,
-            snapshot,
+            showing,
             point,
         })
     }
@@ -82,10 +97,12 @@ impl Engine {
         self.history.apply(alloc, kept)
     }
 
-    /// Shows all records from now on, and answers how many there are.
+    /// Shows all records from now on, and answers how many there are. Each segment stays, unless more than operations came.
     pub fn refresh(&mut self, alloc: Global) -> Result<u64, AllocError>
         ensures point { IfOk result (λ n. n ≡ length self.old.records) }
-        ensures shown { OnOk result (self.new ≡ record self.old { point = length self.old.records }) }
+        ensures shown { OnOk result (contents_of self.new ≡ record (contents_of self.old) { point = length self.old.records }) }
+        ensures numbered { OnOk result (IsNumbered self.old self.new) }
+        ensures kept { OnOk result (OnlyOps self.old → AreAmong self.new.published self.old.published) }
         ensures err { OnErr result (self.new ≡ self.old) }
     {
         let staged = self.stage(alloc, SnapshotChange::Refresh)?;
@@ -93,10 +110,12 @@ impl Engine {
         Ok(self.point as u64)
     }
 
-    /// Takes these records in place of its own, as `open` does.
+    /// Takes these records in place of its own, as `open` does; the numbers of segments go on.
     pub fn reopen(&mut self, alloc: Global, records: Vec<Record>) -> Result<(), AllocError>
         requires { All IsRecord records.items }
-        ensures ok { OnOk result (self.new ≡ record self.old { records = records.items; point = length records.items }) }
+        ensures ok { OnOk result (contents_of self.new ≡ record (contents_of self.old) { records = records.items; point = length records.items }) }
+        ensures published { OnOk result (self.new.published ≡ (record { number = self.old.next; mapping = self.old.mapping; documents = documents (operations records.items) }) ∷ []) }
+        ensures next { OnOk result (self.new.next ≡ next_after self.old.next) }
         ensures err { OnErr result (self.new ≡ self.old) }
     {
         let staged = self.stage(alloc, SnapshotChange::Reopen(records))?;
@@ -107,90 +126,133 @@ impl Engine {
     /// Makes a change ready, and changes nothing.
     pub fn stage(&self, alloc: Global, change: SnapshotChange) -> Result<Staged, AllocError>
         requires { IsSnapshotChange change }
-        ensures fits { IfOk result (IsStagedFrom self.now) }
-        ensures leaves { IfOk result (λ s. put_in self.now s ≡ changed self.now change) }
+        ensures fits { IfOk result (IsStagedFrom (contents_of self.now)) }
+        ensures leaves { IfOk result (λ s. contents_of (put_in self.now s) ≡ changed (contents_of self.now) change) }
+        ensures published { IfOk result (λ s. ArePublished self.now change (put_in self.now s)) }
     {
         match change {
-            SnapshotChange::Refresh => {
-                let snapshot = self.refreshed(alloc)?;
-                Ok(Staged {
-                    history: None,
-                    snapshot,
-                    point: self.history.len(),
-                })
-            }
-            SnapshotChange::Reopen(records) => {
-                let reopened = History::of(alloc, records)?;
-                let number = self.snapshot.next_number();
-                let snapshot = snapshot_of(alloc, &self.mapping, number, &reopened)?;
-                let point = reopened.len();
-                Ok(Staged {
-                    history: Some(reopened),
-                    snapshot,
-                    point,
-                })
-            }
+            SnapshotChange::Refresh => self.stage_refresh(alloc, false),
+            SnapshotChange::JoinedRefresh => self.stage_refresh(alloc, true),
+            SnapshotChange::Reopen(records) => self.stage_reopen(alloc, records),
         }
     }
 
+    /// Makes a refresh ready.
+    fn stage_refresh(&self, alloc: Global, joins: bool) -> Result<Staged, AllocError>
+        ensures fits { IfOk result (IsStagedFrom (contents_of self.now)) }
+        ensures leaves { IfOk result (λ s. contents_of (put_in self.now s) ≡ record (contents_of self.now) { point = length self.now.records }) }
+        ensures numbered { IfOk result (λ s. IsNumbered self.now (put_in self.now s)) }
+        ensures kept { IfOk result (λ s. joins ≡ false → OnlyOps self.now → AreAmong s.published self.now.published) }
+    {
+        let showing = self.refreshed(alloc, joins)?;
+        let _below = showing.next();
+        Ok(Staged {
+            history: None,
+            showing,
+            point: self.history.len(),
+        })
+    }
+
+    /// Makes other records ready.
+    fn stage_reopen(&self, alloc: Global, records: Vec<Record>) -> Result<Staged, AllocError>
+        requires { All IsRecord records.items }
+        ensures fits { IfOk result (IsStagedFrom (contents_of self.now)) }
+        ensures leaves { IfOk result (λ s. contents_of (put_in self.now s) ≡ record (contents_of self.now) { records = records.items; point = length records.items }) }
+        ensures published { IfOk result (λ s. s.published ≡ (record { number = self.now.next; mapping = self.now.mapping; documents = documents (operations records.items) }) ∷ []) }
+        ensures next { IfOk result (λ s. s.next ≡ next_after self.now.next) }
+    {
+        let reopened = History::of(alloc, records)?;
+        let showing = Showing::of(
+            alloc,
+            &self.mapping,
+            self.showing.next(),
+            reopened.operations(),
+        )?;
+        let point = reopened.len();
+        Ok(Staged {
+            history: Some(reopened),
+            showing,
+            point,
+        })
+    }
+
     /// What searches show of all records: what they show where nothing came, with the ids that changed, or made anew where more than ids changed.
-    fn refreshed(&self, alloc: Global) -> Result<Arc<Snapshot, Global>, AllocError>
-        ensures { IfOk result (λ s. arc_value s ≡ record { mapping = self.now.mapping; documents = documents (operations self.now.records) }) }
+    fn refreshed(&self, alloc: Global, joins: bool) -> Result<Showing, AllocError>
+        ensures snapshot { IfOk result (λ s. s.snapshot ≡ record { mapping = self.now.mapping; documents = documents (operations self.now.records) }) }
+        ensures numbers { IfOk result (λ s. All (λ p. Contains self.now.published p ⊎ (p.number ≡ self.now.next)) s.published) }
+        ensures rises { IfOk result (λ s. self.now.next ≤ s.next) }
+        ensures kept { IfOk result (λ s. joins ≡ false → OnlyOps self.now → AreAmong s.published self.now.published) }
     {
         if self.history.len() == self.point {
-            return Ok(Arc::try_clone(&self.snapshot)?);
+            let showing = self.showing.copy()?;
+            return Ok(showing);
         }
         let Some(ids) = self.history.ids_since(alloc, self.point)? else {
-            return snapshot_of(
-                alloc,
-                &self.mapping,
-                self.snapshot.next_number(),
-                &self.history,
-            );
+            let next = self.showing.next();
+            let showing = Showing::of(alloc, &self.mapping, next, self.history.operations())?;
+            return Ok(showing);
         };
         let entries = documents_at(alloc, &self.history, &ids)?;
-        let snapshot = self.snapshot.with(alloc, &ids, &entries)?;
-        Ok(Arc::new(alloc, snapshot)?)
+        let showing = self.showing.with(alloc, &ids, &entries, joins)?;
+        Ok(showing)
     }
 
     /// Makes a change that is ready for this engine. It takes no memory.
     pub fn put(&mut self, staged: Staged)
-        requires { IsStagedFrom self.old staged }
+        requires { IsStagedFrom (contents_of self.old) staged }
         ensures { self.new ≡ put_in self.old staged }
     {
         let Staged {
             history,
-            snapshot,
+            showing,
             point,
         } = staged;
         if let Some(history) = history {
             self.history = history;
         }
-        self.snapshot = snapshot;
+        self.showing = showing;
         self.point = point;
     }
 
-    /// Begins a merge of all parts that searches look through. It changes nothing.
+    /// Begins a merge of all segments that searches look through, or of none where there is only one, or where one bears the greatest number.
+    /// It changes nothing.
     pub fn begin_merge(&self) -> Result<Merging, AllocError>
-        ensures { IfOk result (λ m. m ≡ record { mapping = self.now.mapping; documents = documents (shown self.now.records self.now.point) }) }
+        ensures { IfOk result (λ m. m ≡ record {
+          taken = taken_of self.now.published;
+          mapping = self.now.mapping;
+          documents = documents (shown self.now.records self.now.point);
+        }) }
     {
-        let snapshot = Arc::try_clone(&self.snapshot)?;
-        Ok(Merging { snapshot })
+        self.showing.begin_merge()
     }
 
-    /// Puts a merged part in place of those that it is made of: documents that aren't live in them any more aren't live in it. Where one of
-    /// these parts isn't there any more, as after a restart, it is `false` and all parts stay. What the engine has and what searches show
-    /// stays in any case.
+    /// Puts a merged segment in place of those that it is made of: documents that aren't live in them any more aren't live in it. Where one of
+    /// them isn't there any more, as after a restart, it is `false` and all stay. What the engine has and what searches show stays in any case.
     pub fn swap_merged(&mut self, alloc: Global, merged: Merged) -> Result<bool, AllocError>
-        ensures { self.new ≡ self.old }
+        ensures answer { IfOk result (λ b. IsTrue b ↔ AreAmong self.old.published merged.taken) }
+        ensures swapped { IfOk result (λ b. b ≡ true → IsSwapped merged.taken self.old.published self.new.published self.old.next) }
+        ensures none { merged.taken ≡ [] → self.new ≡ self.old }
+        ensures stays { IfOk result (λ b. b ≡ false → self.new ≡ self.old) }
+        ensures contents { contents_of self.new ≡ contents_of self.old }
+        ensures err { OnErr result (self.new ≡ self.old) }
     {
-        match self.snapshot.swapped(alloc, &merged)? {
-            Some(snapshot) => {
-                self.snapshot = Arc::new(alloc, snapshot)?;
+        let after = self.showing.swapped(alloc, &merged);
+        drop(merged);
+        match after? {
+            Some(after) => {
+                self.showing = after;
                 Ok(true)
             }
             None => Ok(false),
         }
+    }
+
+    /// The number of the next segment. Until it is the greatest, no number below it is given again.
+    pub fn next_number(&self) -> u64
+        ensures is { result ≡ self.now.next }
+        ensures below { AreBelow self.now.next self.now.published }
+    {
+        self.showing.next()
     }
 
     /// How many records searches show.
@@ -204,7 +266,7 @@ impl Engine {
     pub fn snapshot(&self) -> &Arc<Snapshot, Global>
         ensures { arc_value result.now ≡ record { mapping = self.now.mapping; documents = documents (shown self.now.records self.now.point) } }
     {
-        &self.snapshot
+        self.showing.snapshot()
     }
 
     /// The document with the id, as of all records.
@@ -288,18 +350,4 @@ impl Engine {
     {
         &self.mapping
     }
-}
-
-/// What searches show of all records.
-fn snapshot_of(
-    alloc: Global,
-    mapping: &Arc<Mapping, Global>,
-    number: u64,
-    history: &History,
-) -> Result<Arc<Snapshot, Global>, AllocError>
-    ensures { IfOk result (λ s. arc_value s ≡ record { mapping = arc_value mapping.now; documents = documents (operations history.now) }) }
-{
-    let mapping = Arc::try_clone(mapping)?;
-    let snapshot = Snapshot::of(alloc, mapping, number, history.operations())?;
-    Ok(Arc::new(alloc, snapshot)?)
 }

@@ -1,5 +1,5 @@
 //! The records of a copy, and their operations.
-ghost use Rattle.std.specs.Prelude.{◌≡◌, ◌<◌, ◌≤◌, ◌^◌, ◌||◌, false, None, All, IfOk, IfSome, OnOk, OnErr};
+ghost use Rattle.std.specs.Prelude.{◌≡◌, ◌<◌, ◌≤◌, ◌^◌, ◌||◌, false, None, All, drop, IfOk, IfSome, OnOk, OnErr};
 ghost use Rattle.doc.specs.Id.{Id};
 ghost use Rattle.std.specs.Option.{option_copied, option_map};
 ghost use Rattle.op.specs.Checkpoint.{checkpoint_of, known};
@@ -8,6 +8,8 @@ ghost use Rattle.op.specs.Operations.{IsAscending, add, from_number, is_on, is_s
 ghost use Rattle.op.specs.Records.{IsRecord, operations, shown};
 ghost use Rattle.engine.specs.Found.{found_document};
 ghost use Rattle.engine.specs.Parts.{is_among};
+ghost use Rattle.engine.specs.SnapshotChange.{is_op};
+ghost use Rattle.std.specs.List.{AllPass};
 
 use crate::operation_index::OperationIndex;
 use crate::operations;
@@ -159,7 +161,8 @@ impl History {
         point: usize,
     ) -> Result<Option<Vec<DocId>>, AllocError>
         requires { point ≤ length self.now }
-        ensures { IfOk result (λ ids. IfSome ids (λ v. (id : Id) → is_among v.items id ≡ false → last_on (operations self.now) id ≡ last_on (shown self.now point) id)) }
+        ensures others { IfOk result (λ ids. IfSome ids (λ v. (id : Id) → is_among v.items id ≡ false → last_on (operations self.now) id ≡ last_on (shown self.now point) id)) }
+        ensures only { IfOk result (λ ids. AllPass is_op (drop point self.now) → ids ≡ None → ⊥) }
     {
         let mut ids = Vec::new(alloc);
         for kept in &self.records[point..] {

@@ -11,6 +11,8 @@ mod operation_index;
 mod operations;
 mod paging;
 mod part;
+mod part_list;
+mod showing;
 pub mod snapshot;
 pub mod staged;
 pub mod swapping;

@@ -1,5 +1,5 @@
 //! A part of what searches show.
-ghost use Rattle.std.specs.Prelude.{◌≡◌, ◌<◌, ◌+◌, ◌^◌, ◌&&◌, true, map, take, drop, length, filter, IfOk};
+ghost use Rattle.std.specs.Prelude.{◌≡◌, ◌↔◌, ◌<◌, IsTrue, ◌+◌, ◌^◌, ◌&&◌, true, map, take, drop, length, filter, IfOk};
 ghost use Rattle.std.specs.Arc.{arc_value};
 ghost use Rattle.std.specs.FinMap.Entries.{is_sorted};
 ghost use Rattle.doc.specs.Id.{id_cmp};
@@ -8,7 +8,7 @@ ghost use Rattle.marks.specs.Lists.{zip_with, places};
 ghost use Rattle.engine.specs.Answer.{is_found};
 ghost use Rattle.engine.specs.Entry.{entry_view};
 ghost use Rattle.engine.specs.Shown.{seen};
-ghost use Rattle.engine.specs.Parts.{without, IsPart};
+ghost use Rattle.engine.specs.Parts.{published_of, without, IsPart};
 
 use crate::block::{Block, Shown};
 use crate::documents::Entry;
@@ -32,13 +32,17 @@ pub(crate) struct Part {
 
 impl Model for Part {
     ghost use Rattle.std.specs.Arc.{arc_value};
-    ghost use Rattle.engine.specs.Answer.{SnapshotData};
     ghost use Rattle.segment.specs.Merged.{chosen};
-    ghost use Rattle.engine.specs.Parts.{IsPart};
+    ghost use Rattle.engine.specs.Parts.{IsPart, PartData};
 
-    ghost Value = { SnapshotData };
+    ghost Value = { PartData };
 
-    ghost view = { λ p. record { mapping = (arc_value p.block).mapping; documents = chosen (arc_value p.block).documents p.live } };
+    ghost view = { λ p. record {
+      mapping = (arc_value p.block).mapping;
+      documents = chosen (arc_value p.block).documents p.live;
+      number = p.number;
+      built = (arc_value p.block).documents;
+    } };
 
     ghost invariant = { λ p. IsPart (arc_value p.block).documents p.live p.all_live };
 }
@@ -66,7 +70,7 @@ impl Part {
         entries: &[Entry<'_>],
     ) -> Result<Part, AllocError>
         requires { is_sorted id_cmp (map entry_view entries.now) ≡ true }
-        ensures { IfOk result (λ p. p ≡ record { mapping = arc_value mapping.now; documents = map entry_view entries.entry.now }) }
+        ensures { IfOk result (λ p. p ≡ record { mapping = arc_value mapping.now; documents = map entry_view entries.entry.now; number = number; built = map entry_view entries.entry.now }) }
     {
         let block = Block::of(alloc, mapping, entries)?;
         let live = Marks::all(alloc, block.len())?;
@@ -79,14 +83,37 @@ impl Part {
         })
     }
 
-    /// The number that no other part of a copy has or had.
-    pub(crate) fn number(&self) -> u64 {
+    /// Its number.
+    pub(crate) fn number(&self) -> u64
+        ensures { result ≡ self.now.number }
+    {
         self.number
+    }
+
+    /// Whether the other is the same segment, whichever documents are live.
+    pub(crate) fn is_as(&self, other: &Part) -> bool
+        ensures { IsTrue result ↔ (published_of self.now ≡ published_of other.now) }
+    {
+        self.number == other.number && self.block.is(&other.block)
+    }
+
+    /// Whether its documents were read under the mapping.
+    pub(crate) fn is_under(&self, mapping: &Mapping) -> bool
+        ensures { IsTrue result ↔ (self.now.mapping ≡ mapping.now) }
+    {
+        self.block.is_under(mapping)
+    }
+
+    /// The same part, which shares its documents.
+    pub(crate) fn copy(&self, alloc: Global) -> Result<Part, AllocError>
+        ensures { IfOk result (λ p. p ≡ self.now) }
+    {
+        self.without(alloc, &[])
     }
 
     /// The same part under another number.
     pub(crate) fn numbered(self, number: u64) -> Part
-        ensures { result ≡ self }
+        ensures { result ≡ record self { number = number } }
     {
         let Part {
             number: _,

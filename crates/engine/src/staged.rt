@@ -3,6 +3,7 @@
 use crate::engine::Engine;
 use crate::history::History;
 use crate::listed::Listed;
+use crate::showing::Showing;
 use crate::snapshot::Snapshot;
 use op::Record;
 use std::alloc::Global;
@@ -12,8 +13,10 @@ use std::sync::Arc;
 /// A change of an engine that makes a new snapshot.
 #[derive(Drop)]
 pub enum SnapshotChange {
-    /// Searches show all records.
+    /// Searches show all records. Each segment stays, unless more than operations came.
     Refresh,
+    /// Searches show all records, and small segments go into one as they become many.
+    JoinedRefresh,
     /// These are the records, and searches show them all.
     Reopen(Vec<Record>),
 }
@@ -23,17 +26,22 @@ pub enum SnapshotChange {
 #[derive(Drop)]
 pub struct Staged {
     pub(crate) history: Option<History>,
-    pub(crate) snapshot: Arc<Snapshot, Global>,
+    pub(crate) showing: Showing,
     pub(crate) point: usize,
 }
 
 impl Model for Staged {
-    ghost use Rattle.std.specs.Arc.{arc_value};
     ghost use Rattle.engine.specs.Staged.{StagedData};
 
     ghost Value = { StagedData };
 
-    ghost view = { λ s. record { records = s.history; snapshot = arc_value s.snapshot; point = s.point } };
+    ghost view = { λ s. record {
+      records = s.history;
+      snapshot = s.showing.snapshot;
+      point = s.point;
+      published = s.showing.published;
+      next = s.showing.next;
+    } };
 }
 
 impl Staged {
@@ -45,7 +53,7 @@ impl Staged {
     pub fn snapshot(&self) -> &Arc<Snapshot, Global>
         ensures { arc_value result.now ≡ self.now.snapshot }
     {
-        &self.snapshot
+        self.showing.snapshot()
     }
 
     /// How many records searches show after the change.

@@ -1,109 +1,176 @@
 //! Merges of parts beside searches.
-ghost use Rattle.std.specs.Prelude.{◌≡◌, ◌<◌, true, map, length, IfOk, IfSome};
-ghost use Rattle.engine.specs.Answer.{SnapshotData};
+ghost use Rattle.std.specs.Prelude.{◌≡◌, ◌<◌, true, false, All, Contains, map, length, nat_lt, IfOk, IfSome};
+ghost use Rattle.std.specs.Arc.{arc_value};
 ghost use Rattle.engine.specs.Entry.{entry_view};
-ghost use Rattle.engine.specs.Parts.{documents_of_parts, woven, AllInOrder};
+ghost use Rattle.engine.specs.Parts.{all_published, documents_of_parts, merge_of, published_of, woven, AllInOrder, IsMade, IsSplit};
+ghost use Rattle.engine.specs.Published.{are_taken, greatest, AreAmong};
+ghost use Rattle.std.specs.List.{list_all};
 
 use crate::documents::Entry;
 use crate::part::Part;
-use crate::snapshot::{Snapshot, entries_of_parts};
+use crate::part_list::{PartList, entries_of_parts};
 use doc::{DocId, Mapping};
 use std::alloc::{AllocError, Global};
 use std::marker::Model;
 use std::sync::Arc;
 
-/// A merge that was begun: what searches showed then. It needs no engine.
+/// A merge that was begun: what searches looked through then. It needs no engine.
 #[derive(Drop)]
 pub struct Merging {
-    pub(crate) snapshot: Arc<Snapshot, Global>,
+    pub(crate) parts: Arc<PartList, Global>,
 }
 
 impl Model for Merging {
     ghost use Rattle.std.specs.Arc.{arc_value};
-    ghost use Rattle.engine.specs.Answer.{SnapshotData};
+    ghost use Rattle.engine.specs.Parts.{merge_of};
+    ghost use Rattle.engine.specs.Published.{MergeData};
 
-    ghost Value = { SnapshotData };
+    ghost Value = { MergeData };
 
-    ghost view = { λ m. arc_value m.snapshot };
+    ghost view = { λ m. merge_of (arc_value m.parts) };
 }
 
 impl Merging {
-    /// Builds one part of what searches showed when the merge was begun. It may be called again after want of memory.
+    /// Builds one segment of what searches showed when the merge was begun. It may be called again after want of memory.
     pub fn build(&self, alloc: Global) -> Result<Merged, AllocError>
         ensures { IfOk result (λ m. m ≡ self.now) }
     {
-        self.snapshot.merged(alloc)
+        let part = made_of(alloc, &self.parts)?;
+        let parts = Arc::try_clone(&self.parts)?;
+        Ok(Merged { parts, part })
     }
 }
 
-/// A part in which all documents of some parts are live, and the numbers of these parts.
+/// The parts that a merge takes, and one part of all documents that were live in them; none where it takes none.
 #[derive(Drop)]
 pub struct Merged {
-    pub(crate) mapping: Arc<Mapping, Global>,
-    pub(crate) bases: Vec<u64>,
-    pub(crate) part: Part,
+    pub(crate) parts: Arc<PartList, Global>,
+    pub(crate) part: Option<Part>,
 }
 
 impl Model for Merged {
-    ghost use Rattle.std.specs.Prelude.{◌≡◌};
     ghost use Rattle.std.specs.Arc.{arc_value};
-    ghost use Rattle.engine.specs.Answer.{SnapshotData};
+    ghost use Rattle.engine.specs.Parts.{merge_of, IsMade};
+    ghost use Rattle.engine.specs.Published.{MergeData};
 
-    ghost Value = { SnapshotData };
+    ghost Value = { MergeData };
 
-    ghost view = { λ m. m.part };
+    ghost view = { λ m. merge_of (arc_value m.parts) };
 
-    ghost invariant = { λ m. m.part.mapping ≡ arc_value m.mapping };
+    ghost invariant = { λ m. IsMade (arc_value m.parts) m.part };
 }
 
-/// The numbers of parts.
-pub(crate) fn numbers_of(alloc: Global, parts: &[Part]) -> Result<Vec<u64>, AllocError> {
-    let mut numbers = Vec::new(alloc);
-    for part in parts {
-        numbers.push(part.number())?;
-    }
-    Ok(numbers)
-}
-
-/// A number above those of the parts.
-pub(crate) fn next_number(parts: &[Part]) -> u64 {
-    let mut next = 0u64;
-    for part in parts {
-        next = next.max(part.number().saturating_add(1));
-    }
-    next
-}
-
-/// How many parts stand before those of these numbers, where these are the last.
-pub(crate) fn newer_than(parts: &[Part], bases: &[u64]) -> Option<usize>
-    ensures { IfSome result (λ n. n < length parts.now) }
+/// One part of the documents of parts, where a merge takes them.
+fn made_of(alloc: Global, parts: &PartList) -> Result<Option<Part>, AllocError>
+    ensures { IfOk result (IsMade parts.now) }
 {
-    if bases.is_empty() || parts.len() < bases.len() {
-        return None;
+    if !are_taken(parts.parts()) {
+        return Ok(None);
     }
-    let newer = parts.len() - bases.len();
-    for (base, part) in bases.iter().zip(&parts[newer..]) {
-        if part.number() != *base {
-            return None;
+    let part = parts.joined(alloc)?;
+    Ok(Some(part))
+}
+
+/// Whether a merge takes these parts.
+fn are_taken(parts: &[Part]) -> bool
+    ensures { result ≡ are_taken (all_published parts.now) }
+{
+    2 <= parts.len() && are_below_greatest(parts)
+}
+
+/// Whether none bears the greatest number.
+fn are_below_greatest(parts: &[Part]) -> bool
+    ensures { result ≡ list_all (λ s. nat_lt s.number greatest) (all_published parts.now) }
+{
+    for part in parts {
+        if part.number() == u64::MAX {
+            return false;
         }
     }
-    Some(newer)
+    true
 }
 
-/// The part without the documents that the others don't show, if it then shows what they show.
-pub(crate) fn showing(
-    alloc: Global,
-    part: &Part,
-    others: &[Part],
-) -> Result<Option<Part>, AllocError>
-    requires { AllInOrder (documents_of_parts others.now) }
-    ensures { IfOk result (λ o. IfSome o (λ p. p ≡ record part.now { documents = woven (documents_of_parts others.now) })) }
+/// Whether each of some parts is among all.
+pub(crate) fn are_among(all: &[Part], some: &[Part]) -> bool
+    ensures yes { result ≡ true → AreAmong (all_published all.now) (all_published some.now) }
+    ensures no { result ≡ false → AreAmong (all_published all.now) (all_published some.now) → ⊥ }
 {
-    let live = entries_of_parts(alloc, others)?;
+    for part in some {
+        if !is_among(all, part) {
+            return false;
+        }
+    }
+    true
+}
+
+/// Whether a part is among all, whichever of its documents are live there.
+fn is_among(all: &[Part], part: &Part) -> bool
+    ensures yes { result ≡ true → Contains (all_published all.now) (published_of part.now) }
+    ensures no { result ≡ false → Contains (all_published all.now) (published_of part.now) → ⊥ }
+{
+    for other in all {
+        if other.is_as(part) {
+            return true;
+        }
+    }
+    false
+}
+
+/// Parts in two halves.
+#[derive(Drop)]
+pub(crate) struct Halves {
+    pub(crate) stay: Vec<Part>,
+    pub(crate) go: Vec<Part>,
+}
+
+/// Parts in two halves: those that were taken go, the others stay.
+pub(crate) fn split(alloc: Global, parts: &[Part], taken: &[Part]) -> Result<Halves, AllocError>
+    ensures { IfOk result (λ h. IsSplit (all_published taken.now) parts.now h.stay.items h.go.items) }
+{
+    let mut stay = Vec::new(alloc);
+    let mut go = Vec::new(alloc);
+    for part in parts {
+        let copy = part.copy(alloc)?;
+        if is_among(taken, part) {
+            go.push(copy)?;
+        } else {
+            stay.push(copy)?;
+        }
+    }
+    Ok(Halves { stay, go })
+}
+
+/// A part of this number that shows what some parts show: one that was made, without what isn't live any more, where that can be, else a new one.
+pub(crate) fn part_showing(
+    alloc: Global,
+    mapping: &Arc<Mapping, Global>,
+    number: u64,
+    made: &Part,
+    parts: &[Part],
+) -> Result<Part, AllocError>
+    requires { AllInOrder (documents_of_parts parts.now) }
+    ensures mapping { IfOk result (λ p. p.mapping ≡ arc_value mapping.now) }
+    ensures documents { IfOk result (λ p. p.documents ≡ woven (documents_of_parts parts.now)) }
+    ensures number { IfOk result (λ p. p.number ≡ number) }
+{
+    let live = entries_of_parts(alloc, parts)?;
+    if made.is_under(mapping) {
+        if let Some(part) = showing(alloc, made, &live)? {
+            return Ok(part.numbered(number));
+        }
+    }
+    let part = Part::of(alloc, mapping, number, &live)?;
+    Ok(part)
+}
+
+/// The part without the documents that aren't among the live ones, if it then has just these.
+fn showing(alloc: Global, part: &Part, live: &[Entry<'_>]) -> Result<Option<Part>, AllocError>
+    ensures { IfOk result (λ o. IfSome o (λ p. p ≡ record part.now { documents = map entry_view live.entry.now })) }
+{
     let all = part.entries(alloc)?;
-    let dead = ids_beside(alloc, &all, &live)?;
+    let dead = ids_beside(alloc, &all, live)?;
     let left = part.without(alloc, &dead)?;
-    if shows(alloc, &left, &live)? {
+    if shows(alloc, &left, live)? {
         Ok(Some(left))
     } else {
         Ok(None)

@@ -2,7 +2,7 @@
 
 use crate::records::{delete_of, index};
 use doc::Mapping;
-use engine::{Engine, Merged};
+use engine::{Engine, Merged, SnapshotChange};
 use query::SearchBody;
 use serde_json::Value;
 use std::alloc::{AllocError, Global};
@@ -39,7 +39,7 @@ fn empty(alloc: Global) -> Result<Engine, Fail> {
     Ok(Engine::open(alloc, mapping, Vec::new(alloc))?)
 }
 
-/// Parts of 40 documents and of 12, which neither a delete nor one write more puts together.
+/// Segments of 40 documents and of 12, beside the one that an engine opens with.
 fn write_two_parts(alloc: Global, engine: &mut Engine) -> Result<(), Fail> {
     write_all(alloc, engine, 10, 50)?;
     write_all(alloc, engine, 50, 62)
@@ -98,6 +98,13 @@ fn is_merged_twice(alloc: Global, engine: &mut Engine) -> Result<bool, Fail> {
     swap(alloc, engine, late, first)
 }
 
+/// Has searches show what was written, with small segments in one.
+fn show_joined(alloc: Global, engine: &mut Engine) -> Result<(), Fail> {
+    let staged = engine.stage(alloc, SnapshotChange::JoinedRefresh)?;
+    engine.put(staged);
+    Ok(())
+}
+
 /// Opens an engine again with one document.
 fn reopen(alloc: Global, engine: &mut Engine) -> Result<(), Fail> {
     let record = index(alloc, 10, "d10")?;
@@ -154,6 +161,47 @@ fn a_merge_of_what_a_restart_left_is_refused(rt: HostRuntime) -> Result<(), Fail
     let alloc = rt.alloc();
     let mut engine = empty(alloc)?;
     let is_so = is_refused(alloc, &mut engine);
+    drop(engine);
+    assert!(rt; is_so?);
+    Ok(())
+}
+
+/// Whether a merge takes nothing where there is one segment, and what it took is put in place at any time.
+fn is_of_none(alloc: Global, engine: &mut Engine) -> Result<bool, Fail> {
+    reopen(alloc, engine)?;
+    let merged = engine.begin_merge()?.build(alloc)?;
+    let written = write_all(alloc, engine, 11, 13);
+    Ok(swap(alloc, engine, merged, written)? && finds(alloc, engine, 3, 2, "d12")?)
+}
+
+#[test]
+fn a_merge_of_one_segment_takes_none(rt: HostRuntime) -> Result<(), Fail> {
+    let alloc = rt.alloc();
+    let mut engine = empty(alloc)?;
+    let is_so = is_of_none(alloc, &mut engine);
+    drop(engine);
+    assert!(rt; is_so?);
+    Ok(())
+}
+
+/// Whether searches find each of 30 documents that were shown one by one, each with small segments in one, and one more write beside a delete.
+fn are_joined(alloc: Global, engine: &mut Engine) -> Result<bool, Fail> {
+    for seq in 10..40 {
+        write(alloc, engine, seq)?;
+        show_joined(alloc, engine)?;
+    }
+    let number = engine.next_number();
+    let record = delete_of(alloc, 40, "d11")?;
+    let _taken = engine.apply(alloc, &record)?;
+    show_joined(alloc, engine)?;
+    Ok(number == 31 && finds(alloc, engine, 29, 1, "d12")?)
+}
+
+#[test]
+fn small_segments_go_into_one(rt: HostRuntime) -> Result<(), Fail> {
+    let alloc = rt.alloc();
+    let mut engine = empty(alloc)?;
+    let is_so = are_joined(alloc, &mut engine);
     drop(engine);
     assert!(rt; is_so?);
     Ok(())

@@ -46,7 +46,10 @@ impl<D: LogDevice> Copy<D> {
             Ok(Prepared::Kept(frame, planned)) => {
                 self.restart_with(alloc, records, frame, planned)
             }
-            Ok(_) => self.restart(alloc),
+            Ok(prepared) => {
+                drop(prepared);
+                self.restart(alloc)
+            }
             Err(CopyFault::NoMemory) => Err(AllocError),
             Err(_) => self.restart(alloc),
         }

@@ -1,10 +1,12 @@
-use Rattle.std.proofs.Common.{◌∙◌, ap, map}
+use Rattle.std.proofs.Common.{◌≡◌, ◌≤◌, ◌∙◌, ap, sym, subst, map, List}
 use Rattle.std.specs.Arc.{arc_value}
 use Rattle.op.specs.Documents.{Documents, documents}
 use Rattle.op.specs.Records.{operations, shown}
 use Rattle.engine.specs.Answer.{SnapshotData}
-use Rattle.engine.specs.Contents.{Contents}
+use Rattle.engine.specs.Contents.{EngineData, ShowingData}
 use Rattle.engine.specs.Entry.{entry_view}
+use Rattle.engine.specs.Published.{Published, AreAmong}
+use Rattle.engine.proofs.PublishedLaws.{AreNumbered, old-numbered, old-among, fronted-numbered, fronted-among}
 use Rattle.engine.proofs.RefreshLaws.{refreshed, only_among}
 use Rattle.engine.proofs.engine.Engine.refreshed.Goals as goal
 
@@ -12,19 +14,47 @@ use Rattle.engine.proofs.engine.Engine.refreshed.Goals as goal
 pub with-requires-clause-only : goal.with-requires-clause-only
 with-requires-clause-only c =
     let ids = c.in-Some.ids.items in
-    rw (c.deref-4.ensures.value, c.deref-5.ensures.value)
-    (only_among (operations c.self.inside.history) ids (map entry_view c.in_ok-entries.entries.items) (rw c.deref-2.ensures.value at c.in_ok-entries.ensures.found))
+    rw (c.deref-2.ensures.value, c.deref-3.ensures.value)
+    (only_among (operations c.self.inside.history) ids (map entry_view c.in_ok-entries.entries.items) (rw c.deref.ensures.value at c.in_ok-entries.ensures.found))
 
 -- with the others as they were they are the documents of all records
-pub returns : goal.returns
-returns c =
+pub returns-clause-snapshot : goal.returns-clause-snapshot
+returns-clause-snapshot c =
     let inside = c.self.inside in
     let ids = c.in-Some.ids.items in
     let es = map entry_view c.in_ok-entries.entries.items in
-    let at = rw c.deref-2.ensures.value at c.in_ok-entries.ensures.found in
-    let others = rw c.in-Some.is at c.in_ok-ids.ensures in
+    let at = rw c.deref.ensures.value at c.in_ok-entries.ensures.found in
+    let others = rw c.in-Some.is at c.in_ok-ids.ensures.others in
     let all = refreshed (operations inside.history) (shown inside.history inside.point) ids es c.in_ok-entries.ensures.sorted at others in
-    c.in_ok-new.ensures.ok
-    ∙ (rw (c.deref-3.ensures, c.deref-4.ensures.value, c.deref-5.ensures.value, c.self.invariant.same) at c.in_ok-snapshot.ensures)
+    (rw (c.deref-2.ensures.value, c.deref-3.ensures.value, c.self.invariant.same) at c.in_ok-showing-3.ensures.snapshot)
     ∙ ap (λ (ds : Documents). let s : SnapshotData = record { mapping = arc_value inside.mapping; documents = ds } in s) all
-    ∙ ap (λ (e : Contents). let s : SnapshotData = record { mapping = e.mapping; documents = documents (operations e.records) } in s) c.self.view_is
+    ∙ ap (λ (e : EngineData). let s : SnapshotData = record { mapping = e.mapping; documents = documents (operations e.records) } in s) c.self.view_is
+
+-- where nothing came all is as it was
+pub returns-then-len-self-clause-numbers : goal.returns-then-len-self-clause-numbers
+returns-then-len-self-clause-numbers c =
+    let e = c.args.self.now in
+    let same : c.in_ok-showing.showing.published ≡ e.published = ap (λ (s : ShowingData). s.published) c.in_ok-showing.ensures ∙ ap (λ (e : EngineData). e.published) c.self.view_is in
+    subst (λ (ss : List Published). AreNumbered e.published e.next ss) (sym same) (old-numbered e.published e.next)
+
+pub returns-then-len-self-clause-kept : goal.returns-then-len-self-clause-kept
+returns-then-len-self-clause-kept c =
+    let e = c.args.self.now in
+    let same : c.in_ok-showing.showing.published ≡ e.published = ap (λ (s : ShowingData). s.published) c.in_ok-showing.ensures ∙ ap (λ (e : EngineData). e.published) c.self.view_is in
+    λ none ops. subst (λ (ss : List Published). AreAmong ss e.published) (sym same) (old-among e.published)
+
+-- segments that come bear the next number
+pub returns-clause-numbers : goal.returns-clause-numbers
+returns-clause-numbers c =
+    let before = c.self.inside.showing in
+    subst (λ (e : EngineData). AreNumbered e.published e.next c.in_ok-showing-3.showing.published) c.self.view_is
+    (fronted-numbered c.args.joins before.published c.in_ok-showing-3.showing.published before.next c.in_ok-showing-3.ensures.published)
+
+pub returns-clause-rises : goal.returns-clause-rises
+returns-clause-rises c = subst (λ (e : EngineData). e.next ≤ c.in_ok-showing-3.showing.next) c.self.view_is c.in_ok-showing-3.ensures.rises
+
+pub returns-clause-kept : goal.returns-clause-kept
+returns-clause-kept c =
+    let before = c.self.inside.showing in
+    λ none ops. subst (λ (e : EngineData). AreAmong c.in_ok-showing-3.showing.published e.published) c.self.view_is
+    (fronted-among c.args.joins before.published c.in_ok-showing-3.showing.published before.next c.in_ok-showing-3.ensures.published none)

@@ -16,8 +16,8 @@ loop-kept-preserved c =
     (subst (λ (xs : List Record). i < length xs) rest c.loop-kept-test.true) (subst (λ (xs : List Record). r ≡ get_or xs i r) rest c.kept-item.is) c.in-Op.is
     c.in_ok-push_id-in-Op.ensures c.loop-kept.invariant
 
-pub returns : goal.returns
-returns c =
+pub returns-clause-others : goal.returns-clause-others
+returns-clause-others c =
     let rs = c.args.self.now in
     let i = c.loop-kept.kept-index in
     let same : c.deref.result.now ≡ rs = c.deref.ensures.value ∙ c.self.view_is in

@@ -1,9 +1,9 @@
 use Rattle.std.proofs.Common.{◌∙◌, ap}
 use Rattle.std.specs.Arc.{arc_value}
-use Rattle.engine.specs.Answer.{SnapshotData}
 use Rattle.engine.specs.Entry.{entry_view}
 use Rattle.engine.proofs.ShareLaws.{live-within, live-all}
 use Rattle.engine.proofs.part.Part.entries.Goals as goal
+use Rattle.engine.specs.Parts.{PartData}
 
 pub entries_at-requires : goal.entries_at-requires
 entries_at-requires c =
@@ -16,4 +16,4 @@ returns c =
     let docs = (arc_value c.self.inside.block).documents in
     live-all entry_view docs c.self.inside.live c.self.invariant.whole c.in_ok-entries.entries.items
     (rw (c.deref-3.ensures.value, c.in_ok-live.ensures, c.deref-2.ensures) at c.in_ok-entries.ensures)
-    ∙ ap (λ (s : SnapshotData). s.documents) c.self.view_is
+    ∙ ap (λ (s : PartData). s.documents) c.self.view_is

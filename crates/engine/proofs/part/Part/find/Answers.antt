@@ -2,10 +2,11 @@ use Rattle.std.proofs.Common.{◌<◌, ◌+◌, ◌∙◌, ap, arith, drop, leng
 use Rattle.std.proofs.lemmas.List.Elements.{All-drop, All-take}
 use Rattle.std.specs.Arc.{arc_value}
 use Rattle.query.specs.View.{query_view}
-use Rattle.engine.specs.Answer.{SnapshotData, is_found}
+use Rattle.engine.specs.Answer.{is_found}
 use Rattle.engine.specs.Entry.{entry_view}
 use Rattle.engine.proofs.ShareLaws.{share-total, share-few, share-within, share-page}
 use Rattle.engine.proofs.part.Part.find.Goals as goal
+use Rattle.engine.specs.Parts.{PartData}
 
 -- the marks are those of the block
 pub find_places-requires : goal.find_places-requires
@@ -27,7 +28,7 @@ returns-clause-total c =
     let found = rw c.deref-2.ensures at c.in_ok-found.ensures.total in
     found
     ∙ share-total (is_found block.mapping q) block.documents c.self.inside.live c.self.invariant.whole
-    ∙ ap (λ (s : SnapshotData). length (filter (is_found s.mapping q) s.documents)) c.self.view_is
+    ∙ ap (λ (s : PartData). length (filter (is_found s.mapping q) s.documents)) c.self.view_is
 
 pub returns-clause-few : goal.returns-clause-few
 returns-clause-few c =
@@ -44,4 +45,4 @@ returns-clause-first c =
     let found = rw c.deref-2.ensures at c.in_ok-found.ensures.first in
     share-page (is_found block.mapping q) block.documents c.self.inside.live c.self.invariant.whole entry_view c.args.from c.args.size c.in_ok-first.first.items
     (rw (c.behind.ensures, c.deref-4.ensures.value, c.deref-3.ensures, found) at c.in_ok-first.ensures)
-    ∙ ap (λ (s : SnapshotData). take c.args.size (drop c.args.from (filter (is_found s.mapping q) s.documents))) c.self.view_is
+    ∙ ap (λ (s : PartData). take c.args.size (drop c.args.from (filter (is_found s.mapping q) s.documents))) c.self.view_is

@@ -3,11 +3,12 @@ use Rattle.std.proofs.lemmas.List.Elements.{All-take}
 use Rattle.std.specs.Arc.{arc_value}
 use Rattle.query.specs.View.{query_view}
 use denote.Ref.{Bor}
-use Rattle.engine.specs.Answer.{SnapshotData, is_found}
+use Rattle.engine.specs.Answer.{is_found}
 use Rattle.engine.specs.Shown.{shown_view}
 use Rattle.engine.specs.declared.block.Shown.{Shown}
 use Rattle.engine.proofs.ShareLaws.{share-total, share-few, share-within, share-first}
 use Rattle.engine.proofs.part.Part.hits.Goals as goal
+use Rattle.engine.specs.Parts.{PartData}
 
 -- the marks are those of the block
 pub find_places-requires : goal.find_places-requires
@@ -29,7 +30,7 @@ returns-clause-total c =
     let found = rw c.deref-2.ensures at c.in_ok-found.ensures.total in
     found
     ∙ share-total (is_found block.mapping q) block.documents c.self.inside.live c.self.invariant.whole
-    ∙ ap (λ (s : SnapshotData). length (filter (is_found s.mapping q) s.documents)) c.self.view_is
+    ∙ ap (λ (s : PartData). length (filter (is_found s.mapping q) s.documents)) c.self.view_is
 
 pub returns-clause-few : goal.returns-clause-few
 returns-clause-few c =
@@ -46,4 +47,4 @@ returns-clause-first c =
     let found = rw c.deref-2.ensures at c.in_ok-found.ensures.first in
     share-first (is_found block.mapping q) block.documents c.self.inside.live c.self.invariant.whole (λ (r : Bor Shown). shown_view r.now) c.args.wanted c.in_ok-first.first.items
     (rw (c.deref-4.ensures.value, c.deref-3.ensures, found) at c.in_ok-first.ensures)
-    ∙ ap (λ (s : SnapshotData). take c.args.wanted (filter (is_found s.mapping q) s.documents)) c.self.view_is
+    ∙ ap (λ (s : PartData). take c.args.wanted (filter (is_found s.mapping q) s.documents)) c.self.view_is

@@ -1,5 +1,7 @@
 use Rattle.std.proofs.Common.{◌∙◌, ap, true}
 use Rattle.std.specs.Prelude.{replicate}
+use Rattle.engine.specs.Answer.{SnapshotData}
+use Rattle.engine.specs.Parts.{PartData}
 use Rattle.engine.proofs.ChosenLaws.{chosen-all}
 use Rattle.engine.proofs.part.Part.of.Goals as goal
 
@@ -7,4 +9,5 @@ use Rattle.engine.proofs.part.Part.of.Goals as goal
 pub returns : goal.returns
 returns c =
     let all = c.in_ok-live.ensures ∙ ap (λ n. replicate n true) c.len.ensures.is in
-    rw (c.in_ok-block-2.ensures.ok, all, chosen-all c.in_ok-block.block.documents) c.in_ok-block.ensures
+    rw (c.in_ok-block-2.ensures.ok, all, chosen-all c.in_ok-block.block.documents)
+    (ap (λ (b : SnapshotData). let p : PartData = record { mapping = b.mapping; documents = b.documents; number = c.args.number; built = b.documents } in p) c.in_ok-block.ensures)

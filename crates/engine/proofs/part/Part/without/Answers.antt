@@ -3,8 +3,7 @@ use Rattle.std.specs.Prelude.{replicate}
 use Rattle.std.specs.Arc.{arc_value}
 use Rattle.std.proofs.lemmas.List.{length-map}
 use Rattle.marks.specs.Lists.{zip_with}
-use Rattle.engine.specs.Answer.{SnapshotData}
-use Rattle.engine.specs.Parts.{is_among, without}
+use Rattle.engine.specs.Parts.{PartData, is_among, without}
 use Rattle.engine.proofs.PartLaws.{Item}
 use Rattle.engine.proofs.ShareLaws.{none-among, left-long, left-chosen, united-long, counted-full}
 use Rattle.engine.proofs.part.Part.without.Goals as goal
@@ -60,4 +59,4 @@ returns c =
     let united = c.unite.ensures ∙ ap (λ (bs : List Bool). zip_with (λ (a b : Bool). a || b) bs live) c.in_ok-live.ensures in
     let marks = c.subtract.ensures ∙ ap (λ (bs : List Bool). zip_with (λ (a b : Bool). a && not b) bs c.mark_ids.new.marks) united ∙ ap (λ (bs : List Bool). zip_with (λ (a b : Bool). a && not b) (zip_with (λ (a b : Bool). a || b) (replicate c.len-len.result false) live) bs) dead in
     rw (c.in_ok-block.ensures, marks, left-chosen c.args.ids.now docs live c.self.invariant.whole c.len-len.result len)
-    (ap (λ (s : SnapshotData). let t : SnapshotData = record { mapping = s.mapping; documents = without c.args.ids.now s.documents } in t) c.self.view_is)
+    (ap (λ (s : PartData). let t : PartData = record s { documents = without c.args.ids.now s.documents } in t) c.self.view_is)

@@ -15,9 +15,9 @@ returns c =
     let items = c.in_ok-share.share.first.items in
     let all = found s q in
     let total : c.in_ok-share.share.total ≡ length all =
-    (rw (c.deref.ensures, c.deref-2.ensures.value) at c.in_ok-share.ensures.total) ∙ ap (λ (v : SnapshotData). length (found v q)) c.self.view_is in
+    (rw c.deref.ensures at c.in_ok-share.ensures.total) ∙ ap (λ (v : SnapshotData). length (found v q)) c.self.view_is in
     let first : map entry_view items ≡ on_page page all =
-    (rw (c.deref.ensures, c.deref-2.ensures.value, c.from-from.ensures.same, c.size-size.ensures.same) at c.in_ok-share.ensures.first) ∙ ap (λ (v : SnapshotData). on_page page (found v q)) c.self.view_is in
+    (rw (c.deref.ensures, c.from-from.ensures.same, c.size-size.ensures.same) at c.in_ok-share.ensures.first) ∙ ap (λ (v : SnapshotData). on_page page (found v q)) c.self.view_is in
     let hits : map hit_view c.in_ok-hits.hits.items ≡ map hit (on_page page all) =
-    c.in_ok-hits.ensures ∙ ap (λ (ds : Documents). map hit ds) (ap (map entry_view) c.deref-3.ensures.value ∙ first) in
+    c.in_ok-hits.ensures ∙ ap (λ (ds : Documents). map hit ds) (ap (map entry_view) c.deref-2.ensures.value ∙ first) in
     rw (total, hits) refl

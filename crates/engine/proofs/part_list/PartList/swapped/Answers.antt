@@ -1,0 +1,63 @@
+use Rattle.std.proofs.Common.{◌<◌, ◌∙◌, ◌++◌, ◌∷◌, [], refl, ap, sym, subst, arith, length, List}
+use Rattle.std.specs.Arc.{arc_value}
+use Rattle.engine.specs.Parts.{PartData, PartListData, all_published}
+use Rattle.engine.specs.Published.{AreAmong, IsReplaced}
+use Rattle.engine.proofs.SwapLaws.{split-order, replaced-parts, replaced-woven, replaced}
+use Rattle.engine.proofs.part_list.PartList.swapped.Goals as goal
+
+-- the parts that go into the merged one are in order
+pub part_showing-requires : goal.part_showing-requires
+part_showing-requires c =
+    let ps = c.self.inside.parts.items in
+    let stay = c.in_ok-halves.halves.stay.items in
+    let go = c.in_ok-halves.halves.go.items in
+    let split = rw c.deref-2.ensures.value at c.in_ok-halves.ensures in
+    rw c.deref-3.ensures.value (split-order (all_published c.args.taken.now) ps stay go split c.self.invariant.apart.sorted).1
+
+-- the merged part stands behind the others
+pub invariant_of-result : goal.invariant_of-result
+invariant_of-result c =
+    let ps = c.self.inside.parts.items in
+    let stay = c.in_ok-halves.halves.stay.items in
+    let go = c.in_ok-halves.halves.go.items in
+    let split = rw c.deref-2.ensures.value at c.in_ok-halves.ensures in
+    let shows = rw c.deref-3.ensures.value at c.in_ok-part.ensures.documents in
+    let fits : length stay < 4294967295 = omega (arith, c.len.ensures, c.if-len-ge-MOST_PARTS.false) in
+    rw (c.in_ok-mapping.ensures, c.in_ok-push.ensures.items)
+    (replaced-parts (arc_value c.self.inside.mapping) (all_published c.args.taken.now) ps stay go c.in_ok-part.part split c.self.invariant c.in_ok-part.ensures.mapping shows fits)
+
+-- all show what they showed
+pub returns-clause-documents : goal.returns-clause-documents
+returns-clause-documents c =
+    let ps = c.self.inside.parts.items in
+    let stay = c.in_ok-halves.halves.stay.items in
+    let go = c.in_ok-halves.halves.go.items in
+    let split = rw c.deref-2.ensures.value at c.in_ok-halves.ensures in
+    let shows = rw c.deref-3.ensures.value at c.in_ok-part.ensures.documents in
+    rw c.in_ok-push.ensures.items
+    (replaced-woven (arc_value c.self.inside.mapping) (all_published c.args.taken.now) ps stay go c.in_ok-part.part split c.self.invariant c.in_ok-part.ensures.mapping shows
+    ∙ ap (λ (l : PartListData). l.documents) c.self.view_is)
+
+pub returns-clause-there : goal.returns-clause-there
+returns-clause-there c =
+    let taken = all_published c.args.taken.now in
+    subst (λ (l : PartListData). AreAmong l.published taken) c.self.view_is
+    (subst (λ (ps : List PartData). AreAmong (all_published ps) taken) c.deref.ensures.value (c.if-not-are_among.ensures.yes refl))
+
+pub returns-clause-swapped : goal.returns-clause-swapped
+returns-clause-swapped c =
+    let taken = all_published c.args.taken.now in
+    let ps = c.self.inside.parts.items in
+    let stay = c.in_ok-halves.halves.stay.items in
+    let go = c.in_ok-halves.halves.go.items in
+    let split = rw c.deref-2.ensures.value at c.in_ok-halves.ensures in
+    let shows = rw c.deref-3.ensures.value at c.in_ok-part.ensures.documents in
+    rw c.in_ok-push.ensures.items
+    (subst (λ (l : PartListData). IsReplaced taken l.published (all_published (stay ++ c.in_ok-part.part ∷ [])) c.args.number) c.self.view_is
+    (replaced (arc_value c.self.inside.mapping) taken ps stay go c.in_ok-part.part split c.self.invariant c.in_ok-part.ensures.mapping shows c.args.number c.in_ok-part.ensures.number))
+
+pub returns-then-not-are_among-clause-gone : goal.returns-then-not-are_among-clause-gone
+returns-then-not-are_among-clause-gone c =
+    let taken = all_published c.args.taken.now in
+    λ none among. c.if-not-are_among.ensures.no refl
+    (subst (λ (ps : List PartData). AreAmong (all_published ps) taken) (sym c.deref.ensures.value) (subst (λ (l : PartListData). AreAmong l.published taken) (sym c.self.view_is) among))

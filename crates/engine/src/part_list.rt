@@ -1,0 +1,356 @@
+//! What searches look through.
+ghost use Rattle.std.specs.Prelude.{◌≡◌, ◌<◌, ◌≤◌, ◌+◌, ◌^◌, true, false, None, All, map, take, drop, filter, length, IfOk, IfSome};
+ghost use Rattle.std.specs.Arc.{arc_value};
+ghost use Rattle.std.specs.FinMap.Entries.{is_sorted};
+ghost use Rattle.doc.specs.Id.{Id, id_cmp};
+ghost use Rattle.query.specs.View.{query_view};
+ghost use Rattle.op.specs.Documents.{documents};
+ghost use Rattle.engine.specs.Answer.{is_found};
+ghost use Rattle.engine.specs.Entry.{entry_view};
+ghost use Rattle.engine.specs.Parts.{all_published, documents_of_parts, has_id, is_among, merged, without, woven, AllInOrder, AreParts};
+ghost use Rattle.engine.specs.Published.{AreAmong, IsFronted, IsReplaced};
+ghost use Rattle.engine.specs.Before.{first_of_each};
+ghost use Rattle.engine.specs.Shown.{seen_all};
+
+use crate::block::Shown;
+use crate::documents::{Entry, documents_of};
+use crate::merging::{merge, merge_owned};
+use crate::paging::{behind, find_pivot, page_behind};
+use crate::part::{Part, Share};
+use crate::swapping::{Halves, are_among, part_showing, split};
+use doc::{DocId, Mapping};
+use op::Op;
+use query::Query;
+use std::alloc::{AllocError, Global};
+use std::marker::Model;
+use std::sync::Arc;
+
+/// So many parts stay side by side, whatever their sizes.
+const FEW_PARTS: usize = 8;
+
+/// There are fewer parts.
+const MOST_PARTS: usize = 4_294_967_295;
+
+/// Where no more documents are passed over, merging their entries is soon done.
+const FEW_PASSED_OVER: usize = 128;
+
+/// What parts have for a query: how many documents in all, and where the first of each stand.
+#[derive(Drop)]
+struct AllHits<'a> {
+    total: u64,
+    lists: Vec<Vec<&'a Shown>>,
+}
+
+/// Parts, the newest first, in which no document stands twice. It never changes.
+#[derive(Drop)]
+pub(crate) struct PartList {
+    mapping: Arc<Mapping, Global>,
+    parts: Vec<Part>,
+}
+
+impl Model for PartList {
+    ghost use Rattle.std.specs.Arc.{arc_value};
+    ghost use Rattle.engine.specs.Parts.{all_published, documents_of_parts, woven, AreParts, PartListData};
+
+    ghost Value = { PartListData };
+
+    ghost view = { λ l. record {
+      mapping = arc_value l.mapping;
+      documents = woven (documents_of_parts l.parts.items);
+      published = all_published l.parts.items;
+    } };
+
+    ghost invariant = { λ l. AreParts (arc_value l.mapping) l.parts.items };
+}
+
+impl PartList {
+    ghost use Rattle.std.specs.Prelude.{◌∷◌, [], false};
+
+    /// The documents that operations in ascending order make, in one part of this number.
+    pub(crate) fn of(
+        alloc: Global,
+        mapping: Arc<Mapping, Global>,
+        number: u64,
+        operations: &[Op],
+    ) -> Result<PartList, AllocError>
+        ensures { IfOk result (λ l. l ≡ record {
+          mapping = arc_value mapping;
+          documents = documents operations.now;
+          published = (record { number = number; mapping = arc_value mapping; documents = documents operations.now }) ∷ [];
+        }) }
+    {
+        let entries = documents_of(alloc, operations)?;
+        let part = Part::of(alloc, &mapping, number, &entries)?;
+        let mut parts = Vec::new(alloc);
+        parts.push(part)?;
+        Ok(PartList { mapping, parts })
+    }
+
+    pub(crate) fn parts(&self) -> &[Part]
+        ensures { all_published result.now ≡ self.now.published }
+    {
+        &self.parts
+    }
+
+    /// What there is for a query: how many documents, and as many of them as the size says behind the first so many.
+    pub(crate) fn page(
+        &self,
+        alloc: Global,
+        query: &Query,
+        from: usize,
+        size: usize,
+    ) -> Result<Share<'_>, AllocError>
+        requires { from + size < 2 ^ 64 }
+        ensures total { IfOk result (λ s. s.total ≡ length (filter (is_found self.now.mapping (query_view query.now)) self.now.documents)) }
+        ensures first { IfOk result (λ s. map entry_view s.first.items ≡ take size (drop from (filter (is_found self.now.mapping (query_view query.now)) self.now.documents))) }
+    {
+        page_of(alloc, &self.mapping, &self.parts, query, from, size)
+    }
+
+    /// What is shown where some ids have these documents now, and the others what they had. New documents stand in a part of this number.
+    /// Where it joins, this part has the documents of the newest others, too, as they become many; else each other stays.
+    pub(crate) fn with(
+        &self,
+        alloc: Global,
+        number: u64,
+        ids: &[DocId],
+        entries: &[Entry<'_>],
+        joins: bool,
+    ) -> Result<PartList, AllocError>
+        requires sorted { is_sorted id_cmp (map entry_view entries.now) ≡ true }
+        requires only { (id : Id) → has_id id (map entry_view entries.now) ≡ true → is_among ids.now id ≡ true }
+        ensures mapping { IfOk result (λ l. l.mapping ≡ self.now.mapping) }
+        ensures documents { IfOk result (λ l. l.documents ≡ merged (map entry_view entries.entry.now) (without ids.now self.now.documents)) }
+        ensures published { IfOk result (λ l. IsFronted joins self.now.published l.published number) }
+    {
+        let mut newer = parts_without(alloc, &self.parts, ids)?;
+        if entries.is_empty() {
+            let mapping = Arc::try_clone(&self.mapping)?;
+            return Ok(PartList {
+                mapping,
+                parts: newer,
+            });
+        }
+        let taken = taken_if(joins, &newer, entries.len());
+        let mut parts = newer.split_off(taken)?;
+        if parts.len() >= MOST_PARTS {
+            return Err(AllocError);
+        }
+        let part = joined(alloc, &self.mapping, number, entries, &newer)?;
+        parts.insert(0, part)?;
+        let mapping = Arc::try_clone(&self.mapping)?;
+        Ok(PartList { mapping, parts })
+    }
+
+    /// The documents of all parts in one.
+    pub(crate) fn joined(&self, alloc: Global) -> Result<Part, AllocError>
+        ensures mapping { IfOk result (λ p. p.mapping ≡ self.now.mapping) }
+        ensures documents { IfOk result (λ p. p.documents ≡ self.now.documents) }
+    {
+        joined(alloc, &self.mapping, 0, &[], &self.parts)
+    }
+
+    /// The same with one part of this number in place of those that were taken, where these are all there. It shows what is live in them, by a
+    /// part that was made of them where that can be.
+    pub(crate) fn swapped(
+        &self,
+        alloc: Global,
+        number: u64,
+        taken: &[Part],
+        made: &Part,
+    ) -> Result<Option<PartList>, AllocError>
+        ensures mapping { IfOk result (λ o. IfSome o (λ l. l.mapping ≡ self.now.mapping)) }
+        ensures documents { IfOk result (λ o. IfSome o (λ l. l.documents ≡ self.now.documents)) }
+        ensures there { IfOk result (λ o. IfSome o (λ l. AreAmong self.now.published (all_published taken.now))) }
+        ensures swapped { IfOk result (λ o. IfSome o (λ l. IsReplaced (all_published taken.now) self.now.published l.published number)) }
+        ensures gone { IfOk result (λ o. o ≡ None → AreAmong self.now.published (all_published taken.now) → ⊥) }
+    {
+        if !are_among(&self.parts, taken) {
+            return Ok(None);
+        }
+        let halves = split(alloc, &self.parts, taken)?;
+        let Halves { mut stay, go } = halves;
+        if stay.len() >= MOST_PARTS {
+            return Err(AllocError);
+        }
+        let part = part_showing(alloc, &self.mapping, number, made, &go)?;
+        stay.push(part)?;
+        let mapping = Arc::try_clone(&self.mapping)?;
+        Ok(Some(PartList {
+            mapping,
+            parts: stay,
+        }))
+    }
+}
+
+/// What parts under the mapping have for a query: how many documents, and as many of them as the size says behind the first so many.
+/// No entry is made for most documents that are passed over.
+fn page_of<'a>(
+    alloc: Global,
+    _mapping: &Mapping,
+    parts: &'a [Part],
+    query: &Query,
+    from: usize,
+    size: usize,
+) -> Result<Share<'a>, AllocError>
+    requires are { AreParts _mapping.now parts.now }
+    requires fits { from + size < 2 ^ 64 }
+    ensures total { IfOk result (λ s. s.total ≡ length (filter (is_found _mapping.now (query_view query.now)) (woven (documents_of_parts parts.now)))) }
+    ensures first { IfOk result (λ s. map entry_view s.first.items ≡ take size (drop from (filter (is_found _mapping.now (query_view query.now)) (woven (documents_of_parts parts.now))))) }
+{
+    if parts.len() == 1 {
+        return parts[0].find(alloc, query, from, size);
+    }
+    if from < FEW_PASSED_OVER {
+        return merged_page(alloc, _mapping, parts, query, from, size);
+    }
+    let hits = hits_of_parts(alloc, _mapping, parts, query, from + size)?;
+    match find_pivot(&hits.lists, from) {
+        Some(pivot) => {
+            let first = page_behind(alloc, &hits.lists, pivot, from, size)?;
+            Ok(Share {
+                total: hits.total,
+                first,
+            })
+        }
+        None => merged_page(alloc, _mapping, parts, query, from, size),
+    }
+}
+
+/// The same by entries for all documents up to the end of the page.
+fn merged_page<'a>(
+    alloc: Global,
+    _mapping: &Mapping,
+    parts: &'a [Part],
+    query: &Query,
+    from: usize,
+    size: usize,
+) -> Result<Share<'a>, AllocError>
+    requires are { AreParts _mapping.now parts.now }
+    requires fits { from + size < 2 ^ 64 }
+    ensures total { IfOk result (λ s. s.total ≡ length (filter (is_found _mapping.now (query_view query.now)) (woven (documents_of_parts parts.now)))) }
+    ensures first { IfOk result (λ s. map entry_view s.first.items ≡ take size (drop from (filter (is_found _mapping.now (query_view query.now)) (woven (documents_of_parts parts.now))))) }
+{
+    let found = find(alloc, _mapping, parts, query, from + size)?;
+    let first = behind(found.first, from)?;
+    Ok(Share {
+        total: found.total,
+        first,
+    })
+}
+
+/// How many documents parts have for a query, and where the first of each stand, no more than wanted.
+fn hits_of_parts<'a>(
+    alloc: Global,
+    _mapping: &Mapping,
+    parts: &'a [Part],
+    query: &Query,
+    wanted: usize,
+) -> Result<AllHits<'a>, AllocError>
+    requires { AreParts _mapping.now parts.now }
+    ensures total { IfOk result (λ h. h.total ≡ length (filter (is_found _mapping.now (query_view query.now)) (woven (documents_of_parts parts.now)))) }
+    ensures lists { IfOk result (λ h. seen_all h.lists.items ≡ first_of_each wanted (is_found _mapping.now (query_view query.now)) (documents_of_parts parts.now)) }
+{
+    let mut total = 0u64;
+    let mut lists = Vec::new(alloc);
+    for part in parts {
+        let hits = part.hits(alloc, query, wanted)?;
+        lists.push(hits.first)?;
+        total += hits.total;
+    }
+    Ok(AllHits { total, lists })
+}
+
+/// What parts under the mapping have for a query: how many documents, and the first of them, no more than wanted.
+fn find<'a>(
+    alloc: Global,
+    _mapping: &Mapping,
+    parts: &'a [Part],
+    query: &Query,
+    wanted: usize,
+) -> Result<Share<'a>, AllocError>
+    requires { AreParts _mapping.now parts.now }
+    ensures total { IfOk result (λ s. s.total ≡ length (filter (is_found _mapping.now (query_view query.now)) (woven (documents_of_parts parts.now)))) }
+    ensures first { IfOk result (λ s. map entry_view s.first.items ≡ take wanted (filter (is_found _mapping.now (query_view query.now)) (woven (documents_of_parts parts.now)))) }
+{
+    let mut total = 0u64;
+    let mut first = Vec::new(alloc);
+    for part in parts {
+        let share = part.find(alloc, query, 0, wanted)?;
+        first = merge_owned(alloc, first, share.first)?;
+        first.truncate(wanted);
+        total += share.total;
+    }
+    Ok(Share { total, first })
+}
+
+/// The parts without the documents that have one of the ids.
+fn parts_without(alloc: Global, parts: &[Part], ids: &[DocId]) -> Result<Vec<Part>, AllocError>
+    ensures mappings { IfOk result (λ v. map (λ p. p.mapping) v.items ≡ map (λ p. p.mapping) parts.now) }
+    ensures documents { IfOk result (λ v. documents_of_parts v.items ≡ map (without ids.now) (documents_of_parts parts.now)) }
+    ensures published { IfOk result (λ v. all_published v.items ≡ all_published parts.now) }
+{
+    let mut left = Vec::new(alloc);
+    for part in parts {
+        left.push(part.without(alloc, ids)?)?;
+    }
+    Ok(left)
+}
+
+/// How many of the newest parts go into a new one of so many documents, where it joins.
+fn taken_if(joins: bool, parts: &[Part], documents: usize) -> usize
+    ensures within { result ≤ length parts.now }
+    ensures none { joins ≡ false → result ≡ 0 }
+{
+    if joins { taken_in(parts, documents) } else { 0 }
+}
+
+/// The same: once there are many, each that is no larger than what stands before it. So the parts that stay grow twofold each, and a document goes
+/// into a new one no more often than the logarithm of their number says.
+fn taken_in(parts: &[Part], documents: usize) -> usize
+    ensures { result ≤ length parts.now }
+{
+    if parts.len() < FEW_PARTS {
+        return 0;
+    }
+    let mut size = documents;
+    for (at, part) in parts.iter().enumerate() {
+        if part.weight() > size {
+            return at;
+        }
+        size = size.saturating_add(part.weight());
+    }
+    parts.len()
+}
+
+/// One part of entries and of the documents of parts.
+fn joined(
+    alloc: Global,
+    mapping: &Arc<Mapping, Global>,
+    number: u64,
+    entries: &[Entry<'_>],
+    parts: &[Part],
+) -> Result<Part, AllocError>
+    requires sorted { is_sorted id_cmp (map entry_view entries.now) ≡ true }
+    requires parts { AllInOrder (documents_of_parts parts.now) }
+    ensures mapping { IfOk result (λ p. p.mapping ≡ arc_value mapping.now) }
+    ensures documents { IfOk result (λ p. p.documents ≡ merged (map entry_view entries.entry.now) (woven (documents_of_parts parts.now))) }
+    ensures number { IfOk result (λ p. p.number ≡ number) }
+{
+    let older = entries_of_parts(alloc, parts)?;
+    let all = merge(alloc, entries, &older)?;
+    Part::of(alloc, mapping, number, &all)
+}
+
+/// The documents of parts, in byte order of their ids.
+pub(crate) fn entries_of_parts(alloc: Global, parts: &[Part]) -> Result<Vec<Entry<'_>>, AllocError>
+    requires { AllInOrder (documents_of_parts parts.now) }
+    ensures { IfOk result (λ v. map entry_view v.items ≡ woven (documents_of_parts parts.now)) }
+{
+    let mut entries = Vec::new(alloc);
+    for part in parts {
+        let more = part.entries(alloc)?;
+        entries = merge(alloc, &entries, &more)?;
+    }
+    Ok(entries)
+}

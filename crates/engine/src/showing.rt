@@ -1,0 +1,169 @@
+//! What searches show, with the segments that they look through.
+ghost use Rattle.std.specs.Prelude.{◌≡◌, ◌∷◌, ◌<◌, ◌≤◌, [], true, All, None, map, IfOk, IfSome};
+ghost use Rattle.std.specs.Arc.{arc_value};
+ghost use Rattle.std.specs.FinMap.Entries.{is_sorted};
+ghost use Rattle.doc.specs.Id.{Id, id_cmp};
+ghost use Rattle.op.specs.Documents.{documents};
+ghost use Rattle.engine.specs.Entry.{entry_view};
+ghost use Rattle.engine.specs.Parts.{has_id, is_among, merged, shown_through, without, IsMade};
+ghost use Rattle.engine.specs.Published.{are_taken, next_after, taken_of, AreAmong, AreBelow, IsFronted, IsSwapped};
+
+use crate::documents::Entry;
+use crate::part::Part;
+use crate::part_list::PartList;
+use crate::snapshot::Snapshot;
+use crate::swapping::{Merged, Merging};
+use doc::{DocId, Mapping};
+use op::Op;
+use std::alloc::{AllocError, Global};
+use std::marker::Model;
+use std::sync::Arc;
+
+/// What searches show, the parts that they look through, and the number of the next part.
+#[derive(Drop)]
+pub(crate) struct Showing {
+    parts: Arc<PartList, Global>,
+    snapshot: Arc<Snapshot, Global>,
+    next: u64,
+}
+
+impl Model for Showing {
+    ghost use Rattle.std.specs.Arc.{arc_value};
+    ghost use Rattle.engine.specs.Contents.{ShowingData};
+    ghost use Rattle.engine.specs.Parts.{IsShowing};
+
+    ghost Value = { ShowingData };
+
+    ghost view = { λ s. record { snapshot = arc_value s.snapshot; published = (arc_value s.parts).published; next = s.next } };
+
+    ghost invariant = { λ s. IsShowing (arc_value s.parts) (arc_value s.snapshot) s.next };
+}
+
+impl Showing {
+    /// The documents that operations in ascending order make, in one part of this number.
+    pub(crate) fn of(
+        alloc: Global,
+        mapping: &Arc<Mapping, Global>,
+        number: u64,
+        operations: &[Op],
+    ) -> Result<Showing, AllocError>
+        ensures { IfOk result (λ s. s ≡ record {
+          snapshot = record { mapping = arc_value mapping.now; documents = documents operations.now };
+          published = (record { number = number; mapping = arc_value mapping.now; documents = documents operations.now }) ∷ [];
+          next = next_after number;
+        }) }
+    {
+        let mapping = Arc::try_clone(mapping)?;
+        let parts = PartList::of(alloc, mapping, number, operations)?;
+        shown(alloc, parts, number.saturating_add(1))
+    }
+
+    /// The same once more.
+    pub(crate) fn copy(&self) -> Result<Showing, AllocError>
+        ensures { IfOk result (λ s. s ≡ self.now) }
+    {
+        let parts = Arc::try_clone(&self.parts)?;
+        let snapshot = Arc::try_clone(&self.snapshot)?;
+        Ok(Showing {
+            parts,
+            snapshot,
+            next: self.next,
+        })
+    }
+
+    pub(crate) fn snapshot(&self) -> &Arc<Snapshot, Global>
+        ensures { arc_value result.now ≡ self.now.snapshot }
+    {
+        &self.snapshot
+    }
+
+    /// The number of the next part.
+    pub(crate) fn next(&self) -> u64
+        ensures is { result ≡ self.now.next }
+        ensures below { AreBelow self.now.next self.now.published }
+    {
+        self.next
+    }
+
+    /// What is shown where some ids have these documents now, and the others what they had. Where it joins, small parts may go into one; else
+    /// each part stays.
+    pub(crate) fn with(
+        &self,
+        alloc: Global,
+        ids: &[DocId],
+        entries: &[Entry<'_>],
+        joins: bool,
+    ) -> Result<Showing, AllocError>
+        requires sorted { is_sorted id_cmp (map entry_view entries.now) ≡ true }
+        requires only { (id : Id) → has_id id (map entry_view entries.now) ≡ true → is_among ids.now id ≡ true }
+        ensures snapshot { IfOk result (λ s. s.snapshot ≡ record self.now.snapshot { documents = merged (map entry_view entries.entry.now) (without ids.now self.now.snapshot.documents) }) }
+        ensures published { IfOk result (λ s. IsFronted joins self.now.published s.published self.now.next) }
+        ensures rises { IfOk result (λ s. self.now.next ≤ s.next) }
+    {
+        let parts = self.parts.with(alloc, self.next, ids, entries, joins)?;
+        shown(alloc, parts, self.next.saturating_add(1))
+    }
+
+    /// Begins a merge.
+    pub(crate) fn begin_merge(&self) -> Result<Merging, AllocError>
+        ensures { IfOk result (λ m. m ≡ record { taken = taken_of self.now.published; mapping = self.now.snapshot.mapping; documents = self.now.snapshot.documents }) }
+    {
+        let parts = Arc::try_clone(&self.parts)?;
+        Ok(Merging { parts })
+    }
+
+    /// The same with a merged part in place of those that it is made of, where these are all there. A merge of none leaves all as it is.
+    pub(crate) fn swapped(
+        &self,
+        alloc: Global,
+        merged: &Merged,
+    ) -> Result<Option<Showing>, AllocError>
+        ensures snapshot { IfOk result (λ o. IfSome o (λ s. s.snapshot ≡ self.now.snapshot)) }
+        ensures there { IfOk result (λ o. IfSome o (λ s. AreAmong self.now.published merged.now.taken)) }
+        ensures swapped { IfOk result (λ o. IfSome o (λ s. IsSwapped merged.now.taken self.now.published s.published self.now.next)) }
+        ensures none { merged.now.taken ≡ [] → IfOk result (λ o. IfSome o (λ s. s ≡ self.now)) }
+        ensures gone { IfOk result (λ o. o ≡ None → AreAmong self.now.published merged.now.taken → ⊥) }
+    {
+        match &merged.part {
+            Some(part) => self.swapped_by(alloc, &merged.parts, part),
+            None => Ok(Some(self.copy()?)),
+        }
+    }
+
+    /// The same for a merge of all parts of a list, of which this part was made.
+    fn swapped_by(
+        &self,
+        alloc: Global,
+        taken: &PartList,
+        made: &Part,
+    ) -> Result<Option<Showing>, AllocError>
+        requires { are_taken taken.now.published ≡ true }
+        ensures snapshot { IfOk result (λ o. IfSome o (λ s. s.snapshot ≡ self.now.snapshot)) }
+        ensures there { IfOk result (λ o. IfSome o (λ s. AreAmong self.now.published taken.now.published)) }
+        ensures swapped { IfOk result (λ o. IfSome o (λ s. IsSwapped taken.now.published self.now.published s.published self.now.next)) }
+        ensures gone { IfOk result (λ o. o ≡ None → AreAmong self.now.published taken.now.published → ⊥) }
+    {
+        match self.parts.swapped(alloc, self.next, taken.parts(), made)? {
+            Some(parts) => {
+                let showing = shown(alloc, parts, self.next.saturating_add(1))?;
+                Ok(Some(showing))
+            }
+            None => Ok(None),
+        }
+    }
+}
+
+/// What searches show through these parts.
+fn shown(alloc: Global, parts: PartList, next: u64) -> Result<Showing, AllocError>
+    requires { AreBelow next parts.published }
+    ensures { IfOk result (λ s. s ≡ record { snapshot = shown_through parts; published = parts.published; next = next }) }
+{
+    let parts = Arc::new(alloc, parts)?;
+    let snapshot = Snapshot::of(Arc::try_clone(&parts)?);
+    let snapshot = Arc::new(alloc, snapshot)?;
+    Ok(Showing {
+        parts,
+        snapshot,
+        next,
+    })
+}
