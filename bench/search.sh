@@ -2,9 +2,11 @@
 # bench/search.sh [N ..]: what indexing and searches cost the built program, in microseconds of processor time each, with N documents (10000 and 100000 by default).
 #
 # The documents are made here, the same for the same N: products of some 400 bytes with two texts, keywords, longs and a boolean, words and keywords drawn so that few are
-# common and many are rare. Of each class of queries the same 20 are asked again and again for about a second. A figure has the reading of the line and of its body and the
-# answer's ids and texts in it; what the process spent in the kernel on its pipes counts too. Beside it stands SQLite with FTS5 in memory, the total and the ten ids of the
-# page by one statement each, where python3's sqlite3 has FTS5; a dash stands where a class has no such statement.
+# common and many are rare. Of each class of queries the same 20 are asked again and again for about a second. The first figure has the reading of the line and of its body
+# and the answer's ids in it, and what the process spent in the kernel on its pipes; the second is what is left of it without what the same lines cost over an index without
+# documents: the search and its ids. Beside them stands SQLite with FTS5 in memory, the total and the ten ids of the page by one statement each, where python3's sqlite3 has
+# FTS5; a dash stands where a class has no such statement. Behind the classes stand changes with a refresh after each, a deep page over several segments, and memory; and last
+# a `match` of 16,000 words, `terms` of 65,536 values, and 1,000,000 puts.
 # INDEXD_PROGRAM=FILE measures the executable FILE in place of crates/indexd/out/indexd, which ./indexd builds first where it has to. Needs Linux and python3.
 set -euo pipefail
 
@@ -18,12 +20,15 @@ for count in "$@"; do
 done
 
 exec python3 - "$program" "$@" <<'PROGRAM'
+import itertools
 import json
 import os
 import random
+import resource
 import sqlite3
 import subprocess
 import sys
+import tempfile
 import time
 
 PROPERTIES = {"title": "text", "body": "text", "brand": "keyword", "tags": "keyword", "price": "long", "year": "long", "stock": "boolean", "note": "keyword"}
@@ -103,6 +108,15 @@ class Index:
             fields = stat.read().rsplit(")", 1)[1].split()
         return (int(fields[11]) + int(fields[12])) * 1e6 / TICKS
 
+    def memory(self):
+        """What of its memory is there, in bytes."""
+        with open(f"/proc/{self.process.pid}/statm") as sizes:
+            return int(sizes.read().split()[1]) * os.sysconf("SC_PAGE_SIZE")
+
+    def end(self):
+        self.process.stdin.close()
+        self.process.wait()
+
     def ask(self, lines, answers):
         """Hands over lines some at a time, and gives the last answer."""
         answer, per_line = b"", answers // len(lines)
@@ -150,35 +164,108 @@ def sqlite_cost(base, queries):
     return (time.process_time() - begun) * 1e6 / asked, totals
 
 
+MAPPING = b"open 1 " + json.dumps({"properties": {name: {"type": kind} for name, kind in PROPERTIES.items()}}).encode() + b"\nget 1 none\n"
+
+
+def opened(program):
+    """An index without documents."""
+    index = Index(program)
+    index.ask([MAPPING], 1)
+    return index
+
+
+def measured_with(index, empty, lines):
+    """Microseconds a line, and those without what the lines cost over an index without documents."""
+    cost = index.measured(lines)
+    return f"{cost:.1f} | {max(cost - empty.measured(lines), 0):.1f}"
+
+
+def searches(program, count):
+    corpus = Corpus(count)
+    index, empty = opened(program), opened(program)
+    begun = index.cost()
+    puts = [f"put 1 {name} {json.dumps(it)}\n".encode() for name, it in corpus.documents]
+    index.ask(puts, 2 * len(puts))
+    put, begun = (index.cost() - begun) / count, index.cost()
+    index.ask([b"refresh 1\n"], 1)
+    refresh = (index.cost() - begun) / count
+    base, inserted = sqlite_of(corpus)
+    text = sum(len(json.dumps(it)) for _, it in corpus.documents)
+    print(f"\n{count:,} documents of {text // count} bytes; microseconds\n\n| | indexd | the search alone | SQLite |\n|---|---|---|---|")
+    print(f"| put | {put:.1f} | | |\n| first refresh, a document | {refresh:.1f} | | {inserted and round(inserted, 1) or '-'} (with the put) |\n| memory, times the text | {index.memory() / text:.1f} | | |", flush=True)
+    for name, queries in corpus.queries().items():
+        lines = [b"search 1 " + json.dumps(body).encode() + b"\n" for body, _, _ in queries]
+        totals = [int(index.ask([line], 1).split()[1]) for line in lines]
+        cost, beside = measured_with(index, empty, lines), "-"
+        if base and queries[0][1]:
+            theirs, wanted = sqlite_cost(base, queries)
+            beside = f"{theirs:.1f}" + ("" if wanted == totals else " (other totals)")
+        print(f"| {name} | {cost} | {beside} |", flush=True)
+    gets = [f"get 1 {name}\n".encode() for name, _ in corpus.documents[:20]]
+    print(f"| get | {measured_with(index, empty, gets)} | |")
+    changed(index, empty, corpus)
+
+
+def changed(index, empty, corpus):
+    """Changes with a refresh after each, the first ones and many, and searches behind them."""
+    some = corpus.documents[::max(len(corpus.documents) // 1_000, 1)]
+    lines = [f"put 1 {name} {json.dumps(it)}\nrefresh 1\n".encode() for name, it in some]
+    begun = index.cost()
+    index.ask(lines[:8], 3 * 8)
+    deep = json.dumps({"query": {"match_all": {}}, "from": min(9_990, len(corpus.documents) - 10)})
+    print(f"| deep page, behind 8 changes | {measured_with(index, empty, [f'search 1 {deep}{chr(10)}'.encode()] * 20)} | |", flush=True)
+    begun = index.cost()
+    index.ask(lines, 3 * len(lines))
+    print(f"| put and refresh, 1,000 documents | {(index.cost() - begun) / len(lines):.1f} | | |")
+    print(f"| put and refresh of 20 documents, again and again | {index.measured(lines[:20], 3):.1f} | | |", flush=True)
+    all_of = [b'search 1 {"query":{"match_all":{}}}\n'] * 20
+    print(f"| match_all behind these | {measured_with(index, empty, all_of)} | |", flush=True)
+    index.end()
+    empty.end()
+
+
+def large_queries(program):
+    """A `match` of 16,000 words over one document that has them, and `terms` of 65,536 values over 80,000 keywords."""
+    text = " ".join("".join(letters) for letters in itertools.islice(itertools.product("abcdefghijklmnopqrstuvwxyz", repeat=3), 16_000))
+    index = Index(program)
+    index.ask([b'open 1 {"properties":{"t":{"type":"text"},"k":{"type":"keyword"}}}\nget 1 none\n'], 1)
+    index.ask([f'put 1 all {json.dumps({"t": text})}\n'.encode()], 2)
+    index.ask([b"refresh 1\n"], 1)
+    line = f'search 1 {json.dumps({"query": {"match": {"t": {"query": text, "operator": "and"}}}})}\n'.encode()
+    found = index.ask([line], 1).split()[:3]
+    print(f"\n`match` of {len(text.split()):,} words with `and` over one document of {len(text):,} bytes ({b' '.join(found).decode()}): {index.measured([line]) / 1_000:.1f} ms", flush=True)
+    index.ask([f'put 1 d{number} {{"k":"k{number}"}}\n'.encode() for number in range(80_000)], 160_000)
+    index.ask([b"refresh 1\n"], 1)
+    line = f'search 1 {json.dumps({"query": {"terms": {"k": [f"k{number}" for number in range(65_536)]}}})}\n'.encode()
+    found = index.ask([line], 1).split()[:2]
+    print(f"`terms` of 65,536 values over 80,000 keywords ({b' '.join(found).decode()}): {index.measured([line]) / 1_000:.1f} ms", flush=True)
+    index.end()
+
+
+def many_puts(program, count=1_000_000):
+    """Puts of small documents, read from a file."""
+    with tempfile.TemporaryDirectory() as folder:
+        parts = []
+        for lines in (count // 10, count):
+            with open(f"{folder}/{lines}", "w") as script:
+                script.write('open 1 {"properties":{"k":{"type":"keyword"},"n":{"type":"long"}}}\n')
+                script.writelines(f'put 1 d{number} {{"k":"v{number % 50}","n":{number}}}\n' for number in range(lines))
+            with open(f"{folder}/out", "wb") as out:
+                begun, before = time.monotonic(), resource.getrusage(resource.RUSAGE_CHILDREN)
+                subprocess.run([program, "replay", f"{folder}/{lines}"], stdout=out, check=True)
+                spent = resource.getrusage(resource.RUSAGE_CHILDREN)
+                parts.append((lines, time.monotonic() - begun, spent.ru_utime + spent.ru_stime - before.ru_utime - before.ru_stime, spent.ru_maxrss / 1_024))
+        (few, few_clock, few_cost, _), (all_of, clock, cost, peak) = parts
+        print(f"{all_of:,} puts: {all_of / clock:,.0f} lines a second by the clock, {cost * 1e6 / all_of:.1f} us of the processor a line; the first {few:,} {few_cost * 1e6 / few:.1f} us, "
+            f"the others {(cost - few_cost) * 1e6 / (all_of - few):.1f} us; peak memory {peak:,.0f} MiB", flush=True)
+
+
 def main(program, counts):
     print(f"{os.uname().nodename}, {os.cpu_count()} processors, load {os.getloadavg()[0]:.1f}; SQLite {sqlite3.sqlite_version}", flush=True)
     for count in counts:
-        corpus = Corpus(count)
-        index = Index(program)
-        index.ask([b'open 1 ' + json.dumps({"properties": {name: {"type": kind} for name, kind in PROPERTIES.items()}}).encode() + b"\nget 1 none\n"], 1)
-        begun = index.cost()
-        puts = [f"put 1 {name} {json.dumps(it)}\n".encode() for name, it in corpus.documents]
-        index.ask(puts, 2 * len(puts))
-        put, begun = (index.cost() - begun) / count, index.cost()
-        index.ask([b"refresh 1\n"], 1)
-        base, inserted = sqlite_of(corpus)
-        print(f"\n{count:,} documents of {sum(len(json.dumps(it)) for _, it in corpus.documents) // count} bytes; microseconds\n\n| | indexd | SQLite |\n|---|---|---|")
-        print(f"| put | {put:.1f} | |\n| first refresh, a document | {(index.cost() - begun) / count:.1f} | {inserted and round(inserted, 1) or '-'} (with the put) |", flush=True)
-        for name, queries in corpus.queries().items():
-            lines = [b"search 1 " + json.dumps(body).encode() + b"\n" for body, _, _ in queries]
-            totals = [int(index.ask([line], 1).split()[1]) for line in lines]
-            cost, beside = index.measured(lines), "-"
-            if base and queries[0][1]:
-                theirs, wanted = sqlite_cost(base, queries)
-                beside = f"{theirs:.1f}" + ("" if wanted == totals else " (other totals)")
-            print(f"| {name} | {cost:.1f} | {beside} |", flush=True)
-        print(f"| get | {index.measured([f'get 1 {name}{chr(10)}'.encode() for name, _ in corpus.documents[:20]]):.1f} | |")
-        changes = [f"put 1 {name} {json.dumps(it)}\nrefresh 1\n".encode() for name, it in corpus.documents[:20]]
-        print(f"| put and refresh of one document | {index.measured(changes, 3):.1f} | |", flush=True)
-        lines = [b'search 1 {"query":{"match_all":{}}}\n'] * 20
-        print(f"| match_all behind these | {index.measured(lines):.1f} | |", flush=True)
-        index.process.stdin.close()
-        index.process.wait()
+        searches(program, count)
+    large_queries(program)
+    many_puts(program)
 
 
 main(sys.argv[1], [int(it) for it in sys.argv[2:]])
