@@ -4,10 +4,7 @@ use Rattle.std.proofs.lemmas.List.{map-append, map_more}
 use Rattle.marks.specs.Lists.{places}
 use Rattle.segment.proofs.Ahead.{places-map}
 use Rattle.doc.specs.Mapping.{MappingData}
-use Rattle.doc.specs.Document.{DocData, all_values}
-use Rattle.engine.specs.declared.documents.Entry.{Entry}
 use Rattle.engine.specs.declared.block.Shown.{Shown}
-use Rattle.segment.specs.Merged.{read_under}
 use Rattle.engine.specs.Shown.{shown_view}
 use Rattle.query.specs.Query.{Query}
 use Rattle.query.specs.Meaning.{means}
@@ -28,15 +25,6 @@ pub hit-more : {A B : Type 0} (view : A → B) (all : List B) (hs : List A) (h :
 hit-more view all hs h ps i lt here so_far =
     map-append (λ h. Some (view h)) hs (h ∷ []) ∙ ap (λ os. os ++ Some (view h) ∷ []) so_far ∙ ap (λ o. map (λ p. slice_get all p) (take i ps) ++ o ∷ []) here
     ∙ sym (map_more (λ p. slice_get all p) ps i 0 lt)
-
--- documents as they were read have the values of their sources
-pub read-values : (m : MappingData) (es : List Entry) → map (λ (d : DocData). d.values) (map (λ (e : Entry). read_under m e.source.now) es) ≡ map (λ (d : DocData). all_values m d.source) (map (λ (e : Entry). read_under m e.source.now) es)
-read-values m [] = refl
-read-values m (e ∷ es) = ap (λ vs. all_values m e.source.now ∷ vs) (read-values m es)
-
-pub read-sources : (m : MappingData) (es : List Entry) → map (λ (d : DocData). d.source) (map (λ (e : Entry). read_under m e.source.now) es) ≡ map (λ (e : Entry). e.source.now) es
-read-sources m [] = refl
-read-sources m (e ∷ es) = ap (λ ss. e.source.now ∷ ss) (read-sources m es)
 
 -- what the segment's sources are found by is what the documents are found by
 pub found-marks : (m : MappingData) (q : Query) (ss : List Shown) (sources : List (List ℕ)) → sources ≡ map (λ (s : Shown). s.source) ss → map (λ t. means m t q) sources ≡ map (is_found m q) (map shown_view ss)

@@ -49,6 +49,12 @@ T_true false h = absurd h
 pub turned : (i j : Id) → T (is_lt (id_cmp i j)) → id_cmp j i ≡ Greater
 turned i j lt = nat_list_cmp_total.antisymm j i ∙ ap ordering_reverse (less _ lt)
 
+pub head_is : {A : Type 0} (x y : A) (xs ys : List A) → x ∷ xs ≡ y ∷ ys → x ≡ y
+head_is x y xs ys is = cc
+
+pub tail_is : {A : Type 0} (x y : A) (xs ys : List A) → x ∷ xs ≡ y ∷ ys → xs ≡ ys
+tail_is x y xs ys is = cc
+
 -- ---- order
 
 below_step : (x y : Id) (es : Documents) → id_cmp x y ≡ Less → T (below_all id_cmp y es) → T (below_all id_cmp x es)

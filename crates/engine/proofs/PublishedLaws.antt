@@ -2,9 +2,10 @@
 use Rattle.std.proofs.Common.{◌≡◌, ◌<◌, ◌≤◌, ℕ, ◌+◌, Bool, true, false, List, [], ◌∷◌, ◌++◌, drop, length, refl, sym, ap, ◌∙◌, subst, arith, inl, inr}
 use Rattle.std.specs.Prelude.{◌⊎◌, ◌&&◌, if◌then◌else◌, All, Contains, nat_lt, nat_le, slice_index_or}
 use Rattle.std.specs.List.{list_all}
-use Rattle.std.proofs.lemmas.List.Elements.{All-nil, All-cons, All-append, All-drop, All-contains, All-contains_itself, Contains-append_right}
+use Rattle.std.proofs.lemmas.List.Elements.{All-nil, All-cons, All-append, All-drop, All-contains, All-contains_itself, Contains-append_left, Contains-append_right, Contains-push, Contains-push_cases}
 use Rattle.std.proofs.lemmas.Bool.Decides.{nat_tests}
-use Rattle.engine.specs.Published.{Published, greatest, next_after, are_taken, taken_of, AreAmong, AreBelow, IsFronted, IsReplaced, IsSwapped}
+use Rattle.doc.specs.Mapping.{MappingData}
+use Rattle.engine.specs.Published.{Published, Segments, greatest, next_after, are_taken, taken_of, AreAmong, AreBelow, IsFronted, IsLeft, IsReplaced, IsSwapped, nothing, remains, was_taken}
 
 -- all are new or were there before
 abbrev pub AreNumbered : List Published → ℕ → List Published → Type 0
@@ -19,15 +20,34 @@ old-numbered old number = λ k d lt. inl (All-contains_itself old k d lt)
 pub old-among : (old : List Published) → AreAmong old old
 old-among old = All-contains_itself old
 
-pub fronted-numbered : (joins : Bool) (old new : List Published) (number : ℕ) → IsFronted joins old new number → AreNumbered old number new
-fronted-numbered joins old new number is =
+-- none comes
+pub fronted-none : (number : ℕ) (old new : List Published) → new ≡ old → IsFronted number old new
+fronted-none number old new same = record { front = []; joined = 0; is = same; one = omega arith; numbers = All-nil (λ (s : Published). s.number ≡ number) }
+
+-- one comes, and all others go
+pub fronted-alone : (number : ℕ) (old new : List Published) (s : Published) → new ≡ s ∷ [] → s.number ≡ number → IsFronted number old new
+fronted-alone number old new s same is = record {
+  front = s ∷ [];
+  joined = length old;
+  is = same ∙ ap (λ ss. s ∷ ss) (sym (drop-length old));
+  one = omega arith;
+  numbers = all-one (λ (t : Published). t.number ≡ number) s is;
+}
+  where
+    drop-length : (ss : List Published) → drop (length ss) ss ≡ []
+    drop-length [] = refl
+    drop-length (t ∷ ts) = drop-length ts
+
+pub fronted-numbered : (number : ℕ) (old new : List Published) → IsFronted number old new → AreNumbered old number new
+fronted-numbered number old new is =
     subst (AreNumbered old number) (sym is.is)
     (All-append (λ s. Contains old s ⊎ (s.number ≡ number)) is.front (drop is.joined old) (λ k d lt. inr (is.numbers k d lt)) (All-drop (λ s. Contains old s ⊎ (s.number ≡ number)) is.joined old (old-numbered old number)))
 
-pub fronted-among : (joins : Bool) (old new : List Published) (number : ℕ) → IsFronted joins old new number → joins ≡ false → AreAmong new old
-fronted-among joins old new number is none =
-    subst (λ ss. All (λ s. Contains ss s) old) (sym (is.is ∙ ap (λ n. is.front ++ drop n old) (is.all none)))
-    (λ k d lt. Contains-append_right is.front old (slice_index_or old k d) (All-contains_itself old k d lt))
+-- where none is joined each is there still
+pub fronted-among : (front old new : List Published) (n : ℕ) → new ≡ front ++ drop n old → n ≡ 0 → AreAmong new old
+fronted-among front old new n is none =
+    subst (λ ss. All (λ s. Contains ss s) old) (sym (is ∙ ap (λ n. front ++ drop n old) none))
+    (λ k d lt. Contains-append_right front old (slice_index_or old k d) (All-contains_itself old k d lt))
 
 pub rises : (n : ℕ) → n < 18446744073709551616 → n ≤ next_after n
 rises n fits = grind (arith, nat_tests)
@@ -48,10 +68,33 @@ below-numbered old new number below numbered lt =
 pub below-one : (s : Published) → AreBelow (next_after s.number) (s ∷ [])
 below-one s lt = let after = below-after s.number lt in all-one (λ t. t.number < next_after s.number) s (omega (arith, after.1))
 
-pub replaced-numbered : (taken old new : List Published) (number : ℕ) → IsReplaced taken old new number → AreNumbered old number new
-replaced-numbered taken old new number is = λ k d lt. either (slice_index_or new k d) (is.one k d lt)
+-- each that is left was there and wasn't taken
+abbrev IsOld : List Published → List Published → Published → Type 0
+IsOld taken old s = Contains old s × (Contains taken s → ⊥)
+
+older : (taken old left : List Published) (s : Published) → All (IsOld taken old) left → All (IsOld taken (s ∷ old)) left
+older taken old left s all = λ k d lt. still (slice_index_or left k d) (all k d lt)
   where
-    either : (s : Published) → (Contains old s × (Contains taken s → ⊥)) ⊎ (s.number ≡ number) → Contains old s ⊎ (s.number ≡ number)
+    still : (t : Published) → IsOld taken old t → IsOld taken (s ∷ old) t
+    still t is = (Contains-append_right (s ∷ []) old t is.0, is.1)
+
+left-old : (taken old left : List Published) → IsLeft taken old left → All (IsOld taken old) left
+left-old taken _ _ nothing = All-nil (IsOld taken [])
+left-old taken _ _ (remains s old left absent rest) =
+    All-cons (IsOld taken (s ∷ old)) s left (Contains-append_left (s ∷ []) old s (Contains-push [] s), absent) (older taken old left s (left-old taken old left rest))
+left-old taken _ _ (was_taken s old left there rest) = older taken old left s (left-old taken old left rest)
+
+replaced-cases : (taken : List Published) (number : ℕ) (m : MappingData) (old new : List Published) (s : Published) → IsReplaced taken number m old new → Contains new s → IsOld taken old s ⊎ (s.number ≡ number)
+replaced-cases taken number m old new s is there =
+    elim (Contains-push_cases is.left is.merged s (subst (λ (ss : List Published). Contains ss s) is.is there)) [
+      | inl stays ↦ inl (All-contains (IsOld taken old) is.left s (left-old taken old is.left is.others) stays)
+      | inr same ↦ inr (ap (λ (t : Published). t.number) (sym same) ∙ is.numbered)
+    ]
+
+pub replaced-numbered : (taken : List Published) (number : ℕ) (m : MappingData) (old new : List Published) → IsReplaced taken number m old new → AreNumbered old number new
+replaced-numbered taken number m old new is = λ k d lt. either (slice_index_or new k d) (replaced-cases taken number m old new (slice_index_or new k d) is (All-contains_itself new k d lt))
+  where
+    either : (s : Published) → IsOld taken old s ⊎ (s.number ≡ number) → Contains old s ⊎ (s.number ≡ number)
     either s (inl there) = inl there.0
     either s (inr same) = inr same
 
@@ -68,37 +111,29 @@ second_of true b is = is
 second_of false b is = cc
 
 -- those that were taken are there no more: they were in use, and don't bear the greatest number
-pub swapped : (taken old new : List Published) (number : ℕ) → are_taken taken ≡ true → AreBelow number old → AreAmong old taken → IsReplaced taken old new number → IsSwapped taken old new number
-swapped taken old new number are below among is = record {
-  gone = λ k d lt. not_there (slice_index_or taken k d) (Contains-at k d lt) (among k d lt) (small k d lt);
-  kept = is.kept;
-  one = replaced-numbered taken old new number is;
+pub swapped : (taken : List Published) (old new : Segments) → are_taken taken ≡ true → AreBelow old.next old.published → AreAmong old.published taken → IsReplaced taken old.next old.mapping old.published new.published
+    → new.next ≡ next_after old.next → IsSwapped taken old new
+swapped taken old new are below among is next = record {
+  replaced = is;
+  gone = λ k d lt. not_there (slice_index_or taken k d) (All-contains_itself taken k d lt) (among k d lt) (small k d lt);
+  next = next;
+  below = subst (λ n. AreBelow n new.published) (sym next) (below-numbered old.published new.published old.next below (replaced-numbered taken old.next old.mapping old.published new.published is));
 }
   where
-    Contains-at : (k : ℕ) (d : Published) → k < length taken → Contains taken (slice_index_or taken k d)
-    Contains-at k d lt = All-contains_itself taken k d lt
-
     small : All (λ (s : Published). nat_lt s.number greatest ≡ true) taken
     small = all-of (λ (s : Published). nat_lt s.number greatest) taken (second_of (nat_le 2 (length taken)) (list_all (λ (s : Published). nat_lt s.number greatest) taken) are)
 
-    fresh : (s : Published) → Contains old s → nat_lt s.number greatest ≡ true → s.number ≡ number → ⊥
-    fresh s there less same = elim (nat_lt number greatest) as (λ b. nat_lt number greatest ≡ b → ⊥) [
-      | true ↦ λ lt. let below_it : s.number < number = All-contains (λ (t : Published). t.number < number) old s (below (grind (arith, nat_tests, lt))) there in absurd (omega (arith, below_it, same))
+    fresh : (s : Published) → Contains old.published s → nat_lt s.number greatest ≡ true → s.number ≡ old.next → ⊥
+    fresh s there less same = elim (nat_lt old.next greatest) as (λ b. nat_lt old.next greatest ≡ b → ⊥) [
+      | true ↦ λ lt. let below_it : s.number < old.next = All-contains (λ (t : Published). t.number < old.next) old.published s (below (grind (arith, nat_tests, lt))) there in absurd (omega (arith, below_it, same))
       | false ↦ λ ge. grind (arith, nat_tests, ge, less, same)
     ] refl
 
-    not_there : (s : Published) → Contains taken s → Contains old s → nat_lt s.number greatest ≡ true → Contains new s → ⊥
-    not_there s was there less here = elim (All-contains (λ (t : Published). (Contains old t × (Contains taken t → ⊥)) ⊎ (t.number ≡ number)) new s is.one here) [
+    not_there : (s : Published) → Contains taken s → Contains old.published s → nat_lt s.number greatest ≡ true → Contains new.published s → ⊥
+    not_there s was there less here = elim (replaced-cases taken old.next old.mapping old.published new.published s is here) [
       | inl other ↦ other.1 was
       | inr same ↦ fresh s there less same
     ]
-
--- a merge of none leaves all
-pub swapped-none : (taken old new : List Published) (number : ℕ) → taken ≡ [] → new ≡ old → IsSwapped taken old new number
-swapped-none taken old new number none same =
-    subst (λ (ss : List Published). IsSwapped ss old new number) (sym none)
-    (subst (λ (ss : List Published). IsSwapped [] old ss number) (sym same)
-    (record { gone = λ k d lt. absurd (omega (arith, lt)); kept = λ k d lt. inr (All-contains_itself old k d lt); one = old-numbered old number }))
 
 -- what a merge takes is all, or none
 pub taken-all : (ss : List Published) → are_taken ss ≡ true → ss ≡ taken_of ss

@@ -89,6 +89,19 @@ module _ (ids : List Id) (docs : List Item) (live : List Bool) (whole : length l
   pub united-long : length (zip_with (λ (a b : Bool). a || b) (replicate n false) live) ≡ length docs
   united-long = ap length (ap (λ m. zip_with (λ (a b : Bool). a || b) (replicate m false) live) (is ∙ sym whole) ∙ copied live) ∙ whole
 
+-- without no ids nothing is taken away
+without-none : (ds : List Item) → without [] ds ≡ ds
+without-none [] = refl
+without-none (d ∷ ds) = ap (λ es. d ∷ es) (without-none ds)
+
+-- nor without ids that no document has
+pub none-left_out : (ids : List Id) (docs : List Item) (live : List Bool) → length live ≡ length docs → map (λ (d : Item). is_among ids d.0) docs ≡ map (λ (d : Item). is_among [] d.0) docs → without ids (chosen docs live) ≡ chosen docs live
+none-left_out ids docs live whole none =
+    sym (chosen-filter (λ (d : Item). is_among ids d.0) not docs live whole)
+    ∙ ap (λ (bs : List Bool). chosen docs (zip_with (λ (a b : Bool). a && not b) live bs)) none
+    ∙ chosen-filter (λ (d : Item). is_among [] d.0) not docs live whole
+    ∙ without-none (chosen docs live)
+
 -- ---- all live
 
 both-true : (g : Item → Bool) (docs : List Item) → zip_with (λ (m l : Bool). m && l) (map g docs) (replicate (length docs) true) ≡ map g docs

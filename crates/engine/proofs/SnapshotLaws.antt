@@ -7,13 +7,8 @@ use Rattle.doc.specs.Id.{Id, id_cmp}
 use Rattle.doc.specs.Mapping.{MappingData}
 use Rattle.op.specs.Documents.{Documents}
 use Rattle.engine.specs.Parts.{PartData, documents_of_parts, woven, merged, without, is_among, has_id, times, AreParts, AreApart, AllInOrder}
+use Rattle.engine.proofs.PartLaws.{head_is, tail_is}
 use Rattle.engine.proofs.ApartLaws.{without-apart, none_left, woven-without, fronted-apart, fronted-woven, all_take}
-
-head_is : {A : Type 0} (x y : A) (xs ys : List A) → x ∷ xs ≡ y ∷ ys → x ≡ y
-head_is x y xs ys is = cc
-
-tail_is : {A : Type 0} (x y : A) (xs ys : List A) → x ∷ xs ≡ y ∷ ys → xs ≡ ys
-tail_is x y xs ys is = cc
 
 -- each part has the mapping
 pub mapping-at : (m : MappingData) (ps : List PartData) (i : ℕ) (p : PartData) → map (λ (p : PartData). p.mapping) ps ≡ replicate (length ps) m → i < length ps → p ≡ get_or ps i p → p.mapping ≡ m

@@ -1,6 +1,6 @@
 -- One part in place of those that were taken.
 use Rattle.std.proofs.Common.{◌≡◌, ◌<◌, ◌≤◌, ℕ, ◌+◌, zero, suc, Bool, true, false, cond, List, [], ◌∷◌, ◌++◌, length, map, refl, sym, ap, ◌∙◌, subst, arith, Option, Some, None, inl, inr, get_or, take, add-one}
-use Rattle.std.specs.Prelude.{is_some, replicate, slice_index_or, ◌&&◌, ◌⊎◌, All, Contains}
+use Rattle.std.specs.Prelude.{is_some, replicate, ◌&&◌, All, Contains}
 use Rattle.std.specs.List.{list_all}
 use Rattle.std.proofs.lemmas.List.Elements.{Contains-push_cases}
 use Rattle.std.proofs.Math.Seq.{take-suc}
@@ -10,20 +10,15 @@ use Rattle.std.specs.FinMap.Entries.{is_sorted, same_entries}
 use Rattle.std.proofs.lemmas.List.{map-append, length_push, length-map, get_or-map}
 use Rattle.std.proofs.lemmas.List.Folds.{list_all-append}
 use Rattle.std.proofs.lemmas.List.Sums.{fold-append}
-use Rattle.std.proofs.lemmas.List.Elements.{All-push, Contains-append_left, Contains-push}
+use Rattle.std.proofs.lemmas.List.Elements.{All-push}
 use Rattle.std.proofs.lemmas.Map.Lookups.{exact_bytes}
 use Rattle.doc.specs.Id.{Id, id_cmp}
 use Rattle.doc.specs.Mapping.{MappingData}
 use Rattle.op.specs.Documents.{Documents, document_at}
-use Rattle.engine.specs.Parts.{PartData, all_published, documents_of_parts, published_of, woven, merged, without, has_id, times, AreParts, AllInOrder, IsSplit, none, stays, goes}
-use Rattle.engine.specs.Published.{Published, IsReplaced}
-use Rattle.engine.proofs.PartLaws.{T_true, find-merged, in_order-merged, or_or}
+use Rattle.engine.specs.Parts.{PartData, all_published, documents_of_parts, published_of, woven, merged, has_id, times, AreParts, AllInOrder, IsSplit, none, stays, goes}
+use Rattle.engine.specs.Published.{Published, IsLeft, IsReplaced, nothing, remains, was_taken}
+use Rattle.engine.proofs.PartLaws.{T_true, find-merged, head_is, in_order-merged, or_or, tail_is}
 use Rattle.engine.proofs.ApartLaws.{has-woven, in_order-woven, none_has}
-
--- without no ids nothing is taken away
-pub without-none : (ds : Documents) → without [] ds ≡ ds
-without-none [] = refl
-without-none (d ∷ ds) = ap (λ es. d ∷ es) (without-none ds)
 
 -- ---- one part more behind others
 
@@ -49,12 +44,6 @@ times-push q [] d = elim (has_id q d) as (λ b. cond b 1 0 + 0 ≡ 0 + cond b 1 
 times-push q (p ∷ ps) d =
     let rest = times-push q ps d in
     elim (has_id q p) as (λ b. cond b 1 0 + times q (ps ++ d ∷ []) ≡ (cond b 1 0 + times q ps) + cond (has_id q d) 1 0) [ true ↦ omega (arith, rest) | false ↦ omega (arith, rest) ]
-
-head_is : {A : Type 0} (x y : A) (xs ys : List A) → x ∷ xs ≡ y ∷ ys → x ≡ y
-head_is x y xs ys is = cc
-
-tail_is : {A : Type 0} (x y : A) (xs ys : List A) → x ∷ xs ≡ y ∷ ys → xs ≡ ys
-tail_is x y xs ys is = cc
 
 abbrev pub HaveMapping : MappingData → List PartData → Type 0
 HaveMapping m ps = map (λ (p : PartData). p.mapping) ps ≡ replicate (length ps) m
@@ -159,45 +148,27 @@ module _ (taken : List Published) where
   split-mappings m _ _ _ (goes before stay gone ps go p split there is go_is) same =
       split-mappings m before stay gone split (mappings-front m before p (subst (HaveMapping m) is same)).0
 
-  -- each part was taken, or stays
-  abbrev IsEither : List Published → Published → Type 0
-  IsEither ss s = Contains taken s ⊎ Contains ss s
+  -- one segment more that stays
+  left-stays : (old left : List Published) (s : Published) → IsLeft taken old left → (Contains taken s → ⊥) → IsLeft taken (old ++ s ∷ []) (left ++ s ∷ [])
+  left-stays _ _ s nothing not_there = remains s [] [] not_there nothing
+  left-stays _ _ s (remains t old left absent rest) not_there = remains t (old ++ s ∷ []) (left ++ s ∷ []) absent (left-stays old left s rest not_there)
+  left-stays _ _ s (was_taken t old left there rest) not_there = was_taken t (old ++ s ∷ []) (left ++ s ∷ []) there (left-stays old left s rest not_there)
 
-  still : (ss : List Published) (e s : Published) → IsEither ss s → IsEither (ss ++ e ∷ []) s
-  still ss e s (inl there) = inl there
-  still ss e s (inr there) = inr (Contains-append_left ss (e ∷ []) s there)
+  -- one more that goes
+  left-goes : (old left : List Published) (s : Published) → IsLeft taken old left → Contains taken s → IsLeft taken (old ++ s ∷ []) left
+  left-goes _ _ s nothing there = was_taken s [] [] there nothing
+  left-goes _ _ s (remains t old left absent rest) there = remains t (old ++ s ∷ []) left absent (left-goes old left s rest there)
+  left-goes _ _ s (was_taken t old left was rest) there = was_taken t (old ++ s ∷ []) left was (left-goes old left s rest there)
 
-  kept-pushed : (ps before : List PartData) (p : PartData) (ss : List Published) → ps ≡ before ++ p ∷ [] → All (IsEither ss) (all_published before) → IsEither ss (published_of p) → All (IsEither ss) (all_published ps)
-  kept-pushed ps before p ss is all one = subst (All (IsEither ss)) (sym (ap all_published is ∙ published-push before p)) (All-push (IsEither ss) (all_published before) (published_of p) all one)
-
-  pub split-kept : (ps stay go : List PartData) → IsSplit taken ps stay go → All (IsEither (all_published stay)) (all_published ps)
-  split-kept _ _ _ none = λ k d lt. absurd (omega (arith, lt))
-  split-kept _ _ _ (stays before kept ps stay go p split not_there is stay_is) =
-      let old = split-kept before kept go split in
-      let last : IsEither (all_published kept ++ published_of p ∷ []) (published_of p) = inr (Contains-push (all_published kept) (published_of p)) in
-      subst (λ ss. All (IsEither ss) (all_published ps)) (sym (ap all_published stay_is ∙ published-push kept p))
-      (kept-pushed ps before p (all_published kept ++ published_of p ∷ []) is (λ k d lt. still (all_published kept) (published_of p) (slice_index_or (all_published before) k d) (old k d lt)) last)
-  split-kept _ _ _ (goes before stay gone ps go p split there is go_is) =
-      let last : IsEither (all_published stay) (published_of p) = inl there in
-      kept-pushed ps before p (all_published stay) is (split-kept before stay gone split) last
-
-  -- each part that stays was there and wasn't taken
-  abbrev IsOld : List Published → Published → Type 0
-  IsOld all s = Contains all s × (Contains taken s → ⊥)
-
-  older : (ps before : List PartData) (p : PartData) → ps ≡ before ++ p ∷ [] → (ss : List Published) → All (IsOld (all_published before)) ss → All (IsOld (all_published ps)) ss
-  older ps before p is ss all = λ k d lt. still (slice_index_or ss k d) (all k d lt)
-    where
-      still : (s : Published) → IsOld (all_published before) s → IsOld (all_published ps) s
-      still s old = (subst (λ xs. Contains xs s) (sym (ap all_published is ∙ published-push before p)) (Contains-append_left (all_published before) (published_of p ∷ []) s old.0), old.1)
-
-  pub split-stays : (ps stay go : List PartData) → IsSplit taken ps stay go → All (IsOld (all_published ps)) (all_published stay)
-  split-stays _ _ _ none = λ k d lt. absurd (omega (arith, lt))
-  split-stays _ _ _ (stays before kept ps stay go p split not_there is stay_is) =
-      let last : IsOld (all_published ps) (published_of p) = (subst (λ xs. Contains xs (published_of p)) (sym (ap all_published is ∙ published-push before p)) (Contains-push (all_published before) (published_of p)), not_there) in
-      subst (All (IsOld (all_published ps))) (sym (ap all_published stay_is ∙ published-push kept p))
-      (All-push (IsOld (all_published ps)) (all_published kept) (published_of p) (older ps before p is (all_published kept) (split-stays before kept go split)) last)
-  split-stays _ _ _ (goes before stay gone ps go p split there is go_is) = older ps before p is (all_published stay) (split-stays before stay gone split)
+  pub split-left : (ps stay go : List PartData) → IsSplit taken ps stay go → IsLeft taken (all_published ps) (all_published stay)
+  split-left _ _ _ none = nothing
+  split-left _ _ _ (stays before kept ps stay go p split not_there is stay_is) =
+      subst (λ (ss : List Published). IsLeft taken ss (all_published stay)) (sym (ap all_published is ∙ published-push before p))
+      (subst (λ (ss : List Published). IsLeft taken (all_published before ++ published_of p ∷ []) ss) (sym (ap all_published stay_is ∙ published-push kept p))
+      (left-stays (all_published before) (all_published kept) (published_of p) (split-left before kept go split) not_there))
+  split-left _ _ _ (goes before stay gone ps go p split there is go_is) =
+      subst (λ (ss : List Published). IsLeft taken ss (all_published stay)) (sym (ap all_published is ∙ published-push before p))
+      (left-goes (all_published before) (all_published stay) (published_of p) (split-left before stay gone split) there)
 
 -- the parts that stay, and one part that shows what the others do
 module _ (m : MappingData) (taken : List Published) (ps stay go : List PartData) (p : PartData) (split : IsSplit taken ps stay go) (are : AreParts m ps)
@@ -234,18 +205,15 @@ module _ (m : MappingData) (taken : List Published) (ps stay go : List PartData)
       (in_order-woven (documents_of_parts ps) are.apart.sorted)
       (λ q. find-merged (woven (documents_of_parts stay)) (woven (documents_of_parts go)) q ∙ split-found taken ps stay go split are.apart.once q)
 
-  abbrev IsOne : ℕ → Published → Type 0
-  IsOne number s = (Contains (all_published ps) s × (Contains taken s → ⊥)) ⊎ (s.number ≡ number)
-
-  pub replaced : (number : ℕ) → p.number ≡ number → IsReplaced taken (all_published ps) (all_published (stay ++ p ∷ [])) number
-  replaced number is =
-      let last : IsOne number (published_of p) = inr is in
-      let old = split-kept taken ps stay go split in
-      let those = split-stays taken ps stay go split in
-      record {
-        kept = subst (λ ss. All (IsEither taken ss) (all_published ps)) (sym (published-push stay p)) (λ k d lt. still taken (all_published stay) (published_of p) (slice_index_or (all_published ps) k d) (old k d lt));
-        one = subst (All (IsOne number)) (sym (published-push stay p)) (All-push (IsOne number) (all_published stay) (published_of p) (λ k d lt. inl (those k d lt)) last);
-      }
+  pub replaced : (number : ℕ) → p.number ≡ number → IsReplaced taken number m (all_published ps) (all_published (stay ++ p ∷ []))
+  replaced number is = record {
+    left = all_published stay;
+    merged = published_of p;
+    others = split-left taken ps stay go split;
+    is = published-push stay p;
+    numbered = is;
+    mapped = here;
+  }
 
 -- one that fails is enough
 pub not-all : {A B : Type 0} (f : A → B) (p : B → Bool) (xs : List A) (i : ℕ) (x : A) → i < length xs → x ≡ get_or xs i x → p (f x) ≡ false → list_all p (map f xs) ≡ false

@@ -5,7 +5,7 @@ use Rattle.op.specs.declared.record.Record.{Record}
 use Rattle.op.specs.Documents.{documents}
 use Rattle.op.specs.Records.{shown}
 use Rattle.engine.specs.Answer.{SnapshotData}
-use Rattle.engine.specs.Published.{Published}
+use Rattle.engine.specs.Published.{Published, Segments}
 
 -- the mapping, the records, and how many of them searches show
 pub record Contents : Type 0 where
@@ -25,11 +25,19 @@ pub record EngineData : Type 0 where
 abbrev pub contents_of : EngineData → Contents
 contents_of e = record { mapping = e.mapping; records = e.records; point = e.point }
 
+-- its segments
+abbrev pub segments_of : EngineData → Segments
+segments_of e = record { mapping = e.mapping; published = e.published; next = e.next }
+
 -- what searches show, the segments that they look through, and the number of the next one
 pub record ShowingData : Type 0 where
   pub snapshot : SnapshotData
   pub published : List Published
   pub next : ℕ
+
+-- the segments that they look through
+abbrev pub segments_shown : ShowingData → Segments
+segments_shown s = record { mapping = s.snapshot.mapping; published = s.published; next = s.next }
 
 -- searches show the documents of the records up to the point
 pub record Shows (m : MappingData) (rs : List Record) (point : ℕ) (s : SnapshotData) : Type 0 where

@@ -1,5 +1,5 @@
 -- The segments that searches look through, and merges of them.
-use Rattle.std.specs.Prelude.{◌≡◌, ◌<◌, ◌⊎◌, ◌+◌, ◌++◌, ◌&&◌, ℕ, Bool, false, List, [], All, Contains, drop, min, length, nat_le, nat_lt, if◌then◌else◌}
+use Rattle.std.specs.Prelude.{◌≡◌, ◌<◌, ◌≤◌, ◌+◌, ◌++◌, ◌&&◌, ℕ, Bool, List, [], ◌∷◌, All, Contains, drop, min, length, nat_le, nat_lt, if◌then◌else◌}
 use Rattle.std.specs.List.{list_all}
 use Rattle.doc.specs.Mapping.{MappingData}
 use Rattle.op.specs.Documents.{Documents}
@@ -40,21 +40,38 @@ pub record MergeData : Type 0 where
 abbrev pub AreAmong : List Published → List Published → Type 0
 AreAmong all ss = All (λ s. Contains all s) ss
 
--- one segment of this number stands for those that a merge took: none of these is published any more, and each other one is
-pub record IsSwapped (taken old new : List Published) (number : ℕ) : Type 0 where
-  pub gone : All (λ s. Contains new s → ⊥) taken
-  pub kept : All (λ s. Contains taken s ⊎ Contains new s) old
-  pub one : All (λ s. Contains old s ⊎ (s.number ≡ number)) new
+-- the segments that weren't taken, in their order
+pub data IsLeft (taken : List Published) : List Published → List Published → Type 0 where
+  nothing : IsLeft taken [] []
+  remains : (s : Published) (old left : List Published) → (Contains taken s → ⊥) → IsLeft taken old left → IsLeft taken (s ∷ old) (s ∷ left)
+  was_taken : (s : Published) (old left : List Published) → Contains taken s → IsLeft taken old left → IsLeft taken (s ∷ old) left
 
--- a segment of this number stands for those that were taken, and each other one stays
-pub record IsReplaced (taken old new : List Published) (number : ℕ) : Type 0 where
-  pub kept : All (λ s. Contains taken s ⊎ Contains new s) old
-  pub one : All (λ s. (Contains old s × (Contains taken s → ⊥)) ⊎ (s.number ≡ number)) new
+-- one segment, of this number and mapping, stands behind those that weren't taken
+pub record IsReplaced (taken : List Published) (number : ℕ) (mapping : MappingData) (old new : List Published) : Type 0 where
+  pub left : List Published
+  pub merged : Published
+  pub others : IsLeft taken old left
+  pub is : new ≡ left ++ merged ∷ []
+  pub numbered : merged.number ≡ number
+  pub mapped : merged.mapping ≡ mapping
 
--- segments of this number in front of the oldest of some, and of all where none is joined
-pub record IsFronted (joins : Bool) (old new : List Published) (number : ℕ) : Type 0 where
+-- segments, the newest first, their mapping, and the number of the next one
+pub record Segments : Type 0 where
+  pub mapping : MappingData
+  pub published : List Published
+  pub next : ℕ
+
+-- one segment, of the next number, stands for those that a merge took: none of these is published any more, and the number isn't given again
+pub record IsSwapped (taken : List Published) (old new : Segments) : Type 0 where
+  pub replaced : IsReplaced taken old.next old.mapping old.published new.published
+  pub gone : All (λ s. Contains new.published s → ⊥) taken
+  pub next : new.next ≡ next_after old.next
+  pub below : AreBelow new.next new.published
+
+-- at most one segment, of this number, in front of the oldest of some
+pub record IsFronted (number : ℕ) (old new : List Published) : Type 0 where
   pub front : List Published
   pub joined : ℕ
   pub is : new ≡ front ++ drop joined old
+  pub one : length front ≤ 1
   pub numbers : All (λ s. s.number ≡ number) front
-  pub all : joins ≡ false → joined ≡ 0

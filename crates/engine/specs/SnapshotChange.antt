@@ -1,12 +1,12 @@
 -- What a change leaves.
-use Rattle.std.specs.Prelude.{◌≡◌, ◌≤◌, ◌⊎◌, Bool, true, false, [], ◌∷◌, length, All, Contains, drop}
+use Rattle.std.specs.Prelude.{◌≡◌, ◌≤◌, Bool, true, false, [], ◌∷◌, length, All, drop}
 use Rattle.std.specs.List.{AllPass}
 use Rattle.op.specs.declared.record.Record.{Record}
 use Rattle.op.specs.declared.record.Record.TheVariants.{Op as Kept, Resync, Recover}
 use Rattle.op.specs.Documents.{documents}
 use Rattle.op.specs.Records.{IsRecord, operations}
 use Rattle.engine.specs.Contents.{Contents, EngineData}
-use Rattle.engine.specs.Published.{next_after, AreAmong, AreBelow}
+use Rattle.engine.specs.Published.{next_after, AreAmong, AreBelow, IsFronted}
 use Rattle.engine.specs.declared.staged.SnapshotChange.{SnapshotChange}
 use Rattle.engine.specs.declared.staged.SnapshotChange.TheVariants.{Refresh, JoinedRefresh, Reopen}
 
@@ -32,9 +32,9 @@ is_op (Recover term all) = false
 abbrev pub OnlyOps : EngineData → Type 0
 OnlyOps e = AllPass is_op (drop e.point e.records)
 
--- each segment was published before or bears the next number, which is never given again, unless it is the greatest
+-- at most one segment comes, and bears the next number, which is never given again, unless it is the greatest
 pub record IsNumbered (old new : EngineData) : Type 0 where
-  pub numbers : All (λ s. Contains old.published s ⊎ (s.number ≡ old.next)) new.published
+  pub numbers : IsFronted old.next old.published new.published
   pub rises : old.next ≤ new.next
   pub below : AreBelow new.next new.published
 

@@ -8,18 +8,17 @@ ghost use Rattle.doc.specs.Id.{Id, id_cmp, is_id};
 ghost use Rattle.op.specs.Documents.{Document};
 ghost use Rattle.query.specs.View.{query_view};
 ghost use Rattle.marks.specs.Lists.{zip_with, places};
-ghost use Rattle.segment.specs.Merged.{read_under};
 ghost use Rattle.engine.specs.Answer.{is_found};
 ghost use Rattle.engine.specs.Entry.{entry_view};
 ghost use Rattle.engine.specs.Parts.{is_among};
 ghost use Rattle.engine.specs.Shown.{shown_view};
 
 use crate::documents::Entry;
-use doc::{Doc, DocId, Mapping, Source};
+use doc::{DocId, Mapping, Source};
 use marks::Marks;
 use query::Query;
 use search::{FoundPlaces, find, find_all};
-use segment::{Segment, read_kept};
+use segment::Segment;
 use std::alloc::{AllocError, Global};
 use std::cmp::Ordering;
 use std::marker::Model;
@@ -166,6 +165,28 @@ impl Block {
         Ok(all)
     }
 
+    /// Whether a document has one of the ids.
+    pub(crate) fn has_any(&self, ids: &[DocId]) -> bool
+        ensures { result ≡ false → map (λ d. is_among ids.now d.0) self.now.documents ≡ map (λ d. is_among [] d.0) self.now.documents }
+    {
+        for id in ids {
+            if self.has(id) {
+                return true;
+            }
+        }
+        false
+    }
+
+    /// Whether a document has the id.
+    fn has(&self, id: &DocId) -> bool
+        ensures { result ≡ false → (t : Id × Document → Bool) → map t self.now.documents ≡ map (λ d. t d || is_id d.0 id.now) self.now.documents }
+    {
+        match place_of(&self.documents, id) {
+            Ok(_) => true,
+            Err(_) => false,
+        }
+    }
+
     /// Marks the documents that have one of the ids.
     pub(crate) fn mark_ids(&self, ids: &[DocId], marks: &mut Marks)
         requires { marks.old ≡ map (λ d. is_among [] d.0) self.now.documents }
@@ -245,7 +266,7 @@ fn shown_of(alloc: Global, entries: &[Entry<'_>]) -> Result<Vec<Shown>, AllocErr
     ensures documents { IfOk result (λ v. map shown_view v.items ≡ map entry_view entries.entry.now) }
     ensures sources { IfOk result (λ v. map (λ s. s.source) v.items ≡ map (λ e. e.source.now) entries.entry.now) }
 {
-    let mut documents = Vec::new(alloc);
+    let mut documents = Vec::with_capacity(alloc, entries.len())?;
     for entry in entries {
         documents.push(Shown {
             id: entry.id.copy(alloc)?,
@@ -266,21 +287,21 @@ fn segment_of(
 ) -> Result<Segment, AllocError>
     ensures { IfOk result (λ s. s ≡ record { mapping = arc_value mapping.now; sources = map (λ e. e.source.now) entries.entry.now }) }
 {
-    let docs = docs_of(alloc, mapping, entries)?;
-    if docs.len() >= MAX_DOCUMENTS {
+    let sources = sources_of(alloc, entries)?;
+    if sources.len() >= MAX_DOCUMENTS {
         return Err(AllocError);
     }
-    let segment = Segment::build(alloc, mapping, &docs)?;
+    let segment = Segment::build(alloc, mapping, sources)?;
     Ok(segment)
 }
 
-/// The documents of entries, read under the mapping.
-fn docs_of(alloc: Global, mapping: &Mapping, entries: &[Entry<'_>]) -> Result<Vec<Doc>, AllocError>
-    ensures { IfOk result (λ v. v.items ≡ map (λ e. read_under mapping.now e.source.now) entries.entry.now) }
+/// The texts of entries.
+fn sources_of(alloc: Global, entries: &[Entry<'_>]) -> Result<Vec<Source>, AllocError>
+    ensures { IfOk result (λ v. v.items ≡ map (λ e. e.source.now) entries.entry.now) }
 {
-    let mut docs = Vec::new(alloc);
+    let mut sources = Vec::with_capacity(alloc, entries.len())?;
     for entry in entries {
-        docs.push(read_kept(alloc, mapping, entry.source)?)?;
+        sources.push(entry.source.copy(alloc)?)?;
     }
-    Ok(docs)
+    Ok(sources)
 }

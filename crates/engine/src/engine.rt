@@ -1,5 +1,5 @@
 //! The documents of one copy.
-ghost use Rattle.std.specs.Prelude.{◌≡◌, ◌↔◌, ◌⊎◌, ◌∷◌, ◌<◌, ◌≤◌, ◌^◌, [], true, false, All, Contains, length, None, IsTrue, IfOk, OnOk, OnErr};
+ghost use Rattle.std.specs.Prelude.{◌≡◌, ◌↔◌, ◌∷◌, ◌<◌, ◌≤◌, ◌^◌, [], true, false, All, length, None, IsTrue, IfOk, OnOk, OnErr};
 ghost use Rattle.std.specs.Option.{option_copied, option_map};
 ghost use Rattle.std.specs.Arc.{arc_value};
 ghost use Rattle.op.specs.Checkpoint.{checkpoint_of, known};
@@ -9,8 +9,8 @@ ghost use Rattle.op.specs.Records.{IsRecord, operations, shown};
 ghost use Rattle.engine.specs.Applied.{applied_of, records_after};
 ghost use Rattle.engine.specs.Found.{found_document};
 ghost use Rattle.engine.specs.Last.{last_of};
-ghost use Rattle.engine.specs.Contents.{contents_of};
-ghost use Rattle.engine.specs.Published.{next_after, taken_of, AreAmong, AreBelow, IsSwapped};
+ghost use Rattle.engine.specs.Contents.{contents_of, segments_of};
+ghost use Rattle.engine.specs.Published.{next_after, taken_of, AreAmong, AreBelow, IsFronted, IsSwapped};
 ghost use Rattle.engine.specs.SnapshotChange.{changed, ArePublished, IsNumbered, IsSnapshotChange, OnlyOps};
 ghost use Rattle.engine.specs.Staged.{IsStagedFrom, put_in};
 
@@ -179,7 +179,7 @@ impl Engine {
     /// What searches show of all records: what they show where nothing came, with the ids that changed, or made anew where more than ids changed.
     fn refreshed(&self, alloc: Global, joins: bool) -> Result<Showing, AllocError>
         ensures snapshot { IfOk result (λ s. s.snapshot ≡ record { mapping = self.now.mapping; documents = documents (operations self.now.records) }) }
-        ensures numbers { IfOk result (λ s. All (λ p. Contains self.now.published p ⊎ (p.number ≡ self.now.next)) s.published) }
+        ensures numbers { IfOk result (λ s. IsFronted self.now.next self.now.published s.published) }
         ensures rises { IfOk result (λ s. self.now.next ≤ s.next) }
         ensures kept { IfOk result (λ s. joins ≡ false → OnlyOps self.now → AreAmong s.published self.now.published) }
     {
@@ -230,7 +230,7 @@ impl Engine {
     /// them isn't there any more, as after a restart, it is `false` and all stay. What the engine has and what searches show stays in any case.
     pub fn swap_merged(&mut self, alloc: Global, merged: Merged) -> Result<bool, AllocError>
         ensures answer { IfOk result (λ b. IsTrue b ↔ AreAmong self.old.published merged.taken) }
-        ensures swapped { IfOk result (λ b. b ≡ true → IsSwapped merged.taken self.old.published self.new.published self.old.next) }
+        ensures swapped { IfOk result (λ b. b ≡ true → (merged.taken ≡ [] → ⊥) → IsSwapped merged.taken (segments_of self.old) (segments_of self.new)) }
         ensures none { merged.taken ≡ [] → self.new ≡ self.old }
         ensures stays { IfOk result (λ b. b ≡ false → self.new ≡ self.old) }
         ensures contents { contents_of self.new ≡ contents_of self.old }

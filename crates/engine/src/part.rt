@@ -25,7 +25,7 @@ use std::sync::Arc;
 pub(crate) struct Part {
     number: u64,
     block: Arc<Block, Global>,
-    live: Marks,
+    live: Arc<Marks, Global>,
     /// Where it is set, no document is dead.
     all_live: bool,
 }
@@ -39,12 +39,12 @@ impl Model for Part {
 
     ghost view = { λ p. record {
       mapping = (arc_value p.block).mapping;
-      documents = chosen (arc_value p.block).documents p.live;
+      documents = chosen (arc_value p.block).documents (arc_value p.live);
       number = p.number;
       built = (arc_value p.block).documents;
     } };
 
-    ghost invariant = { λ p. IsPart (arc_value p.block).documents p.live p.all_live };
+    ghost invariant = { λ p. IsPart (arc_value p.block).documents (arc_value p.live) p.all_live };
 }
 
 /// What there is for a query: how many documents, and the first of them.
@@ -75,6 +75,7 @@ impl Part {
         let block = Block::of(alloc, mapping, entries)?;
         let live = Marks::all(alloc, block.len())?;
         let block = Arc::new(alloc, block)?;
+        let live = Arc::new(alloc, live)?;
         Ok(Part {
             number,
             block,
@@ -104,11 +105,18 @@ impl Part {
         self.block.is_under(mapping)
     }
 
-    /// The same part, which shares its documents.
-    pub(crate) fn copy(&self, alloc: Global) -> Result<Part, AllocError>
+    /// The same part, which shares all that it has.
+    pub(crate) fn copy(&self) -> Result<Part, AllocError>
         ensures { IfOk result (λ p. p ≡ self.now) }
     {
-        self.without(alloc, &[])
+        let block = Arc::try_clone(&self.block)?;
+        let live = Arc::try_clone(&self.live)?;
+        Ok(Part {
+            number: self.number,
+            block,
+            live,
+            all_live: self.all_live,
+        })
     }
 
     /// The same part under another number.
@@ -199,6 +207,17 @@ impl Part {
     pub(crate) fn without(&self, alloc: Global, ids: &[DocId]) -> Result<Part, AllocError>
         ensures { IfOk result (λ p. p ≡ record self.now { documents = without ids.now self.now.documents }) }
     {
+        if self.block.has_any(ids) {
+            self.unmarked(alloc, ids)
+        } else {
+            self.copy()
+        }
+    }
+
+    /// The same with marks of its own.
+    fn unmarked(&self, alloc: Global, ids: &[DocId]) -> Result<Part, AllocError>
+        ensures { IfOk result (λ p. p ≡ record self.now { documents = without ids.now self.now.documents }) }
+    {
         let len = self.block.len();
         let mut dead = Marks::none(alloc, len)?;
         self.block.mark_ids(ids, &mut dead);
@@ -206,6 +225,7 @@ impl Part {
         live.unite(&self.live);
         live.subtract(&dead);
         let all_live = live.count() == len;
+        let live = Arc::new(alloc, live)?;
         let block = Arc::try_clone(&self.block)?;
         Ok(Part {
             number: self.number,

@@ -26,7 +26,7 @@ use std::marker::Model;
 use std::sync::Arc;
 
 /// So many parts stay side by side, whatever their sizes.
-const FEW_PARTS: usize = 8;
+const FEW_PARTS: usize = 16;
 
 /// There are fewer parts.
 const MOST_PARTS: usize = 4_294_967_295;
@@ -121,7 +121,8 @@ impl PartList {
         requires only { (id : Id) → has_id id (map entry_view entries.now) ≡ true → is_among ids.now id ≡ true }
         ensures mapping { IfOk result (λ l. l.mapping ≡ self.now.mapping) }
         ensures documents { IfOk result (λ l. l.documents ≡ merged (map entry_view entries.entry.now) (without ids.now self.now.documents)) }
-        ensures published { IfOk result (λ l. IsFronted joins self.now.published l.published number) }
+        ensures published { IfOk result (λ l. IsFronted number self.now.published l.published) }
+        ensures kept { IfOk result (λ l. joins ≡ false → AreAmong l.published self.now.published) }
     {
         let mut newer = parts_without(alloc, &self.parts, ids)?;
         if entries.is_empty() {
@@ -162,7 +163,7 @@ impl PartList {
         ensures mapping { IfOk result (λ o. IfSome o (λ l. l.mapping ≡ self.now.mapping)) }
         ensures documents { IfOk result (λ o. IfSome o (λ l. l.documents ≡ self.now.documents)) }
         ensures there { IfOk result (λ o. IfSome o (λ l. AreAmong self.now.published (all_published taken.now))) }
-        ensures swapped { IfOk result (λ o. IfSome o (λ l. IsReplaced (all_published taken.now) self.now.published l.published number)) }
+        ensures swapped { IfOk result (λ o. IfSome o (λ l. IsReplaced (all_published taken.now) number self.now.mapping self.now.published l.published)) }
         ensures gone { IfOk result (λ o. o ≡ None → AreAmong self.now.published (all_published taken.now) → ⊥) }
     {
         if !are_among(&self.parts, taken) {

@@ -1,9 +1,10 @@
 //! What searches show, with the segments that they look through.
-ghost use Rattle.std.specs.Prelude.{◌≡◌, ◌∷◌, ◌<◌, ◌≤◌, [], true, All, None, map, IfOk, IfSome};
+ghost use Rattle.std.specs.Prelude.{◌≡◌, ◌∷◌, ◌<◌, ◌≤◌, [], true, false, All, None, map, IfOk, IfSome};
 ghost use Rattle.std.specs.Arc.{arc_value};
 ghost use Rattle.std.specs.FinMap.Entries.{is_sorted};
 ghost use Rattle.doc.specs.Id.{Id, id_cmp};
 ghost use Rattle.op.specs.Documents.{documents};
+ghost use Rattle.engine.specs.Contents.{segments_shown};
 ghost use Rattle.engine.specs.Entry.{entry_view};
 ghost use Rattle.engine.specs.Parts.{has_id, is_among, merged, shown_through, without, IsMade};
 ghost use Rattle.engine.specs.Published.{are_taken, next_after, taken_of, AreAmong, AreBelow, IsFronted, IsSwapped};
@@ -97,7 +98,8 @@ impl Showing {
         requires sorted { is_sorted id_cmp (map entry_view entries.now) ≡ true }
         requires only { (id : Id) → has_id id (map entry_view entries.now) ≡ true → is_among ids.now id ≡ true }
         ensures snapshot { IfOk result (λ s. s.snapshot ≡ record self.now.snapshot { documents = merged (map entry_view entries.entry.now) (without ids.now self.now.snapshot.documents) }) }
-        ensures published { IfOk result (λ s. IsFronted joins self.now.published s.published self.now.next) }
+        ensures published { IfOk result (λ s. IsFronted self.now.next self.now.published s.published) }
+        ensures kept { IfOk result (λ s. joins ≡ false → AreAmong s.published self.now.published) }
         ensures rises { IfOk result (λ s. self.now.next ≤ s.next) }
     {
         let parts = self.parts.with(alloc, self.next, ids, entries, joins)?;
@@ -120,7 +122,7 @@ impl Showing {
     ) -> Result<Option<Showing>, AllocError>
         ensures snapshot { IfOk result (λ o. IfSome o (λ s. s.snapshot ≡ self.now.snapshot)) }
         ensures there { IfOk result (λ o. IfSome o (λ s. AreAmong self.now.published merged.now.taken)) }
-        ensures swapped { IfOk result (λ o. IfSome o (λ s. IsSwapped merged.now.taken self.now.published s.published self.now.next)) }
+        ensures swapped { IfOk result (λ o. IfSome o (λ s. (merged.now.taken ≡ [] → ⊥) → IsSwapped merged.now.taken (segments_shown self.now) (segments_shown s))) }
         ensures none { merged.now.taken ≡ [] → IfOk result (λ o. IfSome o (λ s. s ≡ self.now)) }
         ensures gone { IfOk result (λ o. o ≡ None → AreAmong self.now.published merged.now.taken → ⊥) }
     {
@@ -140,7 +142,7 @@ impl Showing {
         requires { are_taken taken.now.published ≡ true }
         ensures snapshot { IfOk result (λ o. IfSome o (λ s. s.snapshot ≡ self.now.snapshot)) }
         ensures there { IfOk result (λ o. IfSome o (λ s. AreAmong self.now.published taken.now.published)) }
-        ensures swapped { IfOk result (λ o. IfSome o (λ s. IsSwapped taken.now.published self.now.published s.published self.now.next)) }
+        ensures swapped { IfOk result (λ o. IfSome o (λ s. IsSwapped taken.now.published (segments_shown self.now) (segments_shown s))) }
         ensures gone { IfOk result (λ o. o ≡ None → AreAmong self.now.published taken.now.published → ⊥) }
     {
         match self.parts.swapped(alloc, self.next, taken.parts(), made)? {

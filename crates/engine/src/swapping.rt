@@ -130,7 +130,7 @@ pub(crate) fn split(alloc: Global, parts: &[Part], taken: &[Part]) -> Result<Hal
     let mut stay = Vec::new(alloc);
     let mut go = Vec::new(alloc);
     for part in parts {
-        let copy = part.copy(alloc)?;
+        let copy = part.copy()?;
         if is_among(taken, part) {
             go.push(copy)?;
         } else {

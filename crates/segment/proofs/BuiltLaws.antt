@@ -1,21 +1,16 @@
 -- Columns of the documents so far.
-use Rattle.std.proofs.Common.{◌≡◌, ◌<◌, ℕ, ℤ, zero, suc, Bool, true, false, ◌||◌, List, [], ◌∷◌, ◌++◌, length, map, replicate, refl, sym, ap, ◌∙◌, subst, slice_set, if◌then◌else◌, Option, Some, None, All, String, Box, Global, BTreeMap, option_map, true≢false}
-use Rattle.std.specs.Prelude.{IfSome, is_some}
-use Rattle.std.specs.BTreeMap as tree
-use Rattle.std.specs.Map.{update, lookup}
+use Rattle.std.proofs.Common.{◌≡◌, ◌<◌, ℕ, ℤ, zero, suc, Bool, true, false, ◌||◌, List, [], ◌∷◌, ◌++◌, length, map, replicate, refl, sym, ap, ◌∙◌, subst, slice_set, All}
+use Rattle.std.specs.Map.{lookup}
 use Rattle.std.specs.Ordering.{int_eq}
-use Rattle.std.proofs.lemmas.List.Elements.{All-push}
 use Rattle.std.specs.Option.{option_map_or}
-use Rattle.std.specs.Str.{bytes_eq}
-use Rattle.std.specs.Cmp.Lexicographic.{bytes_decides}
 use Rattle.std.proofs.lemmas.List.{length-set}
 use Rattle.doc.specs.Fields.{Fields}
-use Rattle.doc.specs.Scalar.{Scalar, text, long, flag}
-use Rattle.doc.specs.Document.{Values, values_at}
+use Rattle.doc.specs.Scalar.{text, long, flag}
+use Rattle.doc.specs.Document.{Values}
 use Rattle.query.specs.Meaning.{terms_at}
 use Rattle.marks.specs.Lists.{marked, places, zip_with}
 use Rattle.segment.specs.Blocks.{AreBlocks}
-use Rattle.segment.specs.Indexed.{has_term, has_value, column_at, IsColumn, IsColumnOr, AreColumns}
+use Rattle.segment.specs.Indexed.{has_term, has_value, IsColumn}
 use Rattle.segment.specs.Places.{as_list, places_at_long, one_if}
 use Rattle.segment.specs.Posted.{IsPosted, IsEmptyMaking, IsFinished, places_so_far, with_if, set_if}
 use Rattle.segment.specs.declared.column.Column.{Column}
@@ -23,7 +18,6 @@ use Rattle.segment.specs.declared.making.Making.{Making}
 use Rattle.segment.proofs.Ahead.{with_if-below}
 use Rattle.segment.proofs.Steps.{places-push, places-below}
 use Rattle.segment.proofs.Zips.{marked-zip}
-use Rattle.segment.proofs.PostedLaws.{values_at-append}
 
 -- a column in the making that has the documents so far, of n in all
 pub record IsColumnOf (fields : Fields) (docs : List Values) (name : List ℕ) (n : ℕ) (c : Making) : Type 0 where
@@ -46,7 +40,7 @@ length-marked : (ms : List Bool) (ps : List ℕ) → length (marked ms ps) ≡ l
 length-marked ms [] = refl
 length-marked ms (p ∷ ps) = length-marked (slice_set ms p true) ps ∙ length-set ms p true
 
-length-replicate : (n : ℕ) → length (replicate n false) ≡ n
+pub length-replicate : (n : ℕ) → length (replicate n false) ≡ n
 length-replicate zero = refl
 length-replicate (suc n) = ap suc (length-replicate n)
 
@@ -119,48 +113,3 @@ IsColumnOf-all fields docs name n m c all is made = record {
   yes = made.yes ∙ all_marked (has_term fields name (flag true)) docs n m.yes all is.yes;
   no = made.no ∙ all_marked (has_term fields name (flag false)) docs n m.no all is.no;
 }
-
--- ---- the columns by their names
-
-module _ (fields : Fields) (docs : List Values) (old new : BTreeMap (String Global) (Box Column Global)) (name : List ℕ) (column : Box Column Global)
-    (sets : (w : List ℕ) → tree.get_by_text new w ≡ update bytes_eq (tree.get_by_text old) name (Some column) w) where
-  is_at : (w : List ℕ) (b : Bool) → bytes_eq name w ≡ b → IfSome (column_at old w) (IsColumn fields docs w) → IsColumn fields docs name column.value → IfSome (option_map (λ b. b.value) (if b then Some column else tree.get_by_text old w)) (IsColumn fields docs w)
-  is_at w true is before here = subst (λ v. IsColumn fields docs v column.value) ((bytes_decides name w).0 is) here
-  is_at w false is before here = before
-
-  -- the new column is one
-  pub columns-set : AreColumns fields docs old → IsColumn fields docs name column.value → AreColumns fields docs new
-  columns-set are here w = subst (λ (o : Option (Box Column Global)). IfSome (option_map (λ b. b.value) o) (IsColumn fields docs w)) (sym (sets w)) (is_at w (bytes_eq name w) refl (are w) here)
-
-  gone : (w : List ℕ) (b : Bool) → bytes_eq name w ≡ b → (if b then Some column else tree.get_by_text old w) ≡ None → (tree.get_by_text old w ≡ None) × (bytes_eq name w ≡ false)
-  gone w true is none = cc
-  gone w false is none = (none, is)
-
-  -- a field without a column had none before, and isn't this one
-  pub still-none : (w : List ℕ) → tree.get_by_text new w ≡ None → (tree.get_by_text old w ≡ None) × (bytes_eq name w ≡ false)
-  still-none w none = gone w (bytes_eq name w) refl (sym (sets w) ∙ none)
-
--- a field that has a column isn't one that has none
-pub not-this : (m : BTreeMap (String Global) (Box Column Global)) (name : List ℕ) → is_some (tree.get_by_text m name) ≡ true → (w : List ℕ) → tree.get_by_text m w ≡ None → bytes_eq name w ≡ false
-not-this m name there w none = by_test (bytes_eq name w) refl
-  where
-    by_test : (b : Bool) → bytes_eq name w ≡ b → b ≡ false
-    by_test true is = absurd (true≢false (sym there ∙ ap (λ v. is_some (tree.get_by_text m v)) ((bytes_decides name w).0 is) ∙ ap is_some none))
-    by_test false is = refl
-
--- one field more without a value
-pub none-more : (name : List ℕ) (fs : Values) (f : List ℕ × List Scalar) → values_at name fs ≡ [] → bytes_eq f.0 name ≡ false → values_at name (fs ++ f ∷ []) ≡ []
-none-more name fs f before other = values_at-append name fs (f ∷ []) ∙ ap (λ vs. vs ++ values_at name (f ∷ [])) before ∙ ap (λ b. if b then f.1 ++ [] else []) other
-
--- one document more without a value
-pub all-none-more : (name : List ℕ) (docs : List Values) (d : Values) → All (λ v. values_at name v ≡ []) docs → values_at name d ≡ [] → All (λ v. values_at name v ≡ []) (docs ++ d ∷ [])
-all-none-more name docs d all none = All-push (λ v. values_at name v ≡ []) docs d all none
-
--- each field has its column, or no document has a value in it
-pub column-or : (fields : Fields) (docs : List Values) (name : List ℕ) (o : Option (Box Column Global)) → IfSome (option_map (λ b. b.value) o) (IsColumn fields docs name) → (o ≡ None → All (λ d. values_at name d ≡ []) docs) → IsColumnOr fields docs name (option_map (λ b. b.value) o)
-column-or fields docs name None is none = none refl
-column-or fields docs name (Some c) is none = is
-
-pub map_twice : {A B C : Type 0} (f : B → C) (g : A → B) (xs : List A) → map (λ x. f (g x)) xs ≡ map f (map g xs)
-map_twice f g [] = refl
-map_twice f g (x ∷ xs) = ap (λ ys. f (g x) ∷ ys) (map_twice f g xs)

@@ -16,3 +16,5 @@ pub mod SpanLaws
 pub mod Blocked
 pub mod MergedLaws
 pub mod InOrder
+pub mod AddedLaws
+pub mod FinishLaws

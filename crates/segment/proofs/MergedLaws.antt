@@ -1,22 +1,13 @@
 -- Documents that are read again, and those that are live.
-use Rattle.std.proofs.Common.{◌≡◌, ◌<◌, ℕ, ◌+◌, zero, suc, Bool, true, false, List, [], ◌∷◌, ◌++◌, length, map, take, get_or, refl, sym, ap, ◌∙◌, arith, Ok}
+use Rattle.std.proofs.Common.{◌≡◌, ◌<◌, ℕ, ◌+◌, zero, suc, Bool, true, false, List, [], ◌∷◌, ◌++◌, length, take, get_or, sym, ap, ◌∙◌, arith, Ok}
 use Rattle.std.specs.Prelude.{if◌then◌else◌, slice_index_or}
 use Rattle.doc.specs.Mapping.{MappingData}
-use Rattle.doc.specs.Document.{DocData, doc_of, all_values}
+use Rattle.doc.specs.Document.{DocData, doc_of}
 use Rattle.segment.specs.Merged.{chosen, read_under}
 
 -- a document that was read has the values of its text
 pub doc_read : (m : MappingData) (s : List ℕ) (d : DocData) → doc_of m s ≡ Ok d → d.source ≡ s → d ≡ read_under m s
 doc_read m s d e is = rw e (ap (λ (t : List ℕ). let x : DocData = record { source = t; values = d.values } in x) is)
-
--- documents as they were read have the values of their sources
-pub read-values : (m : MappingData) (ss : List (List ℕ)) → map (λ (d : DocData). d.values) (map (read_under m) ss) ≡ map (λ (d : DocData). all_values m d.source) (map (read_under m) ss)
-read-values m [] = refl
-read-values m (s ∷ ss) = ap (λ vs. all_values m s ∷ vs) (read-values m ss)
-
-pub read-sources : (m : MappingData) (ss : List (List ℕ)) → map (λ (d : DocData). d.source) (map (read_under m) ss) ≡ ss
-read-sources m [] = refl
-read-sources m (s ∷ ss) = ap (λ ts. s ∷ ts) (read-sources m ss)
 
 one_later : (i : ℕ) → suc i + 1 ≡ suc (i + 1)
 one_later i = omega arith

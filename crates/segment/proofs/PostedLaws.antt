@@ -22,12 +22,12 @@ set_twice (suc at) [] = refl
 set_twice zero (m ∷ ms) = refl
 set_twice (suc at) (m ∷ ms) = ap (λ bs. m ∷ bs) (set_twice at ms)
 
-set_if-twice : (a b : Bool) (at : ℕ) (ms : List Bool) → set_if b at (set_if a at ms) ≡ set_if (a || b) at ms
+pub set_if-twice : (a b : Bool) (at : ℕ) (ms : List Bool) → set_if b at (set_if a at ms) ≡ set_if (a || b) at ms
 set_if-twice true true at ms = set_twice at ms
 set_if-twice true false at ms = refl
 set_if-twice false b at ms = refl
 
-length-set_if : (b : Bool) (at : ℕ) (ms : List Bool) → length (set_if b at ms) ≡ length ms
+pub length-set_if : (b : Bool) (at : ℕ) (ms : List Bool) → length (set_if b at ms) ≡ length ms
 length-set_if true at ms = length-set ms at true
 length-set_if false at ms = refl
 

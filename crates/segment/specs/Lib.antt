@@ -6,3 +6,4 @@ pub mod Spans
 pub mod Limits
 pub mod Blocks
 pub mod Merged
+pub mod Added

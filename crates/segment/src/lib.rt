@@ -1,9 +1,11 @@
 //! Segments: documents by the terms of their fields.
 #![tactic(auto)]
 
+mod adding;
 pub mod blocks;
 mod building;
 pub mod column;
+mod finishing;
 mod limits;
 mod making;
 pub mod merging;

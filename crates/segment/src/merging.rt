@@ -29,49 +29,47 @@ pub fn merge(
     requires { All (λ p. length p.live ≡ length (segment_in p).sources) parts.now }
     ensures { IfOk result (λ s. s ≡ record { mapping = arc_value mapping.now; sources = live_sources parts.now }) }
 {
-    let mut docs = Vec::new(alloc);
+    let mut sources = Vec::new(alloc);
     for part in parts {
-        read_live(alloc, mapping, &part.segment, &part.live, &mut docs)?;
+        copy_live(alloc, &part.segment, &part.live, &mut sources)?;
     }
-    if docs.len() >= MAX_DOCUMENTS {
+    if sources.len() >= MAX_DOCUMENTS {
         return Err(AllocError);
     }
-    let segment = Segment::build(alloc, mapping, &docs)?;
+    let segment = Segment::build(alloc, mapping, sources)?;
     Ok(segment)
 }
 
-/// Reads the live documents of a segment, and adds them to others.
-fn read_live(
+/// Adds the live documents of a segment to others.
+fn copy_live(
     alloc: Global,
-    mapping: &Mapping,
     segment: &Segment,
     live: &Marks,
-    docs: &mut Vec<Doc>,
+    sources: &mut Vec<Source>,
 ) -> Result<(), AllocError>
     requires { length live.now ≡ length segment.now.sources }
-    ensures { OnOk result (docs.new.items ≡ docs.old.items ++ map (read_under mapping.now) (chosen segment.now.sources live.now)) }
+    ensures { OnOk result (sources.new.items ≡ sources.old.items ++ chosen segment.now.sources live.now) }
 {
     let _few = segment.len();
     let mut at = 0u32;
     for source in segment.sources() {
-        read_if(alloc, mapping, source, live.get(at), docs)?;
+        copy_if(alloc, source, live.get(at), sources)?;
         at += 1;
     }
     Ok(())
 }
 
-/// Reads a document that is wanted, and adds it to others.
-fn read_if(
+/// Adds a document that is wanted to others.
+fn copy_if(
     alloc: Global,
-    mapping: &Mapping,
     source: &Source,
     wanted: bool,
-    docs: &mut Vec<Doc>,
+    sources: &mut Vec<Source>,
 ) -> Result<(), AllocError>
-    ensures { OnOk result (docs.new.items ≡ docs.old.items ++ map (read_under mapping.now) (if wanted then source.now ∷ [] else [])) }
+    ensures { OnOk result (sources.new.items ≡ sources.old.items ++ (if wanted then source.now ∷ [] else [])) }
 {
     if wanted {
-        docs.push(read_kept(alloc, mapping, source)?)?;
+        sources.push(source.copy(alloc)?)?;
     }
     Ok(())
 }

@@ -117,7 +117,7 @@ fn post_cut(alloc: Global, making: &mut Making, value: &Scalar, at: u32) -> Resu
 }
 
 /// Posts the terms of some values.
-fn post_values(
+pub(crate) fn post_values(
     alloc: Global,
     making: &mut Making,
     kind: Kind,
@@ -131,40 +131,4 @@ fn post_values(
         post_value(alloc, making, kind, value, at)?;
     }
     Ok(())
-}
-
-/// Posts the terms that the fields of a document with the name have.
-pub(crate) fn post_fields(
-    alloc: Global,
-    making: &mut Making,
-    kind: Kind,
-    name: &str,
-    fields: &[FieldValues],
-    at: u32,
-) -> Result<(), AllocError>
-    requires { IsRoomFor at making.old }
-    ensures { OnOk result (IsPosted (terms_by (Some kind) (values_at name.now (values_view fields.now))) at making.old making.new) }
-{
-    for field in fields {
-        post_field(alloc, making, kind, name, field, at)?;
-    }
-    Ok(())
-}
-
-/// Posts the terms of a field, where it has the name.
-fn post_field(
-    alloc: Global,
-    making: &mut Making,
-    kind: Kind,
-    name: &str,
-    field: &FieldValues,
-    at: u32,
-) -> Result<(), AllocError>
-    requires { IsRoomFor at making.old }
-    ensures { OnOk result (IsPosted (terms_by (Some kind) (values_at name.now (field_values_view field.now ∷ []))) at making.old making.new) }
-{
-    if field.name.as_str() != name {
-        return Ok(());
-    }
-    post_values(alloc, making, kind, &field.values, at)
 }

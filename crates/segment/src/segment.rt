@@ -17,7 +17,7 @@ use crate::column::Column;
 use crate::limits::Limits;
 use crate::term::Term;
 use crate::{building, spans, term};
-use doc::{Doc, Mapping, Scalar, Source};
+use doc::{Mapping, Scalar, Source};
 use marks::Marks;
 use query::Bounds;
 use std::alloc::{AllocError, Global};
@@ -51,18 +51,16 @@ impl Model for Segment {
 }
 
 impl Segment {
-    /// The segment of documents that were read under the mapping, fewer than 2^32.
+    /// The segment of documents that have these texts, read under the mapping, fewer than 2^32.
     pub fn build(
         alloc: Global,
         mapping: &Arc<Mapping, Global>,
-        docs: &[Doc],
+        sources: Vec<Source>,
     ) -> Result<Segment, AllocError>
-        requires few { length docs.now < 2 ^ 32 }
-        requires read { map (λ d. d.values) docs.now ≡ map (λ d. all_values (arc_value mapping.now) d.source) docs.now }
-        ensures { IfOk result (λ s. s ≡ record { mapping = arc_value mapping.now; sources = map (λ d. d.source) docs.now }) }
+        requires { length sources.items < 2 ^ 32 }
+        ensures { IfOk result (λ s. s ≡ record { mapping = arc_value mapping.now; sources = sources.items }) }
     {
-        let columns = building::columns_of(alloc, mapping, docs)?;
-        let sources = building::sources_of(alloc, docs)?;
+        let columns = building::columns_of(alloc, mapping, &sources)?;
         let mapping = Arc::try_clone(mapping)?;
         Ok(Segment {
             mapping,

@@ -1,12 +1,11 @@
-use Rattle.std.proofs.Common.{◌≡◌, ℕ, List, [], None, map, take, All}
-use Rattle.std.specs.BTreeMap as tree
-use Rattle.doc.specs.Document.{values_at}
-use Rattle.segment.specs.Indexed.{AreColumns}
+use Rattle.std.proofs.Common.{◌≡◌, map, take, length}
+use Rattle.doc.specs.Document.{all_values}
+use Rattle.segment.proofs.AddedLaws.{AreMakings}
 use Rattle.segment.proofs.building.columns_of.Given as goal
 
--- the fields of the documents so far have their columns
-abbrev pub invariant-loop-doc : goal.invariant-loop-doc
-invariant-loop-doc l = record {
-  are : AreColumns l.mapping.fields (map (λ d. d.values) l.docs) l.columns;
-  none : (n : List ℕ) → tree.get_by_text l.columns n ≡ None → All (λ d. values_at n d ≡ []) (map (λ d. d.values) (take l.doc-index l.docs));
+-- the columns have the documents so far
+abbrev pub invariant-loop-source : goal.invariant-loop-source
+invariant-loop-source l = record {
+  count : l.at ≡ l.source-index;
+  so_far : AreMakings l.mapping.fields (map (all_values l.mapping) (take l.source-index l.sources)) (length l.sources) l.makings;
 }

@@ -5,8 +5,8 @@ use Rattle.op.specs.Records.{operations, shown}
 use Rattle.engine.specs.Answer.{SnapshotData}
 use Rattle.engine.specs.Contents.{EngineData, ShowingData}
 use Rattle.engine.specs.Entry.{entry_view}
-use Rattle.engine.specs.Published.{Published, AreAmong}
-use Rattle.engine.proofs.PublishedLaws.{AreNumbered, old-numbered, old-among, fronted-numbered, fronted-among}
+use Rattle.engine.specs.Published.{Published, AreAmong, IsFronted}
+use Rattle.engine.proofs.PublishedLaws.{fronted-alone, fronted-none, old-among}
 use Rattle.engine.proofs.RefreshLaws.{refreshed, only_among}
 use Rattle.engine.proofs.engine.Engine.refreshed.Goals as goal
 
@@ -34,8 +34,7 @@ returns-clause-snapshot c =
 pub returns-then-len-self-clause-numbers : goal.returns-then-len-self-clause-numbers
 returns-then-len-self-clause-numbers c =
     let e = c.args.self.now in
-    let same : c.in_ok-showing.showing.published ≡ e.published = ap (λ (s : ShowingData). s.published) c.in_ok-showing.ensures ∙ ap (λ (e : EngineData). e.published) c.self.view_is in
-    subst (λ (ss : List Published). AreNumbered e.published e.next ss) (sym same) (old-numbered e.published e.next)
+    fronted-none e.next e.published c.in_ok-showing.showing.published (ap (λ (s : ShowingData). s.published) c.in_ok-showing.ensures ∙ ap (λ (e : EngineData). e.published) c.self.view_is)
 
 pub returns-then-len-self-clause-kept : goal.returns-then-len-self-clause-kept
 returns-then-len-self-clause-kept c =
@@ -43,18 +42,22 @@ returns-then-len-self-clause-kept c =
     let same : c.in_ok-showing.showing.published ≡ e.published = ap (λ (s : ShowingData). s.published) c.in_ok-showing.ensures ∙ ap (λ (e : EngineData). e.published) c.self.view_is in
     λ none ops. subst (λ (ss : List Published). AreAmong ss e.published) (sym same) (old-among e.published)
 
--- segments that come bear the next number
+-- a segment that comes bears the next number
 pub returns-clause-numbers : goal.returns-clause-numbers
 returns-clause-numbers c =
-    let before = c.self.inside.showing in
-    subst (λ (e : EngineData). AreNumbered e.published e.next c.in_ok-showing-3.showing.published) c.self.view_is
-    (fronted-numbered c.args.joins before.published c.in_ok-showing-3.showing.published before.next c.in_ok-showing-3.ensures.published)
+    subst (λ (e : EngineData). IsFronted e.next e.published c.in_ok-showing-3.showing.published) c.self.view_is c.in_ok-showing-3.ensures.published
 
 pub returns-clause-rises : goal.returns-clause-rises
 returns-clause-rises c = subst (λ (e : EngineData). e.next ≤ c.in_ok-showing-3.showing.next) c.self.view_is c.in_ok-showing-3.ensures.rises
 
 pub returns-clause-kept : goal.returns-clause-kept
 returns-clause-kept c =
+    λ none ops. subst (λ (e : EngineData). AreAmong c.in_ok-showing-3.showing.published e.published) c.self.view_is (c.in_ok-showing-3.ensures.kept none)
+
+-- where more than ids changed one comes, and all others go
+pub returns-in_default-clause-numbers : goal.returns-in_default-clause-numbers
+returns-in_default-clause-numbers c =
     let before = c.self.inside.showing in
-    λ none ops. subst (λ (e : EngineData). AreAmong c.in_ok-showing-3.showing.published e.published) c.self.view_is
-    (fronted-among c.args.joins before.published c.in_ok-showing-3.showing.published before.next c.in_ok-showing-3.ensures.published none)
+    let made = c.in_ok-showing-2.ensures in
+    subst (λ (e : EngineData). IsFronted e.next e.published c.in_ok-showing-2.showing.published) c.self.view_is
+    (fronted-alone before.next before.published c.in_ok-showing-2.showing.published _ (ap (λ (s : ShowingData). s.published) made) c.next-next.ensures.is)

@@ -9,5 +9,5 @@ use Rattle.engine.proofs.part.Part.of.Goals as goal
 pub returns : goal.returns
 returns c =
     let all = c.in_ok-live.ensures ∙ ap (λ n. replicate n true) c.len.ensures.is in
-    rw (c.in_ok-block-2.ensures.ok, all, chosen-all c.in_ok-block.block.documents)
+    rw (c.in_ok-block-2.ensures.ok, c.in_ok-live-2.ensures.ok, all, chosen-all c.in_ok-block.block.documents)
     (ap (λ (b : SnapshotData). let p : PartData = record { mapping = b.mapping; documents = b.documents; number = c.args.number; built = b.documents } in p) c.in_ok-block.ensures)

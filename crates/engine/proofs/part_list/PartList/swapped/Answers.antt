@@ -53,7 +53,7 @@ returns-clause-swapped c =
     let split = rw c.deref-2.ensures.value at c.in_ok-halves.ensures in
     let shows = rw c.deref-3.ensures.value at c.in_ok-part.ensures.documents in
     rw c.in_ok-push.ensures.items
-    (subst (λ (l : PartListData). IsReplaced taken l.published (all_published (stay ++ c.in_ok-part.part ∷ [])) c.args.number) c.self.view_is
+    (subst (λ (l : PartListData). IsReplaced taken c.args.number l.mapping l.published (all_published (stay ++ c.in_ok-part.part ∷ []))) c.self.view_is
     (replaced (arc_value c.self.inside.mapping) taken ps stay go c.in_ok-part.part split c.self.invariant c.in_ok-part.ensures.mapping shows c.args.number c.in_ok-part.ensures.number))
 
 pub returns-then-not-are_among-clause-gone : goal.returns-then-not-are_among-clause-gone

@@ -1,13 +1,12 @@
-use Rattle.std.proofs.Common.{◌≡◌, ◌<◌, ◌≤◌, ◌∙◌, List, [], ◌∷◌, refl, ap, sym, arith, map, drop, length}
+use Rattle.std.proofs.Common.{◌≡◌, ◌<◌, ◌≤◌, ◌∙◌, List, [], ◌∷◌, refl, ap, sym, subst, arith, map, drop, length}
 use Rattle.std.specs.Arc.{arc_value}
 use Rattle.std.proofs.lemmas.List.{drop-map}
 use Rattle.engine.specs.Entry.{entry_view}
 use Rattle.engine.specs.Parts.{PartListData, all_published, merged, published_of, without}
-use Rattle.engine.specs.Published.{Published}
+use Rattle.engine.specs.Published.{Published, AreAmong}
 use Rattle.engine.proofs.SnapshotLaws.{newer-in_order, front-parts, front-woven, left-parts, left-woven}
-use Rattle.std.proofs.lemmas.List.Elements.{All-nil}
 use Rattle.engine.proofs.PartLaws.{empty}
-use Rattle.engine.proofs.PublishedLaws.{all-one}
+use Rattle.engine.proofs.PublishedLaws.{all-one, fronted-among, fronted-none, old-among}
 use Rattle.engine.proofs.part_list.PartList.with.Goals as goal
 
 none_mapped : {A B : Type 0} (f : A → B) (xs : List A) → length xs ≤ 0 → map f xs ≡ []
@@ -43,13 +42,11 @@ returns-then-is_empty-clause-documents c =
 
 pub returns-then-is_empty-clause-published : goal.returns-then-is_empty-clause-published
 returns-then-is_empty-clause-published c =
-    record {
-      front = [];
-      joined = 0;
-      is = c.in_ok-newer.ensures.published ∙ ap all_published c.deref.ensures.value ∙ ap (λ (l : PartListData). l.published) c.self.view_is;
-      numbers = All-nil (λ (s : Published). s.number ≡ c.args.number);
-      all = λ none. refl;
-    }
+    fronted-none c.args.number c.args.self.now.published (all_published c.in_ok-newer.newer.items) (c.in_ok-newer.ensures.published ∙ ap all_published c.deref.ensures.value ∙ ap (λ (l : PartListData). l.published) c.self.view_is)
+
+pub returns-then-is_empty-clause-kept : goal.returns-then-is_empty-clause-kept
+returns-then-is_empty-clause-kept c =
+    λ none. subst (λ (ss : List Published). AreAmong ss c.args.self.now.published) (sym (c.in_ok-newer.ensures.published ∙ ap all_published c.deref.ensures.value ∙ ap (λ (l : PartListData). l.published) c.self.view_is)) (old-among c.args.self.now.published)
 
 -- the new part stands in front of the others
 pub invariant_of-result-2 : goal.invariant_of-result-2
@@ -91,6 +88,16 @@ returns-clause-published c =
       front = published_of p ∷ [];
       joined = n;
       is = items ∙ ap (λ ss. published_of p ∷ ss) (sym (drop-map published_of n qs)) ∙ ap (λ ss. published_of p ∷ drop n ss) same;
+      one = omega arith;
       numbers = all-one (λ (s : Published). s.number ≡ c.args.number) (published_of p) c.in_ok-part.ensures.number;
-      all = c.taken_if-taken.ensures.none;
     }
+
+-- where none is joined each is there still
+pub returns-clause-kept : goal.returns-clause-kept
+returns-clause-kept c =
+    let qs = c.in_ok-newer.newer.items in
+    let n = c.taken_if-taken.result in
+    let p = c.in_ok-part.part in
+    let same : all_published qs ≡ c.args.self.now.published = c.in_ok-newer.ensures.published ∙ ap all_published c.deref.ensures.value ∙ ap (λ (l : PartListData). l.published) c.self.view_is in
+    let items = ap all_published (c.in_ok-insert.ensures.items ∙ ap (λ qs. p ∷ qs) c.in_ok-parts.ensures.tail) in
+    λ none. fronted-among (published_of p ∷ []) c.args.self.now.published _ n (items ∙ ap (λ ss. published_of p ∷ ss) (sym (drop-map published_of n qs)) ∙ ap (λ ss. published_of p ∷ drop n ss) same) (c.taken_if-taken.ensures.none none)

@@ -1,9 +1,19 @@
-use Rattle.std.proofs.Common.{◌≡◌, ap, sym, subst, List}
+use Rattle.std.proofs.Common.{◌≡◌, ◌∙◌, ap, sym, subst}
 use Rattle.std.specs.Arc.{arc_value}
-use Rattle.engine.specs.Contents.{ShowingData}
-use Rattle.engine.specs.Published.{Published, AreAmong, IsSwapped}
-use Rattle.engine.proofs.PublishedLaws.{swapped}
+use Rattle.doc.specs.Mapping.{MappingData}
+use Rattle.engine.specs.Answer.{SnapshotData}
+use Rattle.engine.specs.Contents.{ShowingData, segments_shown}
+use Rattle.engine.specs.Published.{Segments, AreAmong, AreBelow, IsSwapped}
+use Rattle.engine.proofs.PublishedLaws.{below-numbered, replaced-numbered, swapped}
 use Rattle.engine.proofs.showing.Showing.swapped_by.Goals as goal
+
+-- the number of the merged segment isn't given again
+pub shown-requires : goal.shown-requires
+shown-requires c =
+    let before = arc_value c.self.inside.parts in
+    let replaced = rw (c.in-Some.is, c.deref.ensures, c.parts.ensures) at c.in_ok-parts.ensures.swapped in
+    subst (λ n. AreBelow n c.in-Some.parts.published) (sym c.saturating_add.ensures)
+    (below-numbered before.published c.in-Some.parts.published c.self.inside.next c.self.invariant.below (replaced-numbered c.args.taken.now.published c.self.inside.next before.mapping before.published c.in-Some.parts.published replaced))
 
 pub returns-in_ok-showing-in-Some-clause-there : goal.returns-in_ok-showing-in-Some-clause-there
 returns-in_ok-showing-in-Some-clause-there c =
@@ -14,15 +24,15 @@ returns-in_ok-showing-in-Some-clause-there c =
 pub returns-in_ok-showing-in-Some-clause-swapped : goal.returns-in_ok-showing-in-Some-clause-swapped
 returns-in_ok-showing-in-Some-clause-swapped c =
     let taken = c.args.taken.now.published in
-    let old = (arc_value c.self.inside.parts).published in
-    let new = c.in-Some.parts.published in
-    let number = c.self.inside.next in
+    let old : Segments = record { mapping = (arc_value c.self.inside.parts).mapping; published = (arc_value c.self.inside.parts).published; next = c.self.inside.next } in
+    let new : Segments = record { mapping = c.in-Some.parts.mapping; published = c.in-Some.parts.published; next = c.saturating_add.result } in
     let there = rw (c.in-Some.is, c.deref.ensures, c.parts.ensures) at c.in_ok-parts.ensures.there in
     let replaced = rw (c.in-Some.is, c.deref.ensures, c.parts.ensures) at c.in_ok-parts.ensures.swapped in
-    let same : c.in_ok-showing-in-Some.showing.published ≡ new = ap (λ (e : ShowingData). e.published) c.in_ok-showing-in-Some.ensures in
-    subst (λ (ss : List Published). IsSwapped taken c.args.self.now.published ss c.args.self.now.next) (sym same)
-    (subst (λ (e : ShowingData). IsSwapped taken e.published new e.next) c.self.view_is
-    (swapped taken old new number c.requires c.self.invariant.below there replaced))
+    let was : old ≡ segments_shown c.args.self.now = ap (λ (m : MappingData). let o : Segments = record old { mapping = m } in o) (ap (λ (s : SnapshotData). s.mapping) (sym c.self.invariant.same)) ∙ ap segments_shown c.self.view_is in
+    let is : new ≡ segments_shown c.in_ok-showing-in-Some.showing = ap segments_shown (sym c.in_ok-showing-in-Some.ensures) in
+    subst (λ (s : Segments). IsSwapped taken (segments_shown c.args.self.now) s) is
+    (subst (λ (o : Segments). IsSwapped taken o new) was
+    (swapped taken old new c.requires c.self.invariant.below there replaced c.saturating_add.ensures))
 
 pub returns-in-None-clause-gone : goal.returns-in-None-clause-gone
 returns-in-None-clause-gone c =

@@ -1,0 +1,39 @@
+//! Columns that have all documents.
+ghost use Rattle.std.specs.Prelude.{◌<◌, ℕ, ℤ, List, All, IfOk, IfSome, OnOk};
+ghost use Rattle.segment.specs.Added.{making_at, AreFinished, HaveFewPlaces};
+ghost use Rattle.segment.specs.Indexed.{column_at};
+ghost use Rattle.segment.specs.Places.{places_at_long};
+ghost use Rattle.segment.specs.Posted.{IsFinished};
+
+use crate::column::Column;
+use crate::making::Making;
+use std::alloc::{AllocError, Global};
+use std::collections::BTreeMap;
+
+/// The columns of so many documents.
+pub(crate) fn finish_all(
+    alloc: Global,
+    makings: BTreeMap<String, Box<Making>>,
+    len: usize,
+) -> Result<BTreeMap<String, Box<Column>>, AllocError>
+    requires { HaveFewPlaces len makings }
+    ensures { IfOk result (AreFinished len makings) }
+{
+    let mut left = makings;
+    let mut columns = BTreeMap::new(alloc);
+    while let Some((name, making)) = left.pop_first() {
+        let column = finished(alloc, making, len)?;
+        columns.insert(name, column)?;
+    }
+    Ok(columns)
+}
+
+/// One column.
+fn finished(alloc: Global, making: Box<Making>, len: usize) -> Result<Box<Column>, AllocError>
+    requires { (z : ℤ) → All (λ p. p < len) (places_at_long making.value.longs z) }
+    ensures { IfOk result (λ b. IsFinished len making.value b.value) }
+{
+    let column = Box::into_inner(making).finish(alloc, len)?;
+    let boxed = Box::new(alloc, column)?;
+    Ok(boxed)
+}
