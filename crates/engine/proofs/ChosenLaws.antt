@@ -18,7 +18,7 @@ use Rattle.doc.specs.Id.{Id, id_cmp, is_id}
 use Rattle.op.specs.Documents.{Documents}
 use Rattle.segment.specs.Merged.{chosen}
 use Rattle.engine.specs.Parts.{is_among}
-use Rattle.engine.proofs.PartLaws.{Item, true_T, both, first, second, less, turned}
+use Rattle.engine.proofs.PartLaws.{Item, true_T, both, first, second, head_is, tail_is, less, turned}
 
 slice_after : {A : Type 0} (front : List A) (x : A) (rest : List A) (n : ℕ) → n ≡ length front → slice_get (front ++ x ∷ rest) n ≡ Some x
 slice_after [] x rest zero is = refl
@@ -180,11 +180,5 @@ marks-more ids i id lt is (d ∷ ds) =
 pub same-at : {A B : Type 0} (f : A → B) (xs ys : List A) (i : ℕ) (x y : A) → i < length xs → i < length ys → x ≡ get_or xs i x → y ≡ get_or ys i y → map f xs ≡ map f ys → f x ≡ f y
 same-at f [] ys i x y lt ly is iy same = absurd (omega (arith, lt))
 same-at f (a ∷ xs) [] i x y lt ly is iy same = absurd (omega (arith, ly))
-same-at f (a ∷ xs) (b ∷ ys) zero x y lt ly is iy same = ap f is ∙ heads (f a) (f b) (map f xs) (map f ys) same ∙ ap f (sym iy)
-  where
-    heads : {C : Type 0} (p q : C) (ps qs : List C) → p ∷ ps ≡ q ∷ qs → p ≡ q
-    heads p q ps qs same = cc
-same-at f (a ∷ xs) (b ∷ ys) (suc i) x y lt ly is iy same = same-at f xs ys i x y (omega (arith, lt)) (omega (arith, ly)) is iy (tails (f a) (f b) (map f xs) (map f ys) same)
-  where
-    tails : {C : Type 0} (p q : C) (ps qs : List C) → p ∷ ps ≡ q ∷ qs → ps ≡ qs
-    tails p q ps qs same = cc
+same-at f (a ∷ xs) (b ∷ ys) zero x y lt ly is iy same = ap f is ∙ head_is (f a) (f b) (map f xs) (map f ys) same ∙ ap f (sym iy)
+same-at f (a ∷ xs) (b ∷ ys) (suc i) x y lt ly is iy same = same-at f xs ys i x y (omega (arith, lt)) (omega (arith, ly)) is iy (tail_is (f a) (f b) (map f xs) (map f ys) same)

@@ -102,7 +102,7 @@ find-merged (d ∷ ds) es q =
     find-put id_cmp nat_list_cmp_total q d.0 d.1 (merged ds es)
     ∙ elim (is_id q d.0) as (λ b. cond b (Some d.1) (document_at (merged ds es) q) ≡ option_or (cond b (Some d.1) (document_at ds q)) (document_at es q)) [ true ↦ refl | false ↦ find-merged ds es q ]
 
-or_none : {A : Type 0} (o : Option A) → o ≡ option_or o None
+pub or_none : {A : Type 0} (o : Option A) → o ≡ option_or o None
 or_none None = refl
 or_none (Some x) = refl
 

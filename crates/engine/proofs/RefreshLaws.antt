@@ -21,7 +21,7 @@ use Rattle.op.specs.Documents.{Document, Documents, document_at, documents, docu
 use Rattle.op.specs.Operations.{placed, add, op_at, is_on, last_on}
 use Rattle.op.proofs.DocumentLaws.{document_at-documents, is_sorted-documents}
 use Rattle.engine.specs.Parts.{merged, without, is_among, has_id}
-use Rattle.engine.proofs.PartLaws.{true_T, T_true, find-merged, in_order-merged}
+use Rattle.engine.proofs.PartLaws.{true_T, T_true, find-merged, in_order-merged, or_none}
 use Rattle.engine.proofs.ApartLaws.{find-without}
 
 none_of : (b : Bool) (l : Option Op) (o : Op) → b ≡ false → option_or l (if b then Some o else None) ≡ l
@@ -59,11 +59,7 @@ module _ (new old : List Op) (ids : List Id) (es : Documents) (sorted : is_sorte
     (at : (id : Id) → document_at es id ≡ (if is_among ids id then document_at (documents new) id else None)) where
   joined_at : (id : Id) (b : Bool) → (b ≡ false → last_on new id ≡ last_on old id)
       → option_or (if b then document_at (documents new) id else None) (cond (not b) (document_at (documents old) id) None) ≡ document_at (documents new) id
-  joined_at id true same = or_none (document_at (documents new) id)
-    where
-      or_none : (o : Option Document) → option_or o None ≡ o
-      or_none None = refl
-      or_none (Some d) = refl
+  joined_at id true same = sym (or_none (document_at (documents new) id))
   joined_at id false same = document_at-documents old id ∙ ap document_of (sym (same refl)) ∙ sym (document_at-documents new id)
 
   -- with the others as they were they are the documents of all

@@ -17,7 +17,7 @@ use Rattle.doc.specs.Mapping.{MappingData}
 use Rattle.op.specs.Documents.{Documents, document_at}
 use Rattle.engine.specs.Parts.{PartData, all_published, documents_of_parts, published_of, woven, merged, has_id, times, AreParts, AllInOrder, IsSplit, none, stays, goes}
 use Rattle.engine.specs.Published.{Published, IsLeft, IsReplaced, nothing, remains, was_taken}
-use Rattle.engine.proofs.PartLaws.{T_true, find-merged, head_is, in_order-merged, or_or, tail_is}
+use Rattle.engine.proofs.PartLaws.{T_true, find-merged, head_is, in_order-merged, or_none, or_or, tail_is}
 use Rattle.engine.proofs.ApartLaws.{has-woven, in_order-woven, none_has}
 
 -- ---- one part more behind others
@@ -61,10 +61,6 @@ mappings-front m (q ∷ qs) p same =
     (ap (λ x. x ∷ map (λ (p : PartData). p.mapping) qs) (head_is _ _ _ _ same) ∙ ap (λ xs. m ∷ xs) rest.0, rest.1)
 
 -- ---- two halves
-
-or_none : {A : Type 0} (o : Option A) → o ≡ option_or o None
-or_none None = refl
-or_none (Some x) = refl
 
 swapped_or : {A : Type 0} (a b c : Option A) → (is_some b ≡ true → c ≡ None) → option_or (option_or a b) c ≡ option_or (option_or a c) b
 swapped_or (Some x) b c apart = refl

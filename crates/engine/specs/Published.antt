@@ -61,7 +61,7 @@ pub record Segments : Type 0 where
   pub published : List Published
   pub next : ℕ
 
--- one segment, of the next number, stands for those that a merge took: none of these is published any more, and the number isn't given again
+-- one segment, of the next number, stands for those that a merge took: none of these is published any more, and the number isn't given again, unless it is the greatest
 pub record IsSwapped (taken : List Published) (old new : Segments) : Type 0 where
   pub replaced : IsReplaced taken old.next old.mapping old.published new.published
   pub gone : All (λ s. Contains new.published s → ⊥) taken

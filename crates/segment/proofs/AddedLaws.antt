@@ -6,6 +6,7 @@ use Rattle.std.specs.Map.{update}
 use Rattle.std.specs.Str.{bytes_eq}
 use Rattle.std.specs.Cmp.Lexicographic.{bytes_decides}
 use Rattle.std.proofs.lemmas.Bool.Decides.{nat_tests}
+use Rattle.std.proofs.lemmas.List.{length-replicate}
 use Rattle.std.proofs.lemmas.List.Elements.{All-push}
 use Rattle.doc.specs.Fields.{Fields, kind_at}
 use Rattle.doc.specs.Scalar.{Scalar, text, long, flag}
@@ -19,13 +20,9 @@ use Rattle.segment.specs.Places.{places_at_long}
 use Rattle.segment.specs.Posted.{IsPosted, IsRoomFor, IsEmptyMaking, set_if}
 use Rattle.segment.specs.declared.column.Column.{Column}
 use Rattle.segment.specs.declared.making.Making.{Making}
-use Rattle.segment.proofs.BuiltLaws.{IsColumnOf, IsColumnOf-all, IsColumnOf-empty, document-more, length-has, length-yes, length-no, length-replicate, number-places}
-use Rattle.segment.proofs.Columns.{none_text, none_value, places-none}
-use Rattle.segment.proofs.PostedLaws.{IsPosted-none, IsPosted-trans, length-set_if, no_values, set_if-twice, terms_by-append, values_at-append}
-
-no_terms : (k : Option Kind) → terms_by k [] ≡ []
-no_terms None = refl
-no_terms (Some k) = no_values k
+use Rattle.segment.proofs.BuiltLaws.{IsColumnOf, IsColumnOf-all, IsColumnOf-empty, document-more, length-has, length-yes, length-no, number-places}
+use Rattle.segment.proofs.Columns.{no_terms, none_text, none_value, places-none}
+use Rattle.segment.proofs.PostedLaws.{IsPosted-none, IsPosted-trans, length-set_if, set_if-twice, terms_by-append, values_at-append}
 
 all_terms : (k : Option Kind) (vs us : List Scalar) → terms_by k (vs ++ us) ≡ terms_by k vs ++ terms_by k us
 all_terms None vs us = refl
@@ -61,7 +58,7 @@ long-added n k vs at a b p marks = record {
 }
 
 pub long-empty : (n : ℕ) (m : Making) → IsEmptyMaking n m → IsLong n m
-long-empty n m none = record { has = ap length none.has ∙ length-replicate n; yes = ap length none.yes ∙ length-replicate n; no = ap length none.no ∙ length-replicate n }
+long-empty n m none = record { has = ap length none.has ∙ length-replicate n false; yes = ap length none.yes ∙ length-replicate n false; no = ap length none.no ∙ length-replicate n false }
 
 pub room : (n at : ℕ) (m : Making) → at < n → IsLong n m → IsRoomFor at m
 room n at m within marks = record { yes = omega (arith, within, marks.yes); no = omega (arith, within, marks.no) }

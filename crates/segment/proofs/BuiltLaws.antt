@@ -1,9 +1,9 @@
 -- Columns of the documents so far.
-use Rattle.std.proofs.Common.{◌≡◌, ◌<◌, ℕ, ℤ, zero, suc, Bool, true, false, ◌||◌, List, [], ◌∷◌, ◌++◌, length, map, replicate, refl, sym, ap, ◌∙◌, subst, slice_set, All}
+use Rattle.std.proofs.Common.{◌≡◌, ◌<◌, ℕ, ℤ, Bool, true, false, ◌||◌, List, [], ◌∷◌, ◌++◌, length, map, replicate, refl, sym, ap, ◌∙◌, subst, All}
 use Rattle.std.specs.Map.{lookup}
 use Rattle.std.specs.Ordering.{int_eq}
 use Rattle.std.specs.Option.{option_map_or}
-use Rattle.std.proofs.lemmas.List.{length-set}
+use Rattle.std.proofs.lemmas.List.{length-replicate}
 use Rattle.doc.specs.Fields.{Fields}
 use Rattle.doc.specs.Scalar.{text, long, flag}
 use Rattle.doc.specs.Document.{Values}
@@ -16,6 +16,7 @@ use Rattle.segment.specs.Posted.{IsPosted, IsEmptyMaking, IsFinished, places_so_
 use Rattle.segment.specs.declared.column.Column.{Column}
 use Rattle.segment.specs.declared.making.Making.{Making}
 use Rattle.segment.proofs.Ahead.{with_if-below}
+use Rattle.segment.proofs.Blocked.{length-marked, marked-append}
 use Rattle.segment.proofs.Steps.{places-push, places-below}
 use Rattle.segment.proofs.Zips.{marked-zip}
 
@@ -36,17 +37,9 @@ IsColumnOf-empty fields name n c is = record {
   no = is.no;
 }
 
-length-marked : (ms : List Bool) (ps : List ℕ) → length (marked ms ps) ≡ length ms
-length-marked ms [] = refl
-length-marked ms (p ∷ ps) = length-marked (slice_set ms p true) ps ∙ length-set ms p true
-
-pub length-replicate : (n : ℕ) → length (replicate n false) ≡ n
-length-replicate zero = refl
-length-replicate (suc n) = ap suc (length-replicate n)
-
 -- the marks are as many as the documents
 long-marks : (n : ℕ) (ms : List Bool) (ps : List ℕ) → ms ≡ marked (replicate n false) ps → length ms ≡ n
-long-marks n ms ps is = ap length is ∙ length-marked (replicate n false) ps ∙ length-replicate n
+long-marks n ms ps is = ap length is ∙ length-marked (replicate n false) ps ∙ length-replicate n false
 
 pub length-has : (fields : Fields) (docs : List Values) (name : List ℕ) (n : ℕ) (c : Making) → IsColumnOf fields docs name n c → length c.has ≡ n
 length-has fields docs name n c is = long-marks n c.has (places (has_value name) docs) is.has
@@ -56,10 +49,6 @@ length-yes fields docs name n c is = long-marks n c.yes (places (has_term fields
 
 pub length-no : (fields : Fields) (docs : List Values) (name : List ℕ) (n : ℕ) (c : Making) → IsColumnOf fields docs name n c → length c.no ≡ n
 length-no fields docs name n c is = long-marks n c.no (places (has_term fields name (flag false)) docs) is.no
-
-marked-append : (ms : List Bool) (ps qs : List ℕ) → marked ms (ps ++ qs) ≡ marked (marked ms ps) qs
-marked-append ms [] qs = refl
-marked-append ms (p ∷ ps) qs = marked-append (slice_set ms p true) ps qs
 
 one_mark : (b : Bool) (at : ℕ) (ms : List Bool) → set_if b at ms ≡ marked ms (one_if b at)
 one_mark true at ms = refl
@@ -96,7 +85,7 @@ from_none test (d ∷ docs) = ap (λ bs. test d ∷ bs) (from_none test docs)
 
 all_marked : (test : Values → Bool) (docs : List Values) (n : ℕ) (ms : List Bool) → n ≡ length docs → ms ≡ marked (replicate n false) (places test docs) → ms ≡ map test docs
 all_marked test docs n ms all is =
-    is ∙ ap (λ k. marked (replicate k false) (places test docs)) all ∙ marked-zip test (replicate (length docs) false) docs (length-replicate (length docs)) ∙ from_none test docs
+    is ∙ ap (λ k. marked (replicate k false) (places test docs)) all ∙ marked-zip test (replicate (length docs) false) docs (length-replicate (length docs) false) ∙ from_none test docs
 
 -- the places of a number are those of documents
 pub number-places : (fields : Fields) (docs : List Values) (name : List ℕ) (n : ℕ) (c : Making) → n ≡ length docs → IsColumnOf fields docs name n c → (z : ℤ) → All (λ p. p < n) (places_at_long c.longs z)

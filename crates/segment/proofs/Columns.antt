@@ -16,7 +16,7 @@ use Rattle.segment.proofs.Zips.{marked-zip, zip-test, zip-none, zip-map}
 use Rattle.segment.proofs.Steps.{places-below}
 
 -- no values give no terms
-no_terms : (k : Option Kind) → terms_by k [] ≡ []
+pub no_terms : (k : Option Kind) → terms_by k [] ≡ []
 no_terms None = refl
 no_terms (Some Keyword) = refl
 no_terms (Some Text) = refl

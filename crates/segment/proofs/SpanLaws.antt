@@ -46,11 +46,11 @@ gt_from_le Greater is = absurd (true≢false (sym is))
 both : (a b : Bool) → a ≡ true → b ≡ false → (a && not b) ≡ true
 both a b is isnt = ap (λ c. c && not b) is ∙ ap not isnt
 
-left : (a b : Bool) → (a && b) ≡ true → a ≡ true
+pub left : (a b : Bool) → (a && b) ≡ true → a ≡ true
 left true b is = refl
 left false b is = is
 
-right : (a b : Bool) → (a && b) ≡ true → b ≡ true
+pub right : (a b : Bool) → (a && b) ≡ true → b ≡ true
 right true b is = is
 right false b is = absurd (true≢false (sym is))
 

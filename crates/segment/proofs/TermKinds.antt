@@ -14,6 +14,7 @@ use Rattle.segment.specs.Term.{is_text, is_long, is_truth}
 use Rattle.segment.specs.Places.{as_list}
 use Rattle.segment.specs.declared.places.Places.{Places}
 use Rattle.segment.proofs.Prefixes.{any_kept}
+use Rattle.segment.proofs.SpanLaws.{left, right}
 use Rattle.segment.proofs.Listed.{bool_same, none_there, none_pass, every, always, swapped}
 
 -- the same scalar by its test
@@ -44,14 +45,6 @@ or-true false = refl
 both : (a b : Bool) → a ≡ true → b ≡ true → (a && b) ≡ true
 both true b p q = q
 both false b p q = p
-
-left : (a b : Bool) → (a && b) ≡ true → a ≡ true
-left true b is = refl
-left false b is = is
-
-right : (a b : Bool) → (a && b) ≡ true → b ≡ true
-right true b is = is
-right false b is = absurd (true≢false (sym is))
 
 -- one of two
 one_of : {G : Type 0} (a b : Bool) → (a || b) ≡ true → (a ≡ true → G) → (b ≡ true → G) → G

@@ -47,6 +47,7 @@ pub record IsLong (n : ℕ) (m : Making) : Type 0 where
   pub yes : length m.yes ≡ n
   pub no : length m.no ≡ n
 
+-- each column has
 abbrev pub AreLong : ℕ → BTreeMap (String Global) (Box Making Global) → Type 0
 AreLong n ms = (name : List ℕ) → IfSome (making_at ms name) (IsLong n)
 
@@ -54,6 +55,7 @@ AreLong n ms = (name : List ℕ) → IfSome (making_at ms name) (IsLong n)
 abbrev pub HaveFewPlaces : ℕ → BTreeMap (String Global) (Box Making Global) → Type 0
 HaveFewPlaces n ms = (name : List ℕ) → IfSome (making_at ms name) (λ m. (z : ℤ) → All (λ p. p < n) (places_at_long m.longs z))
 
+-- a field has a column where it had one in the making
 abbrev pub IsFinishedOr : ℕ → Option Making → Option Column → Type 0
 IsFinishedOr n None None = Unit {0}
 IsFinishedOr n None (Some c) = ⊥
