@@ -1,7 +1,9 @@
 //! Documents.
-ghost use Rattle.std.specs.Prelude.{◌≡◌, ◌++◌, IfOk, OnOk, IfErr, IfSome, IsErr, option_map, []};
+ghost use Rattle.std.specs.Prelude.{◌≡◌, ◌++◌, ◌∷◌, ◌==◌, IfOk, OnOk, IfErr, IfSome, IsErr, option_map, [], Ok, string_bytes};
 ghost use Rattle.serde_json.specs.View.{view, members_view, items_view};
 ghost use Rattle.doc.specs.Outcome.{Gives, some_list};
+ghost use Rattle.doc.specs.Fields.{subject_at};
+ghost use Rattle.doc.specs.Mapping.{within};
 ghost use Rattle.doc.specs.Entries.{elements};
 ghost use Rattle.doc.specs.Fault.{fault_of, wrong_value as wrong_value_of, unmapped as unmapped_of};
 ghost use Rattle.doc.specs.Scalar as scalar;
@@ -9,13 +11,16 @@ ghost use Rattle.doc.specs.Document as spec;
 ghost use Rattle.doc.specs.ScalarView.{scalar_view, scalars_view, field_values_view, values_view};
 
 use crate::fault::DocFault;
-use crate::mapping::{Kind, Mapping};
+use crate::mapping::{Kind, Mapping, Subject};
 use crate::scalar::{Converted, FieldValues, Scalar, convert};
 use crate::source::{MAX_SOURCE, Source};
 use serde_json::{Map, Value};
 use std::alloc::{AllocError, Global};
 use std::marker::Model;
 use std::{slice, str};
+
+/// How many objects may nest in one another, the document among them.
+const MAX_LEVELS: usize = 20;
 
 /// A source, and its values under the mapping that it was read by.
 #[derive(Drop)]
@@ -35,7 +40,7 @@ impl Model for Doc {
 
 impl Doc {
     /// The document that some bytes are: a JSON object of at most 65,536 bytes that fits the mapping.
-    /// Else the first fault, in the order size, JSON, object, and then its fields in byte order of their names.
+    /// Else the first fault, in the order size, JSON, object, and then its values, in byte order of the keys, what an object holds in its key's place.
     #[tactic(auto, unfolding(crate::specs::Document::doc_of))]
     pub fn read(alloc: Global, mapping: &Mapping, bytes: &[u8]) -> Result<Doc, DocFault>
         ensures reads { Gives fault_of (λ d. d) result (spec.doc_of mapping.now bytes.now) }
@@ -67,7 +72,8 @@ impl Doc {
         })
     }
 
-    /// The mapped fields that the document has, in byte order of their names.
+    /// The mapped paths that the document has, in byte order of the keys, what an object holds in its key's place. A path that
+    /// several places give comes once for each.
     pub fn fields(&self) -> &[FieldValues]
         ensures { values_view result.now ≡ self.now.values }
     {
@@ -119,36 +125,203 @@ fn fields_of(
     ensures { Gives fault_of (λ v. values_view v.items) result
         (spec.fields_of mapping.now (members_view members.now.entries)) }
 {
+    let mut path = String::new(alloc);
+    members_from(alloc, mapping, MAX_LEVELS, &mut path, members)
+}
+
+/// What the members of an object give, where so many levels are left; `path` stands in front of their keys, and is the same at the end.
+#[cycle(walk)]
+#[tactic(auto, unfolding(crate::specs::Document::members_from))]
+fn members_from(
+    alloc: Global,
+    mapping: &Mapping,
+    room: usize,
+    path: &mut String,
+    members: &Map<String, Value>,
+) -> Result<Vec<FieldValues>, DocFault>
+    ensures gives { Gives fault_of (λ v. values_view v.items) result
+        (spec.members_from mapping.now room (string_bytes path.old) (members_view members.now.entries)) }
+    ensures path { OnOk result (string_bytes path.new ≡ string_bytes path.old) }
+{
+    if room == 0 {
+        return Err(DocFault::TooDeep);
+    }
+    let room = room - 1;
+    places_in(alloc, mapping, room, path, members)
+}
+
+/// The same, where so many levels are left below.
+#[cycle(walk)]
+fn places_in(
+    alloc: Global,
+    mapping: &Mapping,
+    room: usize,
+    path: &mut String,
+    members: &Map<String, Value>,
+) -> Result<Vec<FieldValues>, DocFault>
+    ensures gives { Gives fault_of (λ v. values_view v.items) result
+        (spec.places_in (spec.members_from mapping.now room) mapping.now (room == 0) (string_bytes path.old) (members_view members.now.entries)) }
+    ensures path { OnOk result (string_bytes path.new ≡ string_bytes path.old) }
+{
     let mut found = Vec::new(alloc);
-    for (name, value) in members {
-        let field = member_of(alloc, mapping, name.as_str(), value)?;
-        keep(&mut found, field)?;
+    for (key, value) in members {
+        let mut given = place_of(alloc, mapping, room, path, key, value)?;
+        found.append(&mut given)?;
     }
     Ok(found)
 }
 
-#[tactic(auto, unfolding(crate::specs::Document::member_of))]
-fn member_of(
+/// What the value of a key gives.
+#[cycle(walk)]
+#[tactic(auto, unfolding(crate::specs::Document::place_of))]
+fn place_of(
     alloc: Global,
     mapping: &Mapping,
-    name: &str,
+    room: usize,
+    path: &mut String,
+    key: &String,
     value: &Value,
-) -> Result<Option<FieldValues>, DocFault>
-    ensures { Gives fault_of (option_map field_values_view) result
-        (spec.member_of mapping.now (name.now, view value.now)) }
+) -> Result<Vec<FieldValues>, DocFault>
+    ensures gives { Gives fault_of (λ v. values_view v.items) result
+        (spec.place_of (spec.members_from mapping.now room) mapping.now (room == 0) (string_bytes path.old) (string_bytes key.now, view value.now)) }
+    ensures path { OnOk result (string_bytes path.new ≡ string_bytes path.old) }
 {
-    let Some(kind) = mapping.kind(name) else {
-        if mapping.strict() {
-            return Err(unmapped(alloc, name));
+    if room == 0 && has_object(value) {
+        return Err(DocFault::TooDeep);
+    }
+    let len = path.as_str().len();
+    path.push_str(key.as_str())?;
+    let given = given_by(alloc, mapping, room, path, value)?;
+    path.truncate(len);
+    Ok(given)
+}
+
+/// What the value at a path gives.
+#[cycle(walk)]
+fn given_by(
+    alloc: Global,
+    mapping: &Mapping,
+    room: usize,
+    path: &mut String,
+    value: &Value,
+) -> Result<Vec<FieldValues>, DocFault>
+    ensures gives { Gives fault_of (λ v. values_view v.items) result
+        (spec.given_by (spec.members_from mapping.now room) mapping.now.strict (string_bytes path.old) (subject_at (string_bytes path.old) mapping.now.fields) (view value.now)) }
+    ensures path { OnOk result (string_bytes path.new ≡ string_bytes path.old) }
+{
+    match mapping.subject(path.as_str()) {
+        Some(Subject::Values(kind)) => one_field(alloc, path.as_str(), kind, value),
+        Some(Subject::Object) => in_parts(alloc, mapping, room, path, false, value),
+        None => {
+            if mapping.strict() {
+                return Err(unmapped(alloc, path.as_str()));
+            }
+            in_parts(alloc, mapping, room, path, true, value)
         }
-        if !fits_unmapped(value) {
-            return Err(wrong_value(alloc, name));
+    }
+}
+
+/// What the parts of a value give, at the path of an object, or at one that isn't mapped, where plain values are passed over.
+#[cycle(walk)]
+fn in_parts(
+    alloc: Global,
+    mapping: &Mapping,
+    room: usize,
+    path: &mut String,
+    lenient: bool,
+    value: &Value,
+) -> Result<Vec<FieldValues>, DocFault>
+    ensures gives { Gives fault_of (λ v. values_view v.items) result
+        (spec.in_parts (spec.members_from mapping.now room) lenient (string_bytes path.old) (view value.now)) }
+    ensures path { OnOk result (string_bytes path.new ≡ string_bytes path.old) }
+{
+    let mut found = Vec::new(alloc);
+    for part in parts(value) {
+        let mut given = in_part(alloc, mapping, room, path, lenient, part)?;
+        found.append(&mut given)?;
+    }
+    Ok(found)
+}
+
+/// What one of them gives.
+#[cycle(walk)]
+fn in_part(
+    alloc: Global,
+    mapping: &Mapping,
+    room: usize,
+    path: &mut String,
+    lenient: bool,
+    value: &Value,
+) -> Result<Vec<FieldValues>, DocFault>
+    ensures gives { Gives fault_of (λ v. values_view v.items) result
+        (spec.in_part (spec.members_from mapping.now room) lenient (string_bytes path.old) (view value.now)) }
+    ensures path { OnOk result (string_bytes path.new ≡ string_bytes path.old) }
+{
+    match value {
+        Value::Null => Ok(Vec::new(alloc)),
+        Value::Object(members) => inside(alloc, mapping, room, path, members),
+        Value::Array(_) => Err(wrong_value(alloc, path.as_str())),
+        _ => if lenient {
+            Ok(Vec::new(alloc))
+        } else {
+            Err(wrong_value(alloc, path.as_str()))
+        },
+    }
+}
+
+/// What the members of the object at a path give.
+#[cycle(walk)]
+fn inside(
+    alloc: Global,
+    mapping: &Mapping,
+    room: usize,
+    path: &mut String,
+    members: &Map<String, Value>,
+) -> Result<Vec<FieldValues>, DocFault>
+    ensures gives { Gives fault_of (λ v. values_view v.items) result
+        (spec.members_from mapping.now room (within (string_bytes path.old)) (members_view members.now.entries)) }
+    ensures path { OnOk result (string_bytes path.new ≡ string_bytes path.old) }
+{
+    let len = path.as_str().len();
+    path.push_str(".")?;
+    let given = members_from(alloc, mapping, room, path, members)?;
+    path.truncate(len);
+    Ok(given)
+}
+
+/// The one field at a path, with its values.
+fn one_field(
+    alloc: Global,
+    path: &str,
+    kind: Kind,
+    value: &Value,
+) -> Result<Vec<FieldValues>, DocFault>
+    ensures { Gives fault_of (λ v. values_view v.items) result
+        (spec.field_or path.now kind (view value.now)) }
+{
+    let values = values_of(alloc, path, kind, value)?;
+    let name = String::from_str(alloc, path)?;
+    let mut fields = Vec::new(alloc);
+    fields.push(FieldValues { name, values })?;
+    Ok(fields)
+}
+
+/// Whether an object stands there, or in the array there.
+fn has_object(value: &Value) -> bool
+    ensures { result ≡ spec.has_object (view value.now) }
+{
+    for part in parts(value) {
+        if is_object(part) {
+            return true;
         }
-        return Ok(None);
-    };
-    let values = values_of(alloc, name, kind, value)?;
-    let name = String::from_str(alloc, name)?;
-    Ok(Some(FieldValues { name, values }))
+    }
+    false
+}
+
+fn is_object(value: &Value) -> bool
+    ensures { result ≡ spec.is_object (view value.now) }
+{
+    matches!(value, Value::Object(_))
 }
 
 fn values_of(alloc: Global, name: &str, kind: Kind, value: &Value) -> Result<Vec<Scalar>, DocFault>
@@ -196,17 +369,6 @@ fn unmapped(alloc: Global, name: &str) -> DocFault
     }
 }
 
-fn fits_unmapped(value: &Value) -> bool
-    ensures { result ≡ scalar.fits_unmapped (view value.now) }
-{
-    for part in parts(value) {
-        if !is_plain(part) {
-            return false;
-        }
-    }
-    true
-}
-
 fn parts(value: &Value) -> &[Value]
     ensures { elements (items_view result.now) ≡ scalar.parts (view value.now) }
 {
@@ -214,12 +376,6 @@ fn parts(value: &Value) -> &[Value]
         Value::Array(items) => items,
         _ => slice::from_ref(value),
     }
-}
-
-fn is_plain(value: &Value) -> bool
-    ensures { result ≡ scalar.is_plain (view value.now) }
-{
-    !matches!(value, Value::Object(_) | Value::Array(_))
 }
 
 fn keep<T: Drop>(items: &mut Vec<T>, item: Option<T>) -> Result<(), AllocError>

@@ -9,7 +9,7 @@ use thiserror::Error;
 /// A refusal of a mapping, a document or an id. The name of the field or key that it concerns stands beside it.
 #[derive(Debug, Drop, Error)]
 pub enum DocFault {
-    #[error("field {0} has no type, or none of keyword, text, long and boolean")]
+    #[error("field {0} must have a type of keyword, text, long or boolean, or else properties")]
     UnknownType(String),
     #[error("the key {0} isn't allowed in a mapping")]
     BadName(String),
@@ -33,6 +33,8 @@ pub enum DocFault {
     IdTooLong,
     #[error("a mapping has more than 1,000 fields")]
     TooManyFields,
+    #[error("more than 20 objects or levels of properties nest in one another")]
+    TooDeep,
 }
 
 impl DocFault {
@@ -53,6 +55,7 @@ impl DocFault {
             DocFault::IdEmpty => "IdEmpty",
             DocFault::IdTooLong => "IdTooLong",
             DocFault::TooManyFields => "TooManyFields",
+            DocFault::TooDeep => "TooDeep",
         }
     }
 }
