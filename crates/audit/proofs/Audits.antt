@@ -4,15 +4,16 @@ use Rattle.std.specs.Prelude.{slice_get}
 use Rattle.doc.specs.Mapping.{MappingData}
 use Rattle.master.specs.declared.state.State.{State}
 use Rattle.world.specs.declared.event.Event.{Event}
-use Rattle.audit.specs.declared.journal.Deed.{Deed}
-use Rattle.audit.specs.declared.journal.Ruling.{Ruling}
-use Rattle.audit.specs.declared.moves.Placed.{Placed}
+use Rattle.journal.specs.declared.journal.Deed.{Deed}
+use Rattle.journal.specs.declared.journal.Ruling.{Ruling}
+use Rattle.journal.specs.declared.moves.Placed.{Placed}
 use Rattle.audit.specs.Moves.{IsMade, IsHalted}
-use Rattle.audit.specs.Journal.{Standing, IsLegal, next}
-use Rattle.audit.specs.Rulings.{Ruler, AreLegal, next_ruler}
-use Rattle.audit.specs.declared.journal.Journal.{Journal}
-use Rattle.audit.specs.declared.journal.Journal.TheVariants.{OfMaster as of_master, OfCopy as of_copy}
-use Rattle.audit.specs.Audit.{IsOpening, IsLawful, FailsAt, RulingFailsAt, IsFirstWrong, placed_of, moves_of, IsMadeOf, IsUncaused, IsDiffering}
+use Rattle.journal.specs.Journal.{Standing, IsLegal, next}
+use Rattle.journal.specs.Rulings.{Ruler, AreLegal, next_ruler}
+use Rattle.journal.specs.declared.journal.Journal.{Journal}
+use Rattle.journal.specs.declared.journal.Journal.TheVariants.{OfMaster as of_master, OfCopy as of_copy}
+use Rattle.audit.specs.Audit.{IsOpening, FailsAt, RulingFailsAt, IsFirstWrong, placed_of, moves_of, IsMadeOf, IsMissing, IsUncaused, IsDiffering}
+use Rattle.journal.specs.Lawful.{IsLawful}
 use Rattle.audit.proofs.Merging.{halted_none, halted_once}
 
 not_legal : (s : Standing) (place : ℕ) (ds : List Deed) (at : ℕ) → FailsAt s place ds at → IsLegal s place ds → ⊥
@@ -38,6 +39,10 @@ differing_none mapping js node place d n es made = elim d.wrong [
   where
     passes : IsOpening mapping n node d.journal × IsLawful d.journal
     passes = made.pass node d.journal d.there
+
+-- nor where one is missing
+pub missing_none : (mapping : MappingData) (js : List Journal) (node place : ℕ) → IsMissing mapping js node place → (n : ℕ) (es : List Event) → IsMadeOf mapping n js es → ⊥
+missing_none mapping js node place d n es made = d.lacking made.all
 
 -- the master's journal says how many copies there are
 pub one_size : (mapping : MappingData) (n m : ℕ) (j : Journal) → IsOpening mapping n 0 j → IsOpening mapping m 0 j → n ≡ m

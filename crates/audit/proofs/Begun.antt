@@ -6,14 +6,8 @@ use Rattle.std.proofs.lemmas.Bool.Decides.{nat_tests}
 use Rattle.std.proofs.lemmas.List.Folds.{list_any-append}
 use Rattle.doc.specs.Mapping.{MappingData}
 use Rattle.op.specs.Ids.{ids_up_to, has}
-use Rattle.replica.specs.declared.role.Birth.TheVariants.{Added}
-use Rattle.replica.specs.Copy.{Copy, begun, opened}
+use Rattle.replica.specs.Copy.{Copy, begun}
 use Rattle.world.specs.World.{copy_in, new_world}
-use Rattle.audit.specs.Opening.{born}
-
--- each copy begins under the index's mapping
-pub born_mapping : (mapping : MappingData) (n i : ℕ) → (born mapping n i).mapping ≡ mapping
-born_mapping mapping n i = elim (nat_le i n) as (λ b. (if b then begun i n mapping else opened i Added mapping []).mapping ≡ mapping) [ true ↦ refl | false ↦ refl ]
 
 pub copy_in-append : (cs : List Copy) (d : Copy) (id : ℕ) → copy_in (cs ++ d ∷ []) id ≡ option_or (copy_in cs id) (if d.id == id then Some d else None)
 copy_in-append [] d id = refl

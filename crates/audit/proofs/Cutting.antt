@@ -12,10 +12,10 @@ use Rattle.replica.specs.Fault.{fault_of, is_log}
 use Rattle.replica.specs.Logged.{is_restart}
 use Rattle.replica.specs.Step.{Step, Stepped, copy_step, torn}
 use Rattle.audit.specs.declared.following.Cut.{Cut}
-use Rattle.audit.specs.declared.journal.Deed.{Deed}
+use Rattle.journal.specs.declared.journal.Deed.{Deed}
 use Rattle.audit.specs.declared.judge.Wrong.TheVariants.{At}
 use Rattle.audit.specs.Following.{count_after, shut_by, IsReport, MayFail}
-use Rattle.audit.specs.Journal.{Standing, found, keeps_record, left_by, reopened, torn_move, IsReopening, MayAnswer}
+use Rattle.journal.specs.Journal.{Standing, found, keeps_record, left_by, reopened, torn_move, IsReopening, MayAnswer}
 use Rattle.audit.specs.Judge.{IsRefused}
 use Rattle.audit.proofs.Links.{reopens, restarts}
 use Rattle.audit.proofs.Nodes.{copy_after}
@@ -80,8 +80,8 @@ other_count c input (inr more) = rw more.0 more.1
 pub reopening : (c : Copy) (f : Cut) (input : Input) (output : Output) → MayFail c f.input → is_restart input ≡ true → IsReport (length c.records) (count_after (is_restart f.input) (length c.records)) output ↔ IsReopening c (shut_by c f) input output
 reopening c f input output may restart =
     let count = other_count c f.input may in (
-      λ h. record { restart = restart; point = rw count h.point; sent = h.sent; acknowledged = h.acknowledged },
-      λ h. record { point = rw count at h.point; sent = h.sent; acknowledged = h.acknowledged },
+      λ h. record { restart = restart; point = rw count h.point; sent = h.sent; acknowledged = h.acknowledged; members = h.members },
+      λ h. record { point = rw count at h.point; sent = h.sent; acknowledged = h.acknowledged; members = h.members },
     )
 
 by_kept : (c : Copy) (f : Cut) (kept : Bool) → found c (shut_by c f) kept ≡ (if kept then (left_by c (copy_step c f.input)).records else c.records)

@@ -2,11 +2,11 @@
 use Rattle.std.proofs.Common.{◌≡◌, ℕ, ◌<◌, List, length, drop, inl, sym, subst}
 use Rattle.std.specs.Prelude.{slice_index_or}
 use Rattle.std.proofs.lemmas.List.{drop_more}
-use Rattle.audit.specs.declared.journal.Deed.{Deed}
+use Rattle.journal.specs.declared.journal.Deed.{Deed}
 use Rattle.audit.specs.declared.judge.Wrong.{Wrong}
 use Rattle.audit.specs.declared.judge.Wrong.TheVariants.{At, NoMemory}
-use Rattle.audit.specs.declared.moves.Placed.{Placed}
-use Rattle.audit.specs.Journal.{Standing}
+use Rattle.journal.specs.declared.moves.Placed.{Placed}
+use Rattle.journal.specs.Journal.{Standing}
 use Rattle.audit.specs.Audit.{FailsAt}
 use Rattle.audit.specs.Judge.{IsRefused, IsMisjudged, IsSoFar}
 

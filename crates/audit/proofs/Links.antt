@@ -20,16 +20,17 @@ use Rattle.master.specs.declared.state.State.{State}
 use Rattle.master.specs.declared.state.Request.{Request}
 use Rattle.master.specs.declared.state.Decision.{Decision}
 use Rattle.world.specs.declared.event.Event.{Event}
-use Rattle.audit.specs.declared.journal.Deed.{Deed}
-use Rattle.audit.specs.declared.journal.Ruling.{Ruling}
-use Rattle.audit.specs.declared.moves.Move.{Move}
-use Rattle.audit.specs.declared.moves.Placed.{Placed}
+use Rattle.journal.specs.declared.journal.Deed.{Deed}
+use Rattle.journal.specs.declared.journal.Ruling.{Ruling}
+use Rattle.journal.specs.declared.moves.Move.{Move}
+use Rattle.journal.specs.declared.moves.Placed.{Placed}
 use Rattle.world.specs.World.{copy_in, new_world, world_of}
-use Rattle.audit.specs.Journal.{Standing, Shut, open_at, left_by, reopened, keeps_record, is_kept, found, MayAnswer, answered, next, IsLegal, moves_at, torn_move, moves, after}
-use Rattle.audit.specs.Rulings.{Ruler, MayRule, ruled_at, next_ruler, AreLegal, rulings_at, rulings, ruler_after}
-use Rattle.audit.specs.declared.journal.Journal.{Journal}
-use Rattle.audit.specs.declared.journal.Journal.TheVariants.{OfMaster as of_master, OfCopy as of_copy}
-use Rattle.audit.specs.Audit.{begins_open, placed_of, moves_of, IsMadeOf}
+use Rattle.journal.specs.Journal.{Standing, Shut, open_at, left_by, reopened, keeps_record, is_kept, found, MayAnswer, answered, next, IsLegal, moves_at, torn_move, moves, after}
+use Rattle.journal.specs.Rulings.{Ruler, MayRule, ruled_at, next_ruler, AreLegal, rulings_at, rulings, ruler_after}
+use Rattle.journal.specs.declared.journal.Journal.{Journal}
+use Rattle.journal.specs.declared.journal.Journal.TheVariants.{OfMaster as of_master, OfCopy as of_copy}
+use Rattle.audit.specs.Audit.{placed_of, moves_of, IsMadeOf}
+use Rattle.journal.specs.Lawful.{begins_open}
 use Rattle.audit.proofs.StepIds.{Same, step-same}
 use Rattle.audit.proofs.Nodes.{copy_if, copy_now, after_one, after_moves, copy_after, master_after}
 use Rattle.audit.proofs.Merging.{begins, leads_agree}

@@ -13,8 +13,8 @@ use Rattle.master.specs.declared.state.Request.TheVariants.{Promote as Promotion
 use Rattle.master.specs.Decide.{is_given}
 use Rattle.world.specs.declared.event.Event.{Event}
 use Rattle.world.specs.World.{World, copy_in, message_at, new_world, world_step, world_after, world_of}
-use Rattle.audit.specs.declared.moves.Move.{Move}
-use Rattle.audit.specs.declared.moves.Move.TheVariants.{Asks as asks, Does as does, Tears as tears}
+use Rattle.journal.specs.declared.moves.Move.{Move}
+use Rattle.journal.specs.declared.moves.Move.TheVariants.{Asks as asks, Does as does, Tears as tears}
 use Rattle.audit.specs.Moves.{Moves, Counts, more, IsWord, IsAsked, IsTold, IsThere, CanGo, IsNext, Leads, IsMade, IsStuck, IsHalted}
 use Rattle.world.proofs.Lists.{Contains-at, Contains-none}
 use Rattle.audit.proofs.Begun as new

@@ -22,11 +22,11 @@ use Rattle.world.specs.declared.event.Event.{Event}
 use Rattle.world.specs.declared.event.Event.TheVariants.{Deliver}
 use Rattle.world.specs.declared.event.EventAnswer.{EventAnswer}
 use Rattle.world.specs.World.{World, Happened, copy_in, with_copy, putting, deciding, giving, telling, torn_at, at_copy, after_step, after_decision, decided, delivered, at_master, deliver, deliver_to, deliver_torn, deliver_torn_to, new_world, world_step}
-use Rattle.audit.specs.Journal.{left_by}
-use Rattle.audit.specs.Rulings.{ruled}
-use Rattle.audit.specs.Opening.{born}
-use Rattle.audit.specs.declared.moves.Move.{Move}
-use Rattle.audit.specs.declared.moves.Move.TheVariants.{Asks as asks, Does as does, Tears as tears}
+use Rattle.journal.specs.Journal.{left_by}
+use Rattle.journal.specs.Rulings.{ruled}
+use Rattle.journal.specs.Opening.{born}
+use Rattle.journal.specs.declared.moves.Move.{Move}
+use Rattle.journal.specs.declared.moves.Move.TheVariants.{Asks as asks, Does as does, Tears as tears}
 use Rattle.audit.specs.Moves.{Moves, Counts, more, event_of, IsWord, IsAsked, IsTold, IsThere, may_tear, IsNext}
 use Rattle.world.proofs.Lists.{copy_in-id, copy_in-with, copy_in-other}
 use Rattle.audit.proofs.Begun.{copy_in-append}

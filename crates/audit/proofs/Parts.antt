@@ -6,8 +6,8 @@ use Rattle.std.proofs.lemmas.Bool.Decides.{nat_tests}
 use Rattle.std.proofs.lemmas.Option.{slice_get_read, slice_get_within, slice_get-map}
 use Rattle.std.proofs.lemmas.List.{length-map, get_or-set_same, get_or-set_other, length-set}
 use Rattle.world.specs.declared.event.Event.{Event}
-use Rattle.audit.specs.declared.moves.Move.{Move}
-use Rattle.audit.specs.declared.moves.Placed.{Placed}
+use Rattle.journal.specs.declared.moves.Move.{Move}
+use Rattle.journal.specs.declared.moves.Placed.{Placed}
 use Rattle.world.specs.World.{World, world_step, world_after}
 use Rattle.audit.specs.Moves.{Moves, Counts, more, event_of, CanGo, IsNext, Leads}
 use Rattle.audit.specs.Merge.{part_of, moves_in, count_of, left_of, IsReached, IsWithin, HasNext}

@@ -7,14 +7,16 @@ use borrow.Author.Count.{below_more as more}
 use Rattle.doc.specs.Mapping.{MappingData}
 use Rattle.master.specs.declared.state.State.{State}
 use Rattle.master.specs.State.{begun}
-use Rattle.audit.specs.declared.journal.AuditFault.TheVariants.{Differs}
-use Rattle.audit.specs.declared.journal.Journal.{Journal}
-use Rattle.audit.specs.declared.journal.Journal.TheVariants.{OfMaster as of_master, OfCopy as of_copy}
-use Rattle.audit.specs.declared.journal.Ruling.{Ruling}
+use Rattle.audit.specs.declared.fault.AuditFault.TheVariants.{Differs}
+use Rattle.journal.specs.declared.journal.Journal.{Journal}
+use Rattle.journal.specs.declared.journal.Journal.TheVariants.{OfMaster as of_master, OfCopy as of_copy}
+use Rattle.journal.specs.declared.journal.Ruling.{Ruling}
 use Rattle.audit.specs.declared.judge.Wrong.{Wrong}
 use Rattle.audit.specs.declared.judge.Wrong.TheVariants.{At, NoMemory}
-use Rattle.audit.specs.declared.moves.Placed.{Placed}
-use Rattle.audit.specs.Audit.{placed_in, IsAudited, IsLawful, IsOpening, IsSize, Pass, PassBelow}
+use Rattle.journal.specs.declared.moves.Placed.{Placed}
+use Rattle.audit.specs.Audit.{placed_in, IsAudited, IsOpening, IsSize, Pass, PassBelow}
+use Rattle.journal.specs.Lawful.{IsLawful}
+use Rattle.audit.specs.Given.{AreAll}
 use Rattle.audit.specs.Passing.{fault_at, IsCount, IsFailing, IsPassing}
 
 count_is : (n m : ℕ) → begun n ≡ begun m → n ≡ m
@@ -37,34 +39,38 @@ one_count mapping (first ∷ js) c n (suc i) j count there below opens = by_firs
 -- a journal that doesn't pass, after journals that do
 pub differs : (mapping : MappingData) (js : List Journal) (c node : ℕ) (j : Journal) (e : Wrong) → IsSize c → IsCount (slice_get js 0) c → slice_get js node ≡ Some j → PassBelow mapping c js node → IsFailing mapping c node j e → IsAudited mapping js (Err (fault_at node e))
 differs mapping js c node j NoMemory size count there below failing = tt
-differs mapping js c node j (At at) size count there below (inl wrong) = record {
+differs mapping js c node j (At at) size count there below (inl wrong) = inl (record {
   journal = j;
   there = there;
   copies = c;
   below = below;
   wrong = inl ((λ n is passes opens. wrong.0 (subst (λ (k : ℕ). IsOpening mapping k node j) (one_count mapping js c n node j count there passes opens) opens)), wrong.1);
-}
-differs mapping js c node j (At at) size count there below (inr wrong) = record {
+})
+differs mapping js c node j (At at) size count there below (inr wrong) = inl (record {
   journal = j;
   there = there;
   copies = c;
   below = below;
   wrong = inr (size, wrong.0, wrong.1);
-}
+})
 
 -- the first journal isn't that of the master of a new index
 pub no_count : (mapping : MappingData) (js : List Journal) (j : Journal) → slice_get js 0 ≡ Some j → ((n : ℕ) → IsSize n → IsCount (Some j) n → ⊥) → IsAudited mapping js (Err (Differs 0 0))
-no_count mapping js j there none = record {
+no_count mapping js j there none = inl (record {
   journal = j;
   there = there;
   copies = 1;
   below = λ i x lt is. absurd (omega (arith, lt));
   wrong = inl ((λ n size below opens. none n size (begins j n opens)), refl);
-}
+})
   where
     begins : (x : Journal) (n : ℕ) → IsOpening mapping n 0 x → IsCount (Some x) n
     begins (of_master s rs) n opens = opens
     begins (of_copy d ds) n opens = opens
+
+-- a journal is missing behind those that pass
+pub missing : (mapping : MappingData) (n : ℕ) (js : List Journal) → IsSize n → Pass mapping n js → (AreAll js → ⊥) → IsAudited mapping js (Err (Differs (length js) 0))
+missing mapping n js size pass lacking = inr (record { copies = n; size = size; pass = pass; lacking = lacking; next = refl; at = refl })
 
 -- one journal more
 pub below_more : (mapping : MappingData) (n : ℕ) (js : List Journal) (k : ℕ) (j : Journal) (ps : List Placed) → PassBelow mapping n js k → slice_get js k ≡ Some j → IsPassing mapping n k j ps → PassBelow mapping n js (k + 1)

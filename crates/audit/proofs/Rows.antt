@@ -13,15 +13,17 @@ use Rattle.replica.specs.declared.output.Answer.TheVariants.{Taken, Repeated, Mi
 use Rattle.replica.specs.declared.input.Input.{Input}
 use Rattle.replica.specs.Copy.{begun}
 use Rattle.replica.specs.Step.{Step, unless}
-use Rattle.audit.specs.Journal.{open_at, IsLegalAt}
+use Rattle.journal.specs.Journal.{open_at, IsLegalAt}
 use Rattle.world.specs.Lines.{a, n1, n2, put}
-use Rattle.world.specs.World.{world_of, message_at}
+use Rattle.world.specs.World.{new_world, world_of, message_at}
 use Rattle.world.specs.declared.event.Event.TheVariants.{Deliver}
-use Rattle.audit.specs.declared.moves.Move.{Move}
-use Rattle.audit.specs.declared.moves.Move.TheVariants.{Does as does}
+use Rattle.journal.specs.declared.moves.Move.{Move}
+use Rattle.journal.specs.declared.moves.Move.TheVariants.{Does as does}
 use Rattle.audit.specs.Moves.{Moves, Counts, more, CanGo, IsMade, IsStuck}
-use Rattle.audit.specs.declared.journal.Journal.{Journal}
-use Rattle.audit.specs.Audit.{IsOpening, IsLawful, IsSize, Pass, PassBelow, moves_of}
+use Rattle.journal.specs.declared.journal.Journal.{Journal}
+use Rattle.journal.specs.declared.journal.Journal.TheVariants.{OfMaster as of_master}
+use Rattle.audit.specs.Audit.{IsOpening, IsSize, Pass, PassBelow, moves_of}
+use Rattle.journal.specs.Lawful.{IsLawful}
 use Rattle.audit.specs.Rows.{empty, journals, writes, hears, takes, op_message, ack_message, Row_audit}
 
 size : IsSize 2
@@ -36,23 +38,27 @@ Passes i j = IsOpening empty 2 i j × IsLawful j
 passes : Pass empty 2 (journals (writes ∷ hears ∷ []) n1 Taken)
 unfolding unless
 passes zero j e = at_some (Passes 0) _ j (refl, tt) e
-passes (suc zero) j e = at_some (Passes 1) _ j (refl, (refl, (refl, tt))) e
-passes (suc (suc zero)) j e = at_some (Passes 2) _ j (refl, (refl, tt)) e
+passes (suc zero) j e = at_some (Passes 1) _ j (refl, ((refl, refl), ((refl, refl), tt))) e
+passes (suc (suc zero)) j e = at_some (Passes 2) _ j (refl, ((refl, refl), tt)) e
 passes (suc (suc (suc i))) j e = absurd cc
 
 passes_shorter : Pass empty 2 (journals (writes ∷ []) n1 Taken)
 unfolding unless
 passes_shorter zero j e = at_some (Passes 0) _ j (refl, tt) e
-passes_shorter (suc zero) j e = at_some (Passes 1) _ j (refl, (refl, tt)) e
-passes_shorter (suc (suc zero)) j e = at_some (Passes 2) _ j (refl, (refl, tt)) e
+passes_shorter (suc zero) j e = at_some (Passes 1) _ j (refl, ((refl, refl), tt)) e
+passes_shorter (suc (suc zero)) j e = at_some (Passes 2) _ j (refl, ((refl, refl), tt)) e
 passes_shorter (suc (suc (suc i))) j e = absurd cc
 
 passes_other : Pass empty 2 (journals (writes ∷ hears ∷ []) n2 Taken)
 unfolding unless
 passes_other zero j e = at_some (Passes 0) _ j (refl, tt) e
-passes_other (suc zero) j e = at_some (Passes 1) _ j (refl, (refl, (refl, tt))) e
-passes_other (suc (suc zero)) j e = at_some (Passes 2) _ j (refl, (refl, tt)) e
+passes_other (suc zero) j e = at_some (Passes 1) _ j (refl, ((refl, refl), ((refl, refl), tt))) e
+passes_other (suc (suc zero)) j e = at_some (Passes 2) _ j (refl, ((refl, refl), tt)) e
 passes_other (suc (suc (suc i))) j e = absurd cc
+
+passes_alone : Pass empty 2 (of_master (new_world empty 2).master [] ∷ [])
+passes_alone zero j e = at_some (Passes 0) _ j (refl, tt) e
+passes_alone (suc i) j e = absurd cc
 
 abbrev writing : Input
 writing = writes.input
@@ -137,7 +143,7 @@ least (suc j) lt = absurd (omega arith)
 below : (source : List ℕ) → PassBelow empty 2 (journals (writes ∷ hears ∷ []) source Repeated) 2
 unfolding unless
 below source zero j lt e = at_some (Passes 0) _ j (refl, tt) e
-below source (suc zero) j lt e = at_some (Passes 1) _ j (refl, (refl, (refl, tt))) e
+below source (suc zero) j lt e = at_some (Passes 1) _ j (refl, ((refl, refl), ((refl, refl), tt))) e
 below source (suc (suc i)) j lt e = absurd (omega arith)
 
 abbrev answer_of : Step → Answer
@@ -149,23 +155,24 @@ not_taken e = absurd cc
 
 not_repeated : IsLegalAt (open_at (begun 2 2 empty)) (takes n1 Repeated) → ⊥
 unfolding unless
-not_repeated legal = not_taken (ap answer_of legal)
+not_repeated legal = not_taken (ap answer_of legal.0)
 
 not_repeated_other : IsLegalAt (open_at (begun 2 2 empty)) (takes n2 Repeated) → ⊥
 unfolding unless
-not_repeated_other legal = not_taken (ap answer_of legal)
+not_repeated_other legal = not_taken (ap answer_of legal.0)
 
 pub row_audit : Row_audit
 unfolding unless
 row_audit = record {
-  whole = record { size = size; pass = passes; made = made };
+  whole = record { size = size; pass = passes; all = omega arith; made = made };
   acknowledged = refl;
-  shorter = record { size = size; pass = passes_shorter; made = made_shorter };
+  shorter = record { size = size; pass = passes_shorter; all = omega arith; made = made_shorter };
   none = refl;
   uncaused = record {
     copies = 2;
     size = size;
     pass = passes_other;
+    all = omega arith;
     count = 1;
     halted = record { events = put 1 a n1 ∷ []; counts = more none_yet 1; leads = (1, 0, does writing, (refl, ((refl, refl), tt)), refl, (λ i. refl)); stuck = stuck; place = refl; unfinished = omega arith; least = least };
     move = _;
@@ -173,5 +180,6 @@ row_audit = record {
     at = refl;
   };
   differs = record { journal = _; there = refl; copies = 2; below = below n1; wrong = inr (size, refl, inl (refl, not_repeated)) };
+  missing = record { copies = 2; size = size; pass = passes_alone; lacking = λ all. absurd (omega (arith, all)); next = refl; at = refl };
   both = record { journal = _; there = refl; copies = 2; below = below n2; wrong = inr (size, refl, inl (refl, not_repeated_other)) };
 }

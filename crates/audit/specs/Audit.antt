@@ -1,20 +1,21 @@
 -- Which lists of events are made of journals, and what an audit answers.
-use Rattle.std.specs.Prelude.{◌≡◌, ◌⊎◌, ℕ, zero, suc, ◌<◌, ◌≤◌, false, List, [], ◌∷◌, map, slice_get, Option, Some, None, Result, Ok, Err}
+use Rattle.std.specs.Prelude.{◌≡◌, ◌⊎◌, ℕ, zero, suc, ◌<◌, ◌≤◌, List, [], ◌∷◌, map, length, slice_get, Option, Some, None, Result, Ok, Err}
 use Rattle.doc.specs.Mapping.{MappingData}
-use Rattle.master.specs.declared.state.State.{State}
 use Rattle.world.specs.declared.event.Event.{Event}
-use Rattle.audit.specs.declared.journal.AuditFault.{AuditFault}
-use Rattle.audit.specs.declared.journal.AuditFault.TheVariants.{Uncaused, Differs, NoMemory}
-use Rattle.audit.specs.declared.journal.Deed.{Deed}
-use Rattle.audit.specs.declared.journal.Journal.{Journal}
-use Rattle.audit.specs.declared.journal.Journal.TheVariants.{OfMaster as of_master, OfCopy as of_copy}
-use Rattle.audit.specs.declared.journal.Ruling.{Ruling}
-use Rattle.audit.specs.declared.moves.Placed.{Placed}
-use Rattle.audit.specs.Opening.{born}
+use Rattle.audit.specs.declared.fault.AuditFault.{AuditFault}
+use Rattle.audit.specs.declared.fault.AuditFault.TheVariants.{Uncaused, Differs, NoMemory}
+use Rattle.journal.specs.declared.journal.Deed.{Deed}
+use Rattle.journal.specs.declared.journal.Journal.{Journal}
+use Rattle.journal.specs.declared.journal.Journal.TheVariants.{OfMaster as of_master, OfCopy as of_copy}
+use Rattle.journal.specs.declared.journal.Ruling.{Ruling}
+use Rattle.journal.specs.declared.moves.Placed.{Placed}
+use Rattle.journal.specs.Opening.{born}
 use Rattle.world.specs.World.{World, new_world, world_of}
 use Rattle.audit.specs.Moves.{Moves, IsMade, IsHalted}
-use Rattle.audit.specs.Journal.{Standing, open_at, next, IsLegal, IsLegalAt, moves}
-use Rattle.audit.specs.Rulings.{Ruler, next_ruler, IsLegalRuling, AreLegal, rulings}
+use Rattle.audit.specs.Given.{AreAll}
+use Rattle.journal.specs.Journal.{Standing, open_at, next, IsLegalAt, moves}
+use Rattle.journal.specs.Rulings.{Ruler, next_ruler, IsLegalRuling, rulings}
+use Rattle.journal.specs.Lawful.{begins_open, IsLawful}
 
 -- the journal of node i begins as node i does in a world of n copies
 abbrev pub IsOpening : MappingData → ℕ → ℕ → Journal → Type 0
@@ -22,13 +23,6 @@ IsOpening mapping n zero (of_master s rs) = s ≡ (new_world mapping n).master
 IsOpening mapping n (suc i) (of_copy c ds) = c ≡ born mapping n (suc i)
 IsOpening mapping n zero (of_copy c ds) = ⊥
 IsOpening mapping n (suc i) (of_master s rs) = ⊥
-
-abbrev pub begins_open : State → Ruler
-begins_open s = record { state = s; closed = false }
-
-abbrev pub IsLawful : Journal → Type 0
-IsLawful (of_master s rs) = AreLegal (begins_open s) rs
-IsLawful (of_copy c ds) = IsLegal (open_at c) 0 ds
 
 -- the first entry that isn't legal stands at this place
 abbrev pub FailsAt : Standing → ℕ → List Deed → ℕ → Type 0
@@ -67,17 +61,19 @@ PassBelow mapping n js node = (i : ℕ) (j : Journal) → i < node → slice_get
 abbrev pub Pass : MappingData → ℕ → List Journal → Type 0
 Pass mapping n js = (i : ℕ) (j : Journal) → slice_get js i ≡ Some j → IsOpening mapping n i j × IsLawful j
 
--- the list of events is made of the journals, in a new world of n copies
+-- the list of events is made of the journals, one of each node, in a new world of n copies
 pub record IsMadeOf (mapping : MappingData) (n : ℕ) (js : List Journal) (es : List Event) : Type 0 where
   pub size : IsSize n
   pub pass : Pass mapping n js
+  pub all : AreAll js
   pub made : IsMade mapping n (moves_of js) es
 
--- the journals pass, but their moves halt at this node, at the place of its next move
+-- the journals pass, and each node has one, but their moves halt at this node, at the place of its next move
 pub record IsUncaused (mapping : MappingData) (js : List Journal) (node place : ℕ) : Type 0 where
   pub copies : ℕ
   pub size : IsSize copies
   pub pass : Pass mapping copies js
+  pub all : AreAll js
   pub count : ℕ
   pub halted : IsHalted mapping copies (moves_of js) node count
   pub move : Placed
@@ -92,9 +88,18 @@ pub record IsDiffering (mapping : MappingData) (js : List Journal) (node place :
   pub below : PassBelow mapping copies js node
   pub wrong : (((n : ℕ) → IsSize n → PassBelow mapping n js node → IsOpening mapping n node journal → ⊥) × (place ≡ 0)) ⊎ (IsSize copies × IsOpening mapping copies node journal × IsFirstWrong journal place)
 
+-- the journals that are there pass, and that of this node is the first that is missing
+pub record IsMissing (mapping : MappingData) (js : List Journal) (node place : ℕ) : Type 0 where
+  pub copies : ℕ
+  pub size : IsSize copies
+  pub pass : Pass mapping copies js
+  pub lacking : AreAll js → ⊥
+  pub next : node ≡ length js
+  pub at : place ≡ 0
+
 -- what an audit of journals of one mapping answers
 abbrev pub IsAudited : MappingData → List Journal → Result World AuditFault → Type 0
 IsAudited mapping js (Ok w) = (n : ℕ) × (es : List Event) × IsMadeOf mapping n js es × (w ≡ world_of mapping n es)
 IsAudited mapping js (Err (Uncaused node place)) = IsUncaused mapping js node place
-IsAudited mapping js (Err (Differs node place)) = IsDiffering mapping js node place
+IsAudited mapping js (Err (Differs node place)) = IsDiffering mapping js node place ⊎ IsMissing mapping js node place
 IsAudited mapping js (Err NoMemory) = Unit {0}

@@ -6,8 +6,8 @@ use Rattle.replica.specs.declared.input.Input.{Input}
 use Rattle.replica.specs.declared.input.Input.TheVariants.{Write as Client, Take, Report as Reporting, Refresh as Refreshing, Get as Getting, Restart as Restarting}
 use Rattle.master.specs.declared.state.Request.{Request}
 use Rattle.master.specs.declared.state.Request.TheVariants.{Promote as Promotion, Allocate as Allocation, Synced, Fail}
-use Rattle.audit.specs.declared.moves.Move.{Move}
-use Rattle.audit.specs.declared.moves.Move.TheVariants.{Asks as asks, Does as does, Tears as tears}
+use Rattle.journal.specs.declared.moves.Move.{Move}
+use Rattle.journal.specs.declared.moves.Move.TheVariants.{Asks as asks, Does as does, Tears as tears}
 use Rattle.audit.specs.Moves.{IsThere, may_tear}
 use Rattle.world.specs.World.{World, message_at, request_of}
 

@@ -6,7 +6,7 @@ use Rattle.replica.specs.Copy.{Copy}
 use Rattle.replica.specs.Logged.{is_restart}
 use Rattle.replica.specs.Step.{copy_step}
 use Rattle.audit.specs.declared.following.Cut.{Cut}
-use Rattle.audit.specs.Journal.{Shut, Standing, is_point, left_by}
+use Rattle.journal.specs.Journal.{Shut, Standing, is_point, left_by}
 
 -- the log that failed in a step, as the journal knows it
 abbrev pub shut_by : Copy → Cut → Shut
@@ -34,3 +34,4 @@ pub record IsReport (n m : ℕ) (output : Output) : Type 0 where
   pub point : (is_point output.answer n || is_point output.answer m) ≡ true
   pub sent : output.sent ≡ []
   pub acknowledged : output.acknowledged ≡ []
+  pub members : output.members ≡ 0

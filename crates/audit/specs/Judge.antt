@@ -1,10 +1,10 @@
 -- What the judging of a journal tells.
 use Rattle.std.specs.Prelude.{◌≡◌, ℕ, List, [], ◌∷◌, ◌++◌, Option, Some, None}
-use Rattle.audit.specs.declared.journal.Deed.{Deed}
+use Rattle.journal.specs.declared.journal.Deed.{Deed}
 use Rattle.audit.specs.declared.judge.Wrong.{Wrong}
 use Rattle.audit.specs.declared.judge.Wrong.TheVariants.{At, NoMemory}
-use Rattle.audit.specs.declared.moves.Placed.{Placed}
-use Rattle.audit.specs.Journal.{Standing, IsLegal, IsLegalAt, next, moves, moves_at}
+use Rattle.journal.specs.declared.moves.Placed.{Placed}
+use Rattle.journal.specs.Journal.{Standing, IsLegal, IsLegalAt, next, moves, moves_at}
 use Rattle.audit.specs.Audit.{FailsAt}
 
 abbrev pub listed : Option Placed → List Placed

@@ -1,7 +1,5 @@
-pub mod Opening
 pub mod Moves
-pub mod Journal
-pub mod Rulings
+pub mod Given
 pub mod Audit
 pub mod Merge
 pub mod Causes

@@ -3,8 +3,8 @@ use Rattle.std.specs.Prelude.{◌≡◌, ℕ, ◌<◌, ◌≤◌, ◌+◌, ◌-�
 use Rattle.world.specs.declared.event.Event.{Event}
 use Rattle.audit.specs.declared.merge.Halt.{Halt}
 use Rattle.audit.specs.declared.merge.Halt.TheVariants.{At, NoMemory}
-use Rattle.audit.specs.declared.moves.Move.{Move}
-use Rattle.audit.specs.declared.moves.Placed.{Placed}
+use Rattle.journal.specs.declared.moves.Move.{Move}
+use Rattle.journal.specs.declared.moves.Placed.{Placed}
 use Rattle.world.specs.World.{World, world_after}
 use Rattle.audit.specs.Moves.{Moves, Counts, CanGo, IsNext, Leads, IsHaltedFrom}
 

@@ -8,8 +8,8 @@ use Rattle.master.specs.declared.state.Request.{Request}
 use Rattle.master.specs.declared.state.Request.TheVariants.{Promote as Promotion, Allocate as Allocation, Synced, Fail}
 use Rattle.world.specs.declared.event.Event.{Event}
 use Rattle.world.specs.declared.event.Event.TheVariants.{Write as Writes, Get, Refresh, Restart, Deliver, Report, Promote, Allocate, TornWrite, TornDelivery}
-use Rattle.audit.specs.declared.moves.Move.{Move}
-use Rattle.audit.specs.declared.moves.Move.TheVariants.{Asks as asks, Does as does, Tears as tears}
+use Rattle.journal.specs.declared.moves.Move.{Move}
+use Rattle.journal.specs.declared.moves.Move.TheVariants.{Asks as asks, Does as does, Tears as tears}
 use Rattle.world.specs.World.{World, copy_in, message_at, request_of, new_world, world_step, world_after}
 
 -- what each node did, in order; node 0 is the master, node i is copy i

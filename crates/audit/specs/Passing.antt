@@ -2,14 +2,15 @@
 use Rattle.std.specs.Prelude.{◌≡◌, ◌⊎◌, ℕ, List, Option, Some, None}
 use Rattle.doc.specs.Mapping.{MappingData}
 use Rattle.master.specs.State.{begun}
-use Rattle.audit.specs.declared.journal.AuditFault.{AuditFault}
-use Rattle.audit.specs.declared.journal.AuditFault.TheVariants.{Differs, NoMemory as OutOfMemory}
-use Rattle.audit.specs.declared.journal.Journal.{Journal}
-use Rattle.audit.specs.declared.journal.Journal.TheVariants.{OfMaster as of_master, OfCopy as of_copy}
+use Rattle.audit.specs.declared.fault.AuditFault.{AuditFault}
+use Rattle.audit.specs.declared.fault.AuditFault.TheVariants.{Differs, NoMemory as OutOfMemory}
+use Rattle.journal.specs.declared.journal.Journal.{Journal}
+use Rattle.journal.specs.declared.journal.Journal.TheVariants.{OfMaster as of_master, OfCopy as of_copy}
 use Rattle.audit.specs.declared.judge.Wrong.{Wrong}
 use Rattle.audit.specs.declared.judge.Wrong.TheVariants.{At, NoMemory}
-use Rattle.audit.specs.declared.moves.Placed.{Placed}
-use Rattle.audit.specs.Audit.{placed_in, IsFirstWrong, IsLawful, IsOpening}
+use Rattle.journal.specs.declared.moves.Placed.{Placed}
+use Rattle.audit.specs.Audit.{placed_in, IsFirstWrong, IsOpening}
+use Rattle.journal.specs.Lawful.{IsLawful}
 
 -- the journal's copy, where it is one's, has this mapping
 abbrev pub IsOfMapping : MappingData → Journal → Type 0

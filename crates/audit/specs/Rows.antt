@@ -12,12 +12,12 @@ use Rattle.replica.specs.declared.output.Answer.TheVariants.{Wrote, Taken, Repea
 use Rattle.replica.specs.declared.output.Outcome.TheVariants.{Created}
 use Rattle.replica.specs.Copy.{begun}
 use Rattle.world.specs.declared.event.Event.TheVariants.{Deliver}
-use Rattle.audit.specs.declared.journal.Deed.{Deed}
+use Rattle.journal.specs.declared.journal.Deed.{Deed}
 use Rattle.world.specs.Lines.{a, n1, n2, put}
 use Rattle.world.specs.World.{new_world, world_of}
-use Rattle.audit.specs.declared.journal.Journal.{Journal}
-use Rattle.audit.specs.declared.journal.Journal.TheVariants.{OfMaster as of_master, OfCopy as of_copy}
-use Rattle.audit.specs.Audit.{IsMadeOf, IsUncaused, IsDiffering}
+use Rattle.journal.specs.declared.journal.Journal.{Journal}
+use Rattle.journal.specs.declared.journal.Journal.TheVariants.{OfMaster as of_master, OfCopy as of_copy}
+use Rattle.audit.specs.Audit.{IsMadeOf, IsMissing, IsUncaused, IsDiffering}
 
 abbrev pub empty : MappingData
 empty = record { strict = false; fields = [] }
@@ -43,7 +43,7 @@ takes source answer = record { pass = 0; input = Take (op_message source); answe
 abbrev pub journals : List Deed → List ℕ → Answer → List Journal
 journals one source answer = of_master (new_world empty 2).master [] ∷ of_copy (begun 1 2 empty) one ∷ of_copy (begun 2 2 empty) (takes source answer ∷ []) ∷ []
 
--- as it is, without copy 1's last entry, with another source in copy 2's entry, and with another answer there
+-- as it is, without copy 1's last entry, with another source in copy 2's entry, with another answer there, and without the copies' journals
 pub record Row_audit : Type 0 where
   pub whole : IsMadeOf empty 2 (journals (writes ∷ hears ∷ []) n1 Taken) (put 1 a n1 ∷ Deliver 1 ∷ Deliver 2 ∷ [])
   pub acknowledged : (world_of empty 2 (put 1 a n1 ∷ Deliver 1 ∷ Deliver 2 ∷ [])).acknowledged ≡ first_op n1 ∷ []
@@ -51,4 +51,5 @@ pub record Row_audit : Type 0 where
   pub none : (world_of empty 2 (put 1 a n1 ∷ Deliver 1 ∷ [])).acknowledged ≡ []
   pub uncaused : IsUncaused empty (journals (writes ∷ hears ∷ []) n2 Taken) 1 1
   pub differs : IsDiffering empty (journals (writes ∷ hears ∷ []) n1 Repeated) 2 0
+  pub missing : IsMissing empty (of_master (new_world empty 2).master [] ∷ []) 1 0
   pub both : IsDiffering empty (journals (writes ∷ hears ∷ []) n2 Repeated) 2 0

@@ -1,12 +1,12 @@
 -- What the judging of the master's journal tells.
 use Rattle.std.specs.Prelude.{◌≡◌, ℕ, List, ◌++◌, Option}
-use Rattle.audit.specs.declared.journal.Ruling.{Ruling}
+use Rattle.journal.specs.declared.journal.Ruling.{Ruling}
 use Rattle.audit.specs.declared.judge.Wrong.{Wrong}
 use Rattle.audit.specs.declared.judge.Wrong.TheVariants.{At, NoMemory}
-use Rattle.audit.specs.declared.moves.Placed.{Placed}
+use Rattle.journal.specs.declared.moves.Placed.{Placed}
 use Rattle.audit.specs.Audit.{RulingFailsAt}
 use Rattle.audit.specs.Judge.{listed}
-use Rattle.audit.specs.Rulings.{Ruler, AreLegal, IsLegalRuling, next_ruler, rulings, rulings_at}
+use Rattle.journal.specs.Rulings.{Ruler, AreLegal, IsLegalRuling, next_ruler, rulings, rulings_at}
 
 -- the entry is legal, and this is what the master did
 pub record IsRuled (old new : Ruler) (place : ℕ) (r : Ruling) (o : Option Placed) : Type 0 where

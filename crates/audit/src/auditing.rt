@@ -3,28 +3,28 @@ ghost use Rattle.std.specs.Prelude.{◌≡◌, ◌↔◌, ◌<◌, ◌^◌, ℕ,
 ghost use Rattle.doc.specs.Mapping.{MappingData};
 ghost use Rattle.master.specs.State.{begun};
 ghost use Rattle.world.specs.Held.{Held};
+ghost use Rattle.audit.specs.Given as given;
 ghost use Rattle.audit.specs.Judge.{IsJudged, IsMisjudged};
-ghost use Rattle.audit.specs.declared.journal.Journal.TheVariants.{OfMaster, OfCopy};
+ghost use Rattle.journal.specs.declared.journal.Journal.TheVariants.{OfMaster, OfCopy};
 ghost use Rattle.audit.specs.Audit.{placed_in, IsAudited, IsSize, Pass};
 ghost use Rattle.audit.specs.Passing.{fault_at, IsCount, IsFailing, IsPassing};
 
 use crate::equal::equal_state;
+use crate::fault::AuditFault;
 use crate::following::Following;
-use crate::journal::{AuditFault, Deed, Journal, Ruling};
 use crate::judge::{Wrong, judge};
 use crate::making::make;
 use crate::merge::Halt;
-use crate::moves::Part;
-use crate::opening::Opening;
 use crate::ruler::{Ruler, judge_rulings};
 use doc::Mapping;
-use master::State;
+use journal::{Deed, Journal, Opening, Part, Ruling};
+use master::{Decision, MasterFault, State};
 use std::alloc::{AllocError, Global};
 use world::World;
 
 /// The world of a run that the journals are of: the first journal is the master's, the next that of copy 1, and so on. Else the first node whose
-/// journal isn't that of a node of a new index of this mapping, with the place of the first entry that differs; or, where each journal may be
-/// true by itself, a node with an entry that nothing in the journals causes.
+/// journal isn't that of a node of a new index of this mapping, with the place of the first entry that differs, or that has none, though the
+/// master's journal gives its id; or, where each journal may be true by itself, a node with an entry that nothing in the journals causes.
 pub fn audit(alloc: Global, mapping: &Mapping, journals: &[Journal]) -> Result<World, AuditFault>
     requires ids { length journals.now < 2 ^ 32 }
     ensures audited { IsAudited mapping.now journals.now result }
@@ -38,10 +38,48 @@ pub fn audit(alloc: Global, mapping: &Mapping, journals: &[Journal]) -> Result<W
         Ok(parts) => parts,
         Err(fault) => return Err(fault),
     };
+    if !are_all(journals) {
+        return Err(AuditFault::Differs(journals.len() as u64, 0));
+    }
     match make(alloc, mapping, copies, parts.as_slice()) {
         Ok(world) => Ok(world),
         Err(Halt::At(node, place)) => Err(AuditFault::Uncaused(node as u64, place)),
         Err(Halt::NoMemory) => Err(AuditFault::NoMemory),
+    }
+}
+
+/// Whether each node has its journal: the master, and each copy to which its journal gives an id.
+fn are_all(journals: &[Journal]) -> bool
+    ensures { IsTrue result ↔ given.AreAll journals.now }
+{
+    match journals.first() {
+        Some(Journal::OfMaster(state, rulings)) => {
+            next_given(state.next, rulings.as_slice()) <= journals.len() as u64
+        }
+        _ => false,
+    }
+}
+
+/// The number behind the last id that the entries give; the first one where they give none.
+fn next_given(first: u64, rulings: &[Ruling]) -> u64
+    ensures { result ≡ given.next_given first rulings.now }
+{
+    let mut next = first;
+    for ruling in rulings {
+        next = behind(next, &ruling.answer);
+    }
+    next
+}
+
+fn behind(next: u64, answer: &Result<Decision, MasterFault>) -> u64
+    ensures { result ≡ given.behind next answer.now }
+{
+    match answer {
+        Ok(decision) => match decision.given {
+            Some(id) => id as u64 + 1,
+            None => next,
+        },
+        Err(_) => next,
     }
 }
 

@@ -86,9 +86,9 @@ pub(crate) fn equal_messages(messages: &[Msg], others: &[Msg]) -> bool
 
 // ---- what copies answer
 
-/// Whether two outputs are the same, apart from how many copies had to acknowledge.
+/// Whether two outputs are the same.
 pub(crate) fn equal_output(output: &Output, other: &Output) -> bool
-    ensures { IsTrue result ↔ ((output.now.answer ≡ other.now.answer) × (output.now.sent ≡ other.now.sent) × (output.now.acknowledged ≡ other.now.acknowledged)) }
+    ensures { IsTrue result ↔ ((output.now.answer ≡ other.now.answer) × (output.now.sent ≡ other.now.sent) × (output.now.acknowledged ≡ other.now.acknowledged) × (output.now.members ≡ other.now.members)) }
 {
     equal_answer(&output.answer, &other.answer)
         && equal_messages(output.sent.as_slice(), other.sent.as_slice())
@@ -96,6 +96,7 @@ pub(crate) fn equal_output(output: &Output, other: &Output) -> bool
             output.acknowledged.as_slice(),
             other.acknowledged.as_slice(),
         )
+        && output.members == other.members
 }
 
 fn equal_answer(answer: &Answer, other: &Answer) -> bool

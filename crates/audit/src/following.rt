@@ -7,17 +7,16 @@ ghost use Rattle.replica.specs.declared.fault.CopyFault.TheVariants.{NoMemory};
 ghost use Rattle.replica.specs.Logged.{is_restart, output_of, prepared_copy, IsReady};
 ghost use Rattle.replica.specs.Step.{copy_step};
 ghost use Rattle.audit.specs.Following.{count_after, shut_by, standing_of, IsReport, MayFail};
-ghost use Rattle.audit.specs.Journal.{found, is_point, keeps_record, left_by, may_shut, moves_if, open_at, is_event, placed, reopened, torn_move, MayAnswer, MayRefuse};
+ghost use Rattle.journal.specs.Journal.{found, is_point, keeps_record, left_by, may_shut, moves_if, open_at, is_event, placed, reopened, torn_move, MayAnswer, MayRefuse};
 ghost use Rattle.audit.specs.Judge.{listed, IsFollowed, IsRefused};
-ghost use Rattle.audit.specs.Opening.{born};
-ghost use Rattle.audit.specs.declared.moves.Move.TheVariants.{Does};
+ghost use Rattle.journal.specs.Opening.{born};
+ghost use Rattle.journal.specs.declared.moves.Move.TheVariants.{Does};
 
 use crate::both::both;
 use crate::equal::{equal_fault, equal_output};
-use crate::journal::Deed;
 use crate::judge::{Follower, Wrong};
-use crate::moves::{Move, Placed};
 use doc::Mapping;
+use journal::{Deed, Move, Placed};
 use replica::{Answer, Birth, Copy, CopyFault, Input, Output, Prepared};
 use std::alloc::{AllocError, Global};
 use std::marker::Model;
@@ -41,7 +40,7 @@ pub(crate) struct Following {
 
 impl Model for Following {
     ghost use Rattle.std.specs.Prelude.{◌≡◌, false, IfSome};
-    ghost use Rattle.audit.specs.Journal.{Standing};
+    ghost use Rattle.journal.specs.Journal.{Standing};
 
     ghost Value = { Standing };
 
@@ -217,7 +216,7 @@ fn commits(
 ) -> Result<bool, AllocError>
     requires ready { IsReady copy.old prepared }
     requires open { copy.old.closed ≡ false }
-    ensures same { IfOk result (λ is. IsTrue is ↔ (((output_of prepared).answer ≡ output.now.answer) × ((output_of prepared).sent ≡ output.now.sent) × ((output_of prepared).acknowledged ≡ output.now.acknowledged))) }
+    ensures same { IfOk result (λ is. IsTrue is ↔ (((output_of prepared).answer ≡ output.now.answer) × ((output_of prepared).sent ≡ output.now.sent) × ((output_of prepared).acknowledged ≡ output.now.acknowledged) × ((output_of prepared).members ≡ output.now.members))) }
     ensures copy { IfOk result (λ is. IsTrue is → copy.new.copy ≡ prepared_copy copy.old.copy prepared) }
     ensures open { copy.new.closed ≡ false }
 {
@@ -352,7 +351,10 @@ fn reported(count: u64, restart: bool, output: &Output) -> Option<bool>
     ensures some { IfSome result (λ kept. IsReport count (count_after restart count) output.now × (kept ≡ not (is_point output.now.answer count))) }
     ensures none { result ≡ None → IsReport count (count_after restart count) output.now → ⊥ }
 {
-    if !output.sent.as_slice().is_empty() || !output.acknowledged.as_slice().is_empty() {
+    if output.members != 0
+        || !output.sent.as_slice().is_empty()
+        || !output.acknowledged.as_slice().is_empty()
+    {
         return None;
     }
     match output.answer {

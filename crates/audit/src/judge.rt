@@ -1,10 +1,9 @@
 //! The judging of a copy's journal.
 ghost use Rattle.std.specs.Prelude.{◌≡◌, IfOk, IfErr};
-ghost use Rattle.audit.specs.Journal.{Standing};
+ghost use Rattle.journal.specs.Journal.{Standing};
 ghost use Rattle.audit.specs.Judge.{IsFollowed, IsRefused, IsJudged, IsMisjudged};
 
-use crate::journal::Deed;
-use crate::moves::{Part, Placed};
+use journal::{Deed, Part, Placed};
 use std::alloc::{AllocError, AllocFailed, Global};
 
 /// Why a journal isn't judged legal: an entry that isn't, by its place; and want of memory.

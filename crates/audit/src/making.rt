@@ -6,9 +6,9 @@ ghost use Rattle.audit.specs.Merge.{count_of, HaltsIn, IsMerged};
 
 use crate::both::both;
 use crate::merge::{Halt, merge};
-use crate::moves::Part;
 use crate::stage::Making;
 use doc::Mapping;
+use journal::Part;
 use std::alloc::{AllocError, Global};
 use world::World;
 

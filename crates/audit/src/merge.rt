@@ -3,9 +3,9 @@ ghost use Rattle.std.specs.Prelude.{◌≡◌, ◌<◌, ◌^◌, ℕ, length, sl
 ghost use Rattle.world.specs.World.{World, world_step};
 ghost use Rattle.audit.specs.Moves.{CanGo, IsStuck, event_of};
 ghost use Rattle.audit.specs.Merge.{moves_in, count_of, part_of, IsWithin, HasNext, HasNextOf, IsMerged, IsOpenAt, IsNextOf, HaltsIn};
-ghost use Rattle.audit.specs.declared.moves.Move.{Move as Made};
+ghost use Rattle.journal.specs.declared.moves.Move.{Move as Made};
 
-use crate::moves::{Move, Part};
+use journal::{Move, Part};
 use std::alloc::{AllocError, Global};
 
 /// Why a merge ends before all moves are taken: a node whose next move can't come, with the move's place; and want of memory.

@@ -1,7 +1,8 @@
 //! Where the next message from one node to another should be. It makes the merge quick, and no contract rests on it.
 
-use crate::moves::{Move, message_of};
+use journal::Move;
 use op::Msg;
+use replica::Input;
 use std::alloc::{AllocError, Global};
 
 /// How far ahead of the next message, and how far behind it, one is looked for.
@@ -126,5 +127,14 @@ impl Post {
                 return;
             }
         }
+    }
+}
+
+/// The message that a move takes.
+fn message_of(next: &Move) -> Option<&Msg> {
+    match next {
+        Move::Does(Input::Take(message)) => Some(message),
+        Move::Tears(Input::Take(message), _) => Some(message),
+        _ => None,
     }
 }

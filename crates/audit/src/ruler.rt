@@ -4,15 +4,14 @@ ghost use Rattle.master.specs.Decide.{master_step};
 ghost use Rattle.master.specs.Fault.{is_log};
 ghost use Rattle.master.specs.State.{begun};
 ghost use Rattle.audit.specs.declared.judge.Wrong.TheVariants.{At};
-ghost use Rattle.audit.specs.declared.moves.Move.TheVariants.{Asks};
+ghost use Rattle.journal.specs.declared.moves.Move.TheVariants.{Asks};
 ghost use Rattle.audit.specs.Judge.{listed};
 ghost use Rattle.audit.specs.Ruled.{AreOverruled, AreRuled, IsOverruled, IsRuled};
-ghost use Rattle.audit.specs.Rulings.{ruled, rulings_at, MayDeny, MayRule};
+ghost use Rattle.journal.specs.Rulings.{ruled, rulings_at, MayDeny, MayRule};
 
 use crate::equal::{equal_decision, equal_refusal};
-use crate::journal::Ruling;
 use crate::judge::Wrong;
-use crate::moves::{Move, Part, Placed};
+use journal::{Move, Part, Placed, Ruling};
 use master::{Decision, Master, MasterFault, Request};
 use std::alloc::{AllocError, Global};
 use std::marker::Model;
@@ -27,7 +26,7 @@ pub(crate) struct Ruler {
 
 impl Model for Ruler {
     ghost use Rattle.std.specs.Prelude.{◌≡◌, false};
-    ghost use Rattle.audit.specs.Rulings as spec;
+    ghost use Rattle.journal.specs.Rulings as spec;
 
     ghost Value = { spec.Ruler };
 

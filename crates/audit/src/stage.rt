@@ -3,13 +3,13 @@ ghost use Rattle.std.specs.Prelude.{◌≡◌, ◌↔◌, ℕ, None, Some, IsTru
 ghost use Rattle.world.specs.World.{request_of};
 ghost use Rattle.audit.specs.Causes.{needs, IsLet, IsReady, IsTaken, IsTo, Lets};
 ghost use Rattle.audit.specs.Moves.{event_of, may_tear, IsThere};
-ghost use Rattle.audit.specs.declared.moves.Move.TheVariants.{Asks, Does, Tears};
+ghost use Rattle.journal.specs.declared.moves.Move.TheVariants.{Asks, Does, Tears};
 
 use crate::both::both;
 use crate::equal::equal_message;
 use crate::merge::Stage;
-use crate::moves::Move;
 use crate::posts::{Posts, around};
+use journal::Move;
 use master::Request;
 use op::{Content, Msg};
 use replica::Input;

@@ -19,8 +19,8 @@ use Rattle.published.specs.Line.{Line, line}
 use Rattle.published.specs.Listings.{GoesOn, StartsWith}
 use Rattle.published.specs.Showing.{cell_of, listing}
 use Rattle.published.proofs.Orders.{self-GoesOn, trans-GoesOn, trans-StartsWith}
-use Rattle.audit.specs.declared.journal.Deed.{Deed}
-use Rattle.audit.specs.Journal.{Shut, Standing, after, answered, found, is_kept, left_by, next, open_at, refused_at, reopened}
+use Rattle.journal.specs.declared.journal.Deed.{Deed}
+use Rattle.journal.specs.Journal.{Shut, Standing, after, answered, found, is_kept, left_by, next, open_at, refused_at, reopened}
 use Rattle.node.specs.Held.{JournalData, IsHeld}
 use Rattle.cell.specs.Publishing.{CellData, IsBegun, IsLater, IsPublishedOf, IsShownBy, IsAllShown}
 use Rattle.node.specs.Reading.{standing}

@@ -1,7 +1,7 @@
 //! A copy with its journal, and what it publishes.
 ghost use Rattle.std.specs.Prelude.{◌≡◌, ◌∷◌, [], length, false, IfOk, IfErr, IfSome, IsOk, OnOk, OnErr};
-ghost use Rattle.audit.specs.Journal.{IsLegal, open_at};
-ghost use Rattle.audit.specs.declared.journal.Journal.TheVariants.{OfCopy};
+ghost use Rattle.journal.specs.Journal.{IsLegal, open_at};
+ghost use Rattle.journal.specs.declared.journal.Journal.TheVariants.{OfCopy};
 ghost use Rattle.replica.specs.Logged.{is_refresh};
 ghost use Rattle.node.specs.Held.{IsCall};
 ghost use Rattle.cell.specs.Publishing.{IsBegun, IsKept, IsPublished, IsRefusedCall, IsShownAfter, IsShownBy, IsStepped, IsAllShown};
@@ -10,8 +10,8 @@ ghost use Rattle.published.specs.Told.{IsOf};
 ghost use Rattle.node.specs.Reading.{standing, IsGotFrom, IsUngot};
 ghost use Rattle.node.specs.Stands.{LastStands};
 
-use audit::Journal;
 use doc::DocId;
+use journal::Journal;
 use node::{Got, Held, NodeFault, Pass, Receipt};
 use published::{Name, Note, Publisher, Searcher, Showing, ShownRecords};
 use replica::{Copy, Input, Write};

@@ -2,7 +2,7 @@
 use Rattle.std.proofs.Common.{◌≡◌, ℕ, List, [], ◌∷◌, ◌++◌, append-nil, Result, Ok, Err, IfOk, sym, subst}
 use Rattle.std.specs.Prelude.{All, Vec}
 use Rattle.std.specs.declared.alloc.Global.{Global}
-use Rattle.audit.specs.declared.journal.Journal.{Journal}
+use Rattle.journal.specs.declared.journal.Journal.{Journal}
 use Rattle.node.specs.declared.pass.Receipt.{Receipt}
 use Rattle.cluster.specs.declared.fault.ClusterFault.{ClusterFault}
 use Rattle.node.specs.Passes.{PassData}

@@ -1,9 +1,9 @@
 -- A journal of the master with one more entry.
 use Rattle.std.proofs.Common.{◌≡◌, ◌⊎◌, inl, inr, ℕ, true, false, List, [], ◌∷◌, ◌++◌, Option, Some, None, Result, Ok, Err, IfOk, IfErr, refl, sym, ap, subst, ◌∙◌, true≢false}
 use Rattle.std.specs.Prelude.{IfSome}
-use Rattle.audit.specs.declared.journal.Ruling.{Ruling}
-use Rattle.audit.specs.Audit.{begins_open}
-use Rattle.audit.specs.Rulings.{Ruler, AreLegal, IsLegalRuling, next_ruler, ruled, ruler_after}
+use Rattle.journal.specs.declared.journal.Ruling.{Ruling}
+use Rattle.journal.specs.Lawful.{begins_open}
+use Rattle.journal.specs.Rulings.{Ruler, AreLegal, IsLegalRuling, next_ruler, ruled, ruler_after}
 use Rattle.doc.specs.Outcome.{Fails}
 use Rattle.master.specs.declared.fault.MasterFault.{MasterFault}
 use Rattle.master.specs.declared.fault.MasterFault.TheVariants.{OldTerm, NotInSync, IsPrimary, Gone, Log, NoMemory, Full}

@@ -1,8 +1,8 @@
 -- Journals that are handed out.
 use Rattle.std.specs.Prelude.{◌≡◌, ℕ, List, [], ◌∷◌, Some, All, Any}
-use Rattle.audit.specs.declared.journal.Journal.{Journal}
-use Rattle.audit.specs.declared.journal.Journal.TheVariants.{OfMaster, OfCopy}
-use Rattle.audit.specs.Audit.{IsLawful}
+use Rattle.journal.specs.declared.journal.Journal.{Journal}
+use Rattle.journal.specs.declared.journal.Journal.TheVariants.{OfMaster, OfCopy}
+use Rattle.journal.specs.Lawful.{IsLawful}
 use Rattle.node.specs.declared.pass.Receipt.{Receipt}
 use Rattle.node.specs.Gathered.{deed_at, AreGathered, IsWhole}
 

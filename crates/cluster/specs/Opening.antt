@@ -1,12 +1,12 @@
 -- What devices hold when a cluster is opened.
-use Rattle.std.specs.Prelude.{◌≡◌, ℕ, nat_le, if◌then◌else◌, List, [], ◌∷◌, Option, Some, None, Ok}
+use Rattle.std.specs.Prelude.{◌≡◌, ℕ, max, nat_le, ◌==◌, ◌&&◌, ◌||◌, Bool, false, if◌then◌else◌, List, [], ◌∷◌, Option, Some, None, Ok}
 use Rattle.doc.specs.Mapping.{MappingData}
 use Rattle.master.specs.declared.entry.Entry.TheVariants.{Begin}
 use Rattle.master.specs.Entry.{entry_of}
 use Rattle.master.specs.Log.{header}
+use Rattle.cluster.specs.declared.opening.Opened.{Opened}
 use Rattle.node.specs.Held.{JournalData}
 use Rattle.op.specs.declared.record.Record.{Record}
-use Rattle.op.specs.Ids.{has}
 use Rattle.replica.specs.declared.role.Birth.{Birth}
 use Rattle.replica.specs.declared.role.Birth.TheVariants.{First, Added}
 use Rattle.replica.specs.Copy.{opened}
@@ -30,13 +30,24 @@ pub record BeganWith (bytes : List ℕ) (count : Option ℕ) : Type 0 where
 abbrev pub birth_of : ℕ → ℕ → Birth
 birth_of id count = if nat_le id count then First else Added
 
-abbrev pub least_of : List ℕ → Option ℕ
-least_of [] = None
-least_of (n ∷ ns) = Some n
+-- the greatest number behind the last operation of a copy
+abbrev pub most_of : List Opened → ℕ
+most_of [] = 0
+most_of (o ∷ os) = max o.next (most_of os)
 
--- the copy that is to lead: the old primary where it is among these, else the first of them
-abbrev pub leader_of : ℕ → List ℕ → Option ℕ
-leader_of primary ids = if has ids primary then Some primary else least_of ids
+-- the first copy that has the operations up to a number
+abbrev pub first_with : ℕ → List Opened → Option ℕ
+first_with n [] = None
+first_with n (o ∷ os) = if o.next == n then Some o.copy else first_with n os
+
+-- whether a copy is there that has the operations up to a number
+abbrev pub is_with : ℕ → ℕ → List Opened → Bool
+is_with copy n [] = false
+is_with copy n (o ∷ os) = ((o.copy == copy) && (o.next == n)) || is_with copy n os
+
+-- the copy that is to lead, of those that opened: the old primary, unless another one has an operation behind its last; else the first of those that have most
+abbrev pub leader_of : ℕ → List Opened → Option ℕ
+leader_of primary os = if is_with primary (most_of os) os then Some primary else first_with (most_of os) os
 
 -- a copy that a log held, whose journal begins with the log's records
 pub record IsKept (id : ℕ) (birth : Birth) (mapping : MappingData) (bytes : List ℕ) (j : JournalData) : Type 0 where

@@ -1,8 +1,8 @@
 -- The master with its journal.
 use Rattle.std.specs.Prelude.{◌≡◌, ◌⊎◌, ℕ, true, List, [], ◌∷◌, ◌++◌, Option, Some, None, Result, Ok, Err}
-use Rattle.audit.specs.declared.journal.Ruling.{Ruling}
-use Rattle.audit.specs.Audit.{begins_open}
-use Rattle.audit.specs.Rulings.{AreLegal, IsLegalRuling, next_ruler, ruler_after}
+use Rattle.journal.specs.declared.journal.Ruling.{Ruling}
+use Rattle.journal.specs.Lawful.{begins_open}
+use Rattle.journal.specs.Rulings.{AreLegal, IsLegalRuling, next_ruler, ruler_after}
 use Rattle.master.specs.declared.fault.MasterFault.{MasterFault}
 use Rattle.master.specs.declared.fault.MasterFault.TheVariants.{OldTerm, NotInSync, IsPrimary, Gone, Log, NoMemory, Full}
 use Rattle.master.specs.declared.state.Decision.{Decision}

@@ -126,7 +126,7 @@ impl<D: LogDevice> Client<D> {
         Ok(answer?)
     }
 
-    /// Refreshes each copy, and tells how many are. One that is closed or gone is passed over.
+    /// Refreshes each copy that isn't gone, and tells how many of those in sync are. One that is closed is passed over.
     pub fn refresh<R: Wait>(&self, rt: &R) -> Result<u64, ClusterFault> {
         let state = self.state(rt)?;
         let mut refreshed: u64 = 0;
@@ -134,7 +134,7 @@ impl<D: LogDevice> Client<D> {
             let Ok(copy) = u32::try_from(copy) else {
                 break;
             };
-            if !state.gone.has(copy) && self.is_refreshed(rt, copy)? {
+            if !state.gone.has(copy) && self.is_refreshed(rt, copy)? && state.in_sync.has(copy) {
                 refreshed = refreshed.saturating_add(1);
             }
         }

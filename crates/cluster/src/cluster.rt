@@ -8,21 +8,22 @@ use crate::bench::{Bench, Start, start_beside};
 use crate::channels::sent;
 use crate::client::Client;
 use crate::devices::Devices;
-use crate::fault::{ClusterFault, OpenFault, Unopened, of_master_log};
+use crate::fault::{ClusterFault, OpenFault, ShortLog, Unopened, of_master_log};
 use crate::gate::Gate;
 use crate::left::{Left, stray_in};
-use crate::opening::{beginning, birth_of, joining_copy, kept_copy, leader_of, new_copy};
+use crate::opening::{
+    Opened, beginning, birth_of, joining_copy, kept_copy, lacking, leader_of, new_copy,
+};
 use crate::post::{Post, Route};
 use crate::ready::Ready;
 use crate::ruled::Ruled;
 use crate::shared::Shared;
 use crate::worker::Tools;
-use audit::Journal;
 use crossbeam_channel::{Receiver, bounded, unbounded};
 use doc::Mapping;
+use journal::Journal;
 use master::{Decision, Master, MasterFault, Request};
 use node::{Pass, Receipt};
-use op::CopyIds;
 use replica::{Birth, CopyFault};
 use std::alloc::{AllocError, Global};
 use std::sync::{Arc, Mutex, Wait};
@@ -47,6 +48,7 @@ pub struct Cluster<D: LogDevice, V: Devices<D>, G: Gate> {
     client: Client<D>,
     threads: Vec<JoinHandle<Left>>,
     unopened: Vec<Unopened>,
+    short_log: Option<ShortLog>,
 }
 
 impl<D: LogDevice + Send + 'static, V: Devices<D>, G: Gate + Send + Sync + 'static> Cluster<
@@ -81,9 +83,9 @@ impl<D: LogDevice + Send + 'static, V: Devices<D>, G: Gate + Send + Sync + 'stat
 
     /// Starts the index that devices hold; over devices that hold nothing a new one, as `start` does.
     ///
-    /// Of the copies that are in sync each is opened; the others are gone for good. The master makes its primary the primary of the next term,
-    /// or where that doesn't open the least id that does, and the new primary reports those that didn't open. Where none opens the cluster is
-    /// refused, and nothing is decided.
+    /// Of the copies that are in sync each is opened; the others are gone for good. The master makes its primary the primary of the next term; or
+    /// where that doesn't open, or another copy has an operation behind its last one, the first of those that have most, for its log has then lost
+    /// what it kept. The new primary reports those that didn't open. Where none opens the cluster is refused, and nothing is decided.
     pub fn open<R: Threads + Wait + Copy + Send + Drop + 'static>(
         rt: &R,
         alloc: Global,
@@ -165,6 +167,7 @@ impl<D: LogDevice + Send + 'static, V: Devices<D>, G: Gate + Send + Sync + 'stat
             client: Client { alloc, shared },
             threads: Vec::new(alloc),
             unopened: Vec::new(alloc),
+            short_log: None,
         })
     }
 
@@ -212,15 +215,16 @@ impl<D: LogDevice + Send + 'static, V: Devices<D>, G: Gate + Send + Sync + 'stat
     ) -> Result<(), ClusterFault> {
         let alloc = self.client.alloc;
         let state = self.client.state(rt)?;
-        let mut opened = CopyIds::none(alloc);
+        let mut opened = Vec::new(alloc);
         self.devices.will_open(&state.in_sync);
         for id in state.in_sync.as_slice() {
-            if self.open_one(rt, *id, birth_of(*id, count))? {
-                opened = opened.with(alloc, *id)?;
+            if let Some(next) = self.open_one(rt, *id, birth_of(*id, count))? {
+                opened.push(Opened { copy: *id, next })?;
             }
         }
-        match leader_of(state.primary, &opened) {
+        match leader_of(state.primary, opened.as_slice()) {
             Some(leader) => {
+                self.note_short_log(state.primary, leader, opened.as_slice());
                 self.client.promote(rt, leader)?;
                 Ok(())
             }
@@ -231,29 +235,42 @@ impl<D: LogDevice + Send + 'static, V: Devices<D>, G: Gate + Send + Sync + 'stat
         }
     }
 
-    /// Opens a copy and starts its thread, and tells whether it opened. Want of memory is no reason to give it up.
+    /// Notes that the copy that led last lacks operations that the one has that is to lead.
+    fn note_short_log(&mut self, primary: u32, leader: u32, opened: &[Opened]) {
+        if let Some(lacking) = lacking(primary, opened) {
+            self.short_log = Some(ShortLog {
+                copy: primary,
+                lacking,
+                leader,
+            });
+        }
+    }
+
+    /// Opens a copy and starts its thread, and tells the number behind its last operation, where it opened. Want of memory is no reason to give it
+    /// up.
     fn open_one<R: Threads + Wait + Copy + Send + Drop + 'static>(
         &mut self,
         rt: &R,
         id: u32,
         birth: Birth,
-    ) -> Result<bool, ClusterFault> {
+    ) -> Result<Option<u64>, ClusterFault> {
         match self.kept(id, birth) {
             Ok(ready) => {
+                let next = ready.held.copy().next_seq();
                 self.launch(rt, ready)?;
-                Ok(true)
+                Ok(Some(next))
             }
             Err(fault) => self.leave_out(id, fault),
         }
     }
 
     /// Notes that a copy didn't open, and why.
-    fn leave_out(&mut self, copy: u32, fault: OpenFault) -> Result<bool, ClusterFault> {
+    fn leave_out(&mut self, copy: u32, fault: OpenFault) -> Result<Option<u64>, ClusterFault> {
         if let OpenFault::Copy(CopyFault::NoMemory) = &fault {
             return Err(ClusterFault::NoMemory);
         }
         self.unopened.push(Unopened { copy, fault })?;
-        Ok(false)
+        Ok(None)
     }
 
     /// The copy that its device holds.
@@ -274,6 +291,13 @@ impl<D: LogDevice + Send + 'static, V: Devices<D>, G: Gate + Send + Sync + 'stat
         ensures { result.now ≡ self.now.unopened.items }
     {
         self.unopened.as_slice()
+    }
+
+    /// The copy that led last, where its log has lost operations that another one has.
+    pub fn short_log(&self) -> Option<ShortLog>
+        ensures { result ≡ self.now.short_log }
+    {
+        self.short_log
     }
 
     /// Adds a copy, which the primary brings up to date.

@@ -1,7 +1,7 @@
 //! Copies of receipts.
 ghost use Rattle.std.specs.Prelude.{◌≡◌, IfOk};
 
-use audit::Deed;
+use journal::Deed;
 use node::Receipt;
 use replica::{CopyFault, Output};
 use std::alloc::{AllocError, Global};

@@ -34,6 +34,29 @@ impl Display for Unopened {
     }
 }
 
+/// The copy that led last, whose log lacks operations that another copy in sync has, so that the other one leads.
+#[derive(Clone, Copy, Drop)]
+pub struct ShortLog {
+    pub copy: u32,
+    /// How many it lacks at its end.
+    pub lacking: u64,
+    pub leader: u32,
+}
+
+impl Display for ShortLog {
+    fn fmt<W: fmt::Write>(&self, f: &mut fmt::Formatter<W>) -> fmt::Result {
+        let ShortLog {
+            copy,
+            lacking,
+            leader,
+        } = *self;
+        write!(
+            f,
+            "copy {copy} led last, and its log has lost the last {lacking} that it kept; copy {leader} has them, and leads"
+        )
+    }
+}
+
 /// Why a call of a cluster gives nothing.
 #[derive(Drop)]
 pub enum ClusterFault {

@@ -2,8 +2,8 @@
 ghost use Rattle.std.specs.Prelude.{◌≡◌, All, IfNone, IsTrue};
 ghost use Rattle.cluster.specs.Journals.{HasReceipt, IsLegalJournal, IsOfOneCaller, StandsIn};
 
-use audit::Journal;
 use cell::CopyCell;
+use journal::Journal;
 use node::{Held, Pass, Receipt, gathered, stands_in};
 use std::array;
 use std::marker::Model;
@@ -20,8 +20,8 @@ pub(crate) struct Left {
 
 impl Model for Left {
     ghost use Rattle.std.specs.Prelude.{◌≡◌};
-    ghost use Rattle.audit.specs.Audit.{IsLawful};
-    ghost use Rattle.audit.specs.declared.journal.Journal.{Journal as JournalData};
+    ghost use Rattle.journal.specs.Lawful.{IsLawful};
+    ghost use Rattle.journal.specs.declared.journal.Journal.{Journal as JournalData};
     ghost use Rattle.cluster.specs.Journals.{node_of};
 
     ghost Value = { JournalData };

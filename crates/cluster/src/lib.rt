@@ -26,6 +26,6 @@ pub use client::Client;
 pub use cluster::Cluster;
 pub use confirmed::Confirmed;
 pub use devices::{Devices, InFolder, InMemory};
-pub use fault::{ClusterFault, OpenFault, Unopened};
+pub use fault::{ClusterFault, OpenFault, ShortLog, Unopened};
 pub use gate::{Gate, Open};
 pub use ruled::Ruled;

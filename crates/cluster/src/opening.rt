@@ -1,16 +1,15 @@
 //! What the devices of a cluster hold when it is opened: the log of the master, and those of copies.
 ghost use Rattle.std.specs.Prelude.{◌≡◌, ◌≤◌, [], map, IfOk};
-ghost use Rattle.audit.specs.declared.opening.Opening.{Opening as Begins};
+ghost use Rattle.journal.specs.declared.opening.Opening.{Opening as Begins};
 ghost use Rattle.replica.specs.Copy.{begun, opened};
 ghost use Rattle.replica.specs.declared.role.Birth.TheVariants.{Added};
-ghost use Rattle.cluster.specs.Opening.{birth_of, leader_of, BeganWith, IsFirst, IsKept};
+ghost use Rattle.cluster.specs.Opening.{birth_of, first_with, is_with, leader_of, most_of, BeganWith, IsFirst, IsKept};
 
 use crate::ready::Ready;
-use audit::Opening;
 use doc::Mapping;
+use journal::Opening;
 use master::Entry;
 use node::Held;
-use op::CopyIds;
 use replica::{Birth, Copy, CopyFault};
 use std::alloc::Global;
 use translog::{Frames, LogDevice, LogFault, Translog};
@@ -56,17 +55,70 @@ pub(crate) fn birth_of(id: u32, count: u8) -> Birth
     }
 }
 
-/// The copy that is to lead, of those that opened: the old primary, or the least.
-pub(crate) fn leader_of(primary: u32, opened: &CopyIds) -> Option<u32>
+/// A copy that opened, and the number behind its last operation.
+#[derive(Clone, Copy, Drop)]
+pub(crate) struct Opened {
+    pub(crate) copy: u32,
+    pub(crate) next: u64,
+}
+
+/// The copy that is to lead, of those that opened: the old primary, or one that has most. A primary keeps an operation before it sends it, so where
+/// another copy has one that the old primary lacks, the old primary's log has lost what it kept.
+pub(crate) fn leader_of(primary: u32, opened: &[Opened]) -> Option<u32>
     ensures { result ≡ leader_of primary opened.now }
 {
-    if opened.has(primary) {
-        return Some(primary);
+    let most = most_of(opened);
+    if is_with(primary, most, opened) {
+        Some(primary)
+    } else {
+        first_with(most, opened)
     }
-    match opened.as_slice() {
-        [] => None,
-        [least, ..] => Some(*least),
+}
+
+/// The greatest number behind the last operation of a copy.
+fn most_of(opened: &[Opened]) -> u64
+    ensures { result ≡ most_of opened.now }
+{
+    let mut most: u64 = 0;
+    for one in opened {
+        most = most.max(one.next);
     }
+    most
+}
+
+/// The first copy that has the operations up to a number.
+fn first_with(next: u64, opened: &[Opened]) -> Option<u32>
+    ensures { result ≡ first_with next opened.now }
+{
+    for one in opened {
+        if one.next == next {
+            return Some(one.copy);
+        }
+    }
+    None
+}
+
+/// Whether a copy is there that has the operations up to a number.
+fn is_with(copy: u32, next: u64, opened: &[Opened]) -> bool
+    ensures { result ≡ is_with copy next opened.now }
+{
+    for one in opened {
+        if one.copy == copy && one.next == next {
+            return true;
+        }
+    }
+    false
+}
+
+/// How many operations the old primary lacks of those that the copy has that is to lead; none where it leads itself, or didn't open.
+pub(crate) fn lacking(primary: u32, opened: &[Opened]) -> Option<u64> {
+    let most = most_of(opened);
+    for one in opened {
+        if one.copy == primary && one.next < most {
+            return Some(most - one.next);
+        }
+    }
+    None
 }
 
 /// A copy of a new index of so many, over a device without records.

@@ -1,7 +1,7 @@
 //! The master, with its journal.
 ghost use Rattle.std.specs.Prelude.{◌≡◌, [], true, false, None, IfOk, IfErr, OnOk, Ok, Err};
-ghost use Rattle.audit.specs.Audit.{IsLawful};
-ghost use Rattle.audit.specs.declared.journal.Journal.TheVariants.{OfMaster};
+ghost use Rattle.journal.specs.Lawful.{IsLawful};
+ghost use Rattle.journal.specs.declared.journal.Journal.TheVariants.{OfMaster};
 ghost use Rattle.cluster.specs.Ruled.{IsDecided, IsKnown, IsRuling, IsUnasked, IsUnruled};
 ghost use Rattle.master.specs.Decide.{decision_of, master_step};
 ghost use Rattle.master.specs.Fault.{fault_of, is_log};
@@ -9,7 +9,7 @@ ghost use Rattle.translog.specs.Device.{count_after};
 ghost use Rattle.translog.specs.Fault as log;
 ghost use Rattle.translog.specs.Fault.{errs_with, is_device};
 
-use audit::{Journal, Ruling, Rulings};
+use journal::{Journal, Ruling, Rulings};
 use master::{Decision, Master, MasterFault, Request, State};
 use std::alloc::{AllocError, Global};
 use std::marker::Model;

@@ -1,8 +1,8 @@
 //! The words of the command line, and what `--help` says.
 
-use crate::dumping::Dumped;
-use crate::serving::Settings;
 use clap::{Arg, ArgAction, ArgMatches, Command};
+use folder::Dumped;
+use server::Settings;
 use std::alloc::{AllocError, Global};
 
 /// What stands behind the options in `--help`.
@@ -68,6 +68,18 @@ number of lines.
 Exit status: 0; 1 where the folder can't be read, another process serves it, or
 the output can't be written; 2 for a bad command line.";
 
+/// What stands behind the options of `inspect` in `--help`.
+const INSPECTED: &str =
+    "Prints a line for each file: `records N`; the same with `torn at byte B` where its end is
+torn, as a crash leaves it, and is cut when the copy is opened; and where it is no log
+of a copy, or a record of it is damaged, that.
+
+Example:
+  ./indexd inspect books.data/copy-1.rsx
+
+Exit status: 0; 1 where a file can't be read, or is no log, or is damaged; 2 for a bad
+command line.";
+
 /// What stands behind the options of `audit` in `--help`.
 const JUDGED: &str =
     "Prints `audit ok`; or `audit failed`, with `Differs` for an entry that the node wouldn't
@@ -96,6 +108,8 @@ pub(crate) enum Task<'a> {
     Dump(Dumped<'a>),
     /// To judge the journals of a folder.
     Audit(&'a str),
+    /// To tell what logs hold.
+    Inspect(&'a [String]),
 }
 
 /// What the command line asks for, or what is wrong with it.
@@ -105,6 +119,7 @@ pub(crate) fn task_of<'a>(alloc: Global, words: &'a [String]) -> Result<Task<'a>
         Some(("serve", options)) => Ok(Task::Serve(settings_of(options))),
         Some(("dump", options)) => Ok(Task::Dump(dumped_of(options))),
         Some(("audit", options)) => Ok(Task::Audit(options.get_str("DIR").unwrap_or("."))),
+        Some(("inspect", _)) => Ok(Task::Inspect(inspected_of(words))),
         Some((_, options)) => Ok(Task::Replay(played_of(options))),
         None => Ok(Task::Replay(Played {
             file: "-",
@@ -142,6 +157,14 @@ fn dumped_of<'a>(options: &ArgMatches<'a>) -> Dumped<'a> {
     }
 }
 
+/// The files that `inspect` names: it has no options, so they are all the words behind it.
+fn inspected_of(words: &[String]) -> &[String] {
+    match words.get(2..) {
+        Some(files) => files,
+        None => words,
+    }
+}
+
 fn command<'a>(alloc: Global) -> Result<Command<'a>, AllocError> {
     Command::new(alloc, "indexd")
         .version("0.1.0")
@@ -151,7 +174,8 @@ fn command<'a>(alloc: Global) -> Result<Command<'a>, AllocError> {
         .subcommand(replay_command(alloc)?)?
         .subcommand(serve_command(alloc)?)?
         .subcommand(dump_command(alloc)?)?
-        .subcommand(audit_command(alloc)?)
+        .subcommand(audit_command(alloc)?)?
+        .subcommand(inspect_command(alloc)?)
 }
 
 fn replay_command<'a>(alloc: Global) -> Result<Command<'a>, AllocError> {
@@ -272,6 +296,18 @@ fn audit_command<'a>(alloc: Global) -> Result<Command<'a>, AllocError> {
         .about("Says whether the journals of a folder are those of one run of the model")
         .after_help(JUDGED)
         .arg(folder)
+}
+
+fn inspect_command<'a>(alloc: Global) -> Result<Command<'a>, AllocError> {
+    let files = Arg::new(alloc, "FILE")
+        .required(true)
+        .num_args(1..)
+        .action(ArgAction::Append)
+        .help("The log of a copy, as copy-1.rsx of the folder that an index is kept in");
+    Command::new(alloc, "inspect")
+        .about("Says how many records the log of a copy has, and whether its end is torn")
+        .after_help(INSPECTED)
+        .arg(files)
 }
 
 /// An option with a value.

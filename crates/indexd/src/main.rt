@@ -1,33 +1,9 @@
 //! `indexd`: an index of JSON documents, played from a script or served over HTTP.
 #![tactic(auto)]
 
-mod auditing;
-mod command;
 mod command_line;
-mod connections;
-mod data_fault;
-mod data_folder;
-mod dumping;
-mod explaining;
-mod fault;
-mod index_name;
-mod journal_folder;
-mod model_answer;
-mod names;
-mod noting;
-mod opening;
-mod playing;
 mod program;
-mod refusal;
-mod reply;
-mod serving;
-mod step;
-mod telling;
-mod verdict;
-mod writing;
 
-pub use fault::ReplayFault;
-pub use playing::replay;
 pub use program::{Terminals, program};
 use std::io::{BufReader, BufWriter, ErrorKind, IsTerminal};
 use std::process::ExitCode;

@@ -1,18 +1,13 @@
 //! The program: its command line, its streams, and its exit status.
 ghost use Rattle.std.specs.Prelude.{◌≡◌, ◌<◌, IfSome, OnOk, codes};
 ghost use Rattle.std.specs.Io.KnownBytes.{Appends};
-ghost use Rattle.indexd.specs.Output.{lines};
+ghost use Rattle.scripts.specs.Output.{lines};
 
-use crate::auditing::judge;
 use crate::command_line::{Played, Task, task_of};
-use crate::dumping::{Dumped, dump};
-use crate::fault::ReplayFault;
-use crate::names::shown;
-use crate::playing::replay_telling;
-use crate::serving::{Settings, serve};
-use crate::telling::{Listener, Teller, Wanted};
-use crate::writing::Flushing;
 use clap::error::ErrorKind;
+use folder::{Dumped, dump, inspect, judge_folder};
+use scripts::{Flushing, Listener, ReplayFault, Teller, Wanted, replay_telling, shown};
+use server::{Settings, serve};
 use std::alloc::Global;
 use std::fs::File;
 use std::io::{BufRead, BufReader, Write};
@@ -77,6 +72,7 @@ where
         }
         Ok(Task::Dump(dumped)) => run_dump(rt, dumped, output, errors),
         Ok(Task::Audit(folder)) => run_audit(rt, folder, terminals.errors, output, errors),
+        Ok(Task::Inspect(files)) => run_inspect(rt, files, output, errors),
         Err(error) => explain(&error, output, errors),
     }
 }
@@ -129,6 +125,24 @@ fn run_dump<R: Files<File = File> + AllocGlobal, O: Write, E: Write>(
     }
 }
 
+/// Tells what logs hold, and answers the exit status: 0, or 1 with one line on `errors`.
+fn run_inspect<R: Files + AllocGlobal, O: Write, E: Write>(
+    rt: &R,
+    files: &[String],
+    output: &mut O,
+    errors: &mut E,
+) -> u8
+    ensures { result < 2 }
+{
+    match inspect(rt, files, output) {
+        Ok(()) => 0,
+        Err(fault) => {
+            let _ = writeln!(errors, "indexd: {fault}");
+            1
+        }
+    }
+}
+
 /// Judges the journals of a folder, and answers the exit status: 0, or 1 with one line on `errors`.
 fn run_audit<R: Files + AllocGlobal, O: Write, E: Write>(
     rt: &R,
@@ -139,7 +153,7 @@ fn run_audit<R: Files + AllocGlobal, O: Write, E: Write>(
 ) -> u8
     ensures { result < 2 }
 {
-    match judge(rt, folder, explains, output, errors) {
+    match judge_folder(rt, folder, explains, output, errors) {
         Ok(()) => 0,
         Err(fault) => {
             let _ = writeln!(errors, "{fault}");

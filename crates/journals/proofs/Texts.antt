@@ -7,7 +7,7 @@ use Rattle.serde_json.specs.Data.{Data}
 use Rattle.wire.specs.Pieces.{cut_at}
 use Rattle.wire.proofs.Cuts.{split_at}
 use Rattle.doc.specs.Mapping.{MappingData}
-use Rattle.audit.specs.declared.journal.Journal.{Journal}
+use Rattle.journal.specs.declared.journal.Journal.{Journal}
 use Rattle.journals.specs.Entries.{AreLinesOf, AreTexts, IsLineOf, IsTextOf, IsTextOfNode}
 
 -- a line in front of others

@@ -9,11 +9,11 @@ use Rattle.replica.specs.declared.output.Output.{Output}
 use Rattle.replica.specs.declared.fault.CopyFault.{CopyFault}
 use Rattle.master.specs.declared.state.Decision.{Decision}
 use Rattle.master.specs.declared.fault.MasterFault.{MasterFault}
-use Rattle.audit.specs.declared.journal.Deed.{Deed}
-use Rattle.audit.specs.declared.journal.Ruling.{Ruling}
-use Rattle.audit.specs.declared.journal.Journal.{Journal}
-use Rattle.audit.specs.declared.journal.Journal.TheVariants.{OfMaster, OfCopy}
-use Rattle.audit.specs.Opening.{born}
+use Rattle.journal.specs.declared.journal.Deed.{Deed}
+use Rattle.journal.specs.declared.journal.Ruling.{Ruling}
+use Rattle.journal.specs.declared.journal.Journal.{Journal}
+use Rattle.journal.specs.declared.journal.Journal.TheVariants.{OfMaster, OfCopy}
+use Rattle.journal.specs.Opening.{born}
 use Rattle.master.specs.State.{begun}
 use Rattle.doc.specs.Mapping.{MappingData, mapping_of}
 use Rattle.wire.specs.Pieces.{cut_at}

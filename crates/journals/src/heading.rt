@@ -1,9 +1,9 @@
 //! What the journals of a new index begin with.
 ghost use Rattle.std.specs.Prelude.{◌≡◌, IfOk};
-ghost use Rattle.audit.specs.Opening.{born};
+ghost use Rattle.journal.specs.Opening.{born};
 
-use audit::{Journal, Opening};
 use doc::Mapping;
+use journal::{Journal, Opening};
 use replica::Birth;
 use std::alloc::{AllocError, AllocFailed, Global};
 use thiserror::Error;

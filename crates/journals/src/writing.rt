@@ -6,7 +6,7 @@ mod items;
 
 use crate::heading::{HeadFault, copies_of};
 use crate::writing::entries::{deed_value, head_value, ruling_value};
-use audit::Journal;
+use journal::Journal;
 use serde_json::Value;
 use std::alloc::{AllocError, Global};
 

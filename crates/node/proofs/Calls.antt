@@ -5,8 +5,8 @@ use Rattle.replica.specs.declared.fault.CopyFault.{CopyFault}
 use Rattle.replica.specs.declared.input.Input.{Input}
 use Rattle.replica.specs.declared.output.Output.{Output}
 use Rattle.replica.specs.Logged.{Logged, IsLogged}
-use Rattle.audit.specs.declared.journal.Deed.{Deed}
-use Rattle.audit.specs.Journal.{Standing, IsLegal, IsLegalAt, after, next, open_at}
+use Rattle.journal.specs.declared.journal.Deed.{Deed}
+use Rattle.journal.specs.Journal.{Standing, IsLegal, IsLegalAt, after, next, open_at}
 use Rattle.node.specs.declared.fault.NodeFault.{NodeFault}
 use Rattle.node.specs.declared.fault.NodeFault.TheVariants.{NoMemory, NoSeat, Copy as Refused, Stray}
 use Rattle.node.specs.declared.pass.Receipt.{Receipt}

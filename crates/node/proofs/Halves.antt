@@ -17,11 +17,11 @@ use Rattle.replica.specs.declared.prepared.Prepared.TheVariants.{Answered, Settl
 use Rattle.replica.specs.Copy.{Copy}
 use Rattle.replica.specs.Fault.{fault_of, is_log}
 use Rattle.replica.specs.Logged.{Logged, IsPrepared, IsRefused, IsUntouched, is_kept, is_restart, is_restarted, output_of, prepared_copy, prepared_step}
-use Rattle.replica.specs.Step.{Step, Stepped, copy_step, stepped}
+use Rattle.replica.specs.Step.{Step, Stepped, copy_step, members_of, stepped}
 use Rattle.replica.proofs.Accepted.{restart_keeps}
 use Rattle.replica.proofs.Failures.{refused_at_once, refused_in}
 use Rattle.published.specs.Listings.{StartsWith}
-use Rattle.audit.specs.Journal.{keeps_record, left_by}
+use Rattle.journal.specs.Journal.{keeps_record, left_by}
 use Rattle.node.specs.Acting.{IsCommitted}
 use Rattle.node.specs.Replay.{IsIdle, IsStep, MayFail}
 
@@ -98,6 +98,7 @@ committed old mid new input p (Ok output) is left done =
     let copy : new.copy ≡ prepared_copy old.copy p = done.copy ∙ ap (λ (c : Copy). prepared_copy c p) left.copy in
     record {
       step = λ o. is.step o ∙ ap (λ (c : Copy). let r : Step = Ok (stepped c (output_of p)) in r) (sym copy) ∙ ap (λ (x : Output). let r : Step = Ok (stepped new.copy x) in r) (sym done.output);
+      members = ap (λ (x : Output). x.members) done.output ∙ (is.members ∙ ap (λ (c : Copy). members_of c.role) (sym copy));
       closed = λ o e. absurd (not_refused input p (is.closed o) e);
       opened = done.opened ∙ and_false mid.closed (not (is_restarted p)) (λ c. ap not (is.kind ∙ must_restart input p (is_restart input) refl (is.closed (sym left.stays ∙ c))));
       refused = tt;
@@ -115,6 +116,7 @@ committed old mid new input p (Ok output) is left done =
     }
 committed old mid new input p (Err e) is left done = record {
   step = λ o. no_fault e (copy_step old.copy input) done.cause;
+  members = tt;
   closed = λ o n. absurd (not_refused input p (is.closed o) n);
   opened = tt;
   refused = refused_in {T = Output} (Err e) old mid new input p done.cause done.closed done.memory done.counts done.sure is.kind is.closed left.copy left.stays left.log left.counts is.step;
@@ -127,6 +129,7 @@ committed old mid new input p (Err e) is left done = record {
 pub unprepared : (old new : Logged) (input : Input) (e : CopyFault) → IsPrepared old new input (Err e) → IsUntouched old new (Err e) → IsStep old new input (Err e)
 unprepared old new input e is left = record {
   step = is.step;
+  members = tt;
   closed = λ o n. refused_closed (Err e) e refl input (is.closed o) n;
   opened = tt;
   refused = refused_at_once e old new input (copy_step old.copy input) left.copy left.closes left.refused is.unread is.no_log;

@@ -9,7 +9,7 @@ use Rattle.replica.specs.declared.output.Answer.{Answer}
 use Rattle.replica.specs.Copy.{Copy}
 use Rattle.replica.specs.Fault.{is_log}
 use Rattle.replica.specs.Logged.{Logged, IsPrepared, IsUntouched}
-use Rattle.audit.specs.Journal.{Shut}
+use Rattle.journal.specs.Journal.{Shut}
 use Rattle.node.specs.Held.{JournalData, IsHeld}
 use Rattle.node.specs.Reading.{IsRead, got_by, standing}
 use Rattle.node.specs.Replay.{IsIdle, IsReplayedAs}

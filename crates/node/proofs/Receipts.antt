@@ -4,8 +4,8 @@ use Rattle.std.specs.Prelude.{slice_get, OnOk, IfErr}
 use Rattle.std.proofs.lemmas.Bool.Decides.{nat_tests}
 use Rattle.std.proofs.lemmas.List.{append_assoc}
 use Rattle.std.proofs.lemmas.List.Folds.{list_any-append}
-use Rattle.audit.specs.declared.journal.Deed.{Deed}
-use Rattle.audit.specs.declared.journal.Journal.{Journal}
+use Rattle.journal.specs.declared.journal.Deed.{Deed}
+use Rattle.journal.specs.declared.journal.Journal.{Journal}
 use Rattle.node.specs.declared.pass.Receipt.{Receipt}
 use Rattle.node.specs.Passes.{PassData, AreUpTo}
 use Rattle.node.specs.Gathered.{deed_at, has_place, is_at, receipts_of, AreNext, IsFirstStray, IsNext}

@@ -3,6 +3,7 @@ use Rattle.std.proofs.Common.{◌≡◌, ◌⊎◌, inl, inr, ℕ, ◌==◌, ◌
 use Rattle.std.specs.Prelude.{IfSome}
 use Rattle.std.proofs.lemmas.Bool.Decides.{nat_tests}
 use Rattle.doc.specs.Outcome.{Fails}
+use Rattle.doc.specs.Mapping.{MappingData}
 use Rattle.op.specs.declared.record.Record.{Record}
 use Rattle.translog.specs.Fault as log
 use Rattle.translog.specs.Kept.{kept}
@@ -11,14 +12,16 @@ use Rattle.replica.specs.declared.fault.CopyFault.{CopyFault}
 use Rattle.replica.specs.declared.fault.CopyFault.TheVariants.{NotPrimary, VersionConflict, WindowFull, OldTerm, NotSynced, BeyondWindow, Mismatch, Closed, Log, NoMemory, WrongAddress, Exhausted}
 use Rattle.replica.specs.declared.input.Input.{Input}
 use Rattle.replica.specs.declared.output.Output.{Output}
+use Rattle.replica.specs.declared.role.Birth.{Birth}
+use Rattle.replica.specs.declared.role.Birth.TheVariants.{First, Added}
 use Rattle.replica.specs.declared.output.Answer.TheVariants.{Point}
 use Rattle.replica.specs.Copy.{Copy, opened}
 use Rattle.replica.specs.Fault.{fault_of, is_log}
 use Rattle.replica.specs.Logged.{Logged, IsFailed, IsLogged, IsReopened, IsRefusal, IsSame, IsSameCopy, IsUnread, HasKept, is_restart}
-use Rattle.replica.specs.Step.{Step, Stepped, copy_step, stepped}
+use Rattle.replica.specs.Step.{Step, Stepped, copy_step, members_of, stepped}
 use Rattle.published.specs.Listings.{StartsWith}
-use Rattle.audit.specs.declared.journal.Deed.{Deed}
-use Rattle.audit.specs.Journal.{Shut, Standing, open_at, left_by, reopened, found, is_kept, is_point, answered, refused_at, keeps_record, may_shut, MayAnswer, MayRefuse, IsReopening, next, IsLegalAt}
+use Rattle.journal.specs.declared.journal.Deed.{Deed}
+use Rattle.journal.specs.Journal.{Shut, Standing, open_at, left_by, reopened, found, is_kept, is_point, answered, refused_at, keeps_record, may_shut, MayAnswer, MayRefuse, IsReopening, next, IsLegalAt}
 use Rattle.node.specs.Replay.{IsIdle, IsReplayed, IsReplayedAs, IsShutAs, IsStep, MayFail}
 
 itself : (c : Copy) → IsSameCopy c c
@@ -34,7 +37,7 @@ accepted : (c : Copy) (place : ℕ) (input : Input) (old new : Logged) (output :
 accepted c place input old new output h t =
     let step : copy_step c input ≡ Ok (stepped new.copy output) = subst (λ (x : Copy). copy_step x input ≡ Ok (stepped new.copy output)) h.1 (t.step h.0) in
     let left : left_by c (copy_step c input) ≡ new.copy = ap (left_by c) step in (
-      step ∙ ap (λ (x : Copy). let r : Step = Ok (stepped x output) in r) (sym left),
+      (step ∙ ap (λ (x : Copy). let r : Step = Ok (stepped x output) in r) (sym left), t.members ∙ ap (λ (x : Copy). members_of x.role) (sym left)),
       (t.opened, sym left),
     )
 
@@ -94,21 +97,27 @@ is_one : (xs ys rs : List Record) → (rs ≡ xs) ⊎ (rs ≡ ys) → ((length r
 is_one xs ys rs (inl is) = ap (λ (l : List Record). (length l == length xs) || (length l == length ys)) is ∙ ap (λ b. b || (length xs == length ys)) (equals (length xs))
 is_one xs ys rs (inr is) = ap (λ (l : List Record). (length l == length xs) || (length l == length ys)) is ∙ (ap (λ b. (length ys == length xs) || b) (equals (length ys)) ∙ or_right (length ys == length xs))
 
-reopens : (c : Copy) (f : Shut) (place : ℕ) (input : Input) (old new : Logged) (output : Output) → IsShutAs c f old → is_restart input ≡ true → new.closed ≡ false → IsReopened old new output
+-- a copy that opens leads nobody
+opens_alone : (id : ℕ) (birth : Birth) (mapping : MappingData) (rs : List Record) → members_of (opened id birth mapping rs).role ≡ 0
+opens_alone id First mapping rs = refl
+opens_alone id Added mapping [] = refl
+opens_alone id Added mapping (r ∷ rs) = refl
+
+reopens : (c : Copy) (f : Shut) (place : ℕ) (input : Input) (old new : Logged) (output : Output) → IsShutAs c f old → is_restart input ≡ true → new.closed ≡ false → output.members ≡ members_of new.copy.role → IsReopened old new output
     → MayAnswer c (Some f) input (Ok output) × IsReplayed (answered c (Some f) place input (Ok output)) new
-reopens c f place input old new output h restart opened_now again =
+reopens c f place input old new output h restart opened_now members again =
     let rs = new.copy.records in
     let one : (rs ≡ c.records) ⊎ (rs ≡ f.other) = ⊎_elim (λ a. inl (same_ok rs c.records (sym again.records ∙ a))) (λ b. inr (same_ok rs f.other (sym again.records ∙ b))) h.records in
     let point : is_point output.answer (length c.records) ≡ (length rs == length c.records) = ap (λ a. is_point a (length c.records)) again.answer in
     let other : is_point output.answer (length f.other) ≡ (length rs == length f.other) = ap (λ a. is_point a (length f.other)) again.answer in
     let chosen : rs ≡ found c f (is_kept c f output) = which c.records f.other rs (length rs == length c.records) refl h.other one c f refl refl ∙ ap (λ b. found c f (not b)) (sym point) in (
-      record { restart = restart; point = rw (point, other) (is_one c.records f.other rs one); sent = again.sent; acknowledged = again.none },
+      record { restart = restart; point = rw (point, other) (is_one c.records f.other rs one); sent = again.sent; acknowledged = again.none; members = members ∙ (ap (λ (x : Copy). members_of x.role) again.copy ∙ opens_alone old.copy.id old.copy.birth old.copy.mapping rs) },
       (opened_now, again.copy ∙ (rw (h.same.id, h.same.birth, h.same.mapping) refl ∙ ap (reopened c) chosen)),
     )
 
 accepted_shut : (c : Copy) (f : Shut) (place : ℕ) (input : Input) (old new : Logged) (output : Output) (b : Bool) → is_restart input ≡ b → IsShutAs c f old → IsStep old new input (Ok output)
     → MayAnswer c (Some f) input (Ok output) × IsReplayed (answered c (Some f) place input (Ok output)) new
-accepted_shut c f place input old new output true restart h t = reopens c f place input old new output h restart t.opened (t.found restart)
+accepted_shut c f place input old new output true restart h t = reopens c f place input old new output h restart t.opened t.members (t.found restart)
 accepted_shut c f place input old new output false restart h t = absurd (let no = t.closed h.closed restart in cc)
 
 unread_shut : (bytes : List ℕ) (e : CopyFault) → IsUnread bytes e → may_shut true e ≡ true

@@ -1,9 +1,9 @@
 -- Receipts that are gathered from passes, against the journal of their copy.
 use Rattle.std.specs.Prelude.{◌≡◌, ℕ, suc, ◌<◌, ◌≤◌, ◌==◌, Bool, true, false, List, [], ◌∷◌, ◌++◌, length, Option, Some, None, slice_get}
 use Rattle.std.specs.List.{list_any}
-use Rattle.audit.specs.declared.journal.Deed.{Deed}
-use Rattle.audit.specs.declared.journal.Journal.{Journal}
-use Rattle.audit.specs.declared.journal.Journal.TheVariants.{OfMaster, OfCopy}
+use Rattle.journal.specs.declared.journal.Deed.{Deed}
+use Rattle.journal.specs.declared.journal.Journal.{Journal}
+use Rattle.journal.specs.declared.journal.Journal.TheVariants.{OfMaster, OfCopy}
 use Rattle.node.specs.declared.pass.Receipt.{Receipt}
 use Rattle.node.specs.Passes.{PassData}
 

@@ -3,8 +3,8 @@ use Rattle.std.specs.Prelude.{◌≡◌, ℕ, List, [], ◌∷◌, ◌++◌, len
 use Rattle.replica.specs.declared.input.Input.{Input}
 use Rattle.replica.specs.Copy.{Copy}
 use Rattle.replica.specs.Logged.{Logged}
-use Rattle.audit.specs.declared.journal.Deed.{Deed}
-use Rattle.audit.specs.Journal.{IsLegal, IsLegalAt, after, open_at}
+use Rattle.journal.specs.declared.journal.Deed.{Deed}
+use Rattle.journal.specs.Journal.{IsLegal, IsLegalAt, after, open_at}
 use Rattle.node.specs.declared.fault.NodeFault.{NodeFault}
 use Rattle.node.specs.declared.fault.NodeFault.TheVariants.{NoMemory, NoSeat, Copy as Refused, Stray}
 use Rattle.node.specs.declared.pass.Receipt.{Receipt}

@@ -7,7 +7,7 @@ use Rattle.replica.specs.declared.fault.CopyFault.TheVariants.{NotPrimary, Versi
 use Rattle.replica.specs.declared.output.Answer.{Answer}
 use Rattle.replica.specs.Copy.{Copy, operations}
 use Rattle.replica.specs.Step.{get_answer}
-use Rattle.audit.specs.Journal.{IsLegal, Standing, after, open_at}
+use Rattle.journal.specs.Journal.{IsLegal, Standing, after, open_at}
 use Rattle.node.specs.declared.fault.NodeFault.{NodeFault}
 use Rattle.node.specs.declared.fault.NodeFault.TheVariants.{NoMemory, NoSeat, Copy as Refused, Stray}
 use Rattle.node.specs.Held.{JournalData}

@@ -9,8 +9,8 @@ use Rattle.replica.specs.declared.output.Output.{Output}
 use Rattle.replica.specs.Copy.{Copy}
 use Rattle.replica.specs.Fault.{fault_of, is_log}
 use Rattle.replica.specs.Logged.{Logged, IsRefusal, IsReopened, IsSameCopy, IsUnread, is_restart}
-use Rattle.replica.specs.Step.{Step, copy_step, stepped}
-use Rattle.audit.specs.Journal.{Shut, Standing, keeps_record, left_by}
+use Rattle.replica.specs.Step.{Step, copy_step, members_of, stepped}
+use Rattle.journal.specs.Journal.{Shut, Standing, keeps_record, left_by}
 use Rattle.published.specs.Listings.{StartsWith}
 
 -- a copy whose log failed: it is closed, and its log keeps the records of before, or also that of the step that failed
@@ -36,6 +36,7 @@ pub record MayFail (c : Copy) (input : Input) (step : Step) : Type 0 where
 -- what a step of a copy tells
 pub record IsStep (old new : Logged) (input : Input) (r : Result Output CopyFault) : Type 0 where
   pub step : old.closed ≡ false → Gives fault_of (stepped new.copy) r (copy_step old.copy input)
+  pub members : IfOk r (λ o. o.members ≡ members_of new.copy.role)
   pub closed : old.closed ≡ true → is_restart input ≡ false → r ≡ Err Closed
   pub opened : OnOk r (new.closed ≡ false)
   pub refused : IfErr r (IsRefusal old new (copy_step old.copy input))

@@ -1,7 +1,7 @@
 -- Receipts that stand in a journal.
 use Rattle.std.specs.Prelude.{◌≡◌, ℕ, ◌-◌, List, length, Option, Some, None, IfSome, slice_get}
 use Rattle.replica.specs.declared.input.Input.{Input}
-use Rattle.audit.specs.declared.journal.Deed.{Deed}
+use Rattle.journal.specs.declared.journal.Deed.{Deed}
 use Rattle.node.specs.declared.fault.NodeFault.{NodeFault}
 use Rattle.node.specs.declared.fault.NodeFault.TheVariants.{NoMemory, NoSeat, Copy as Refused, Stray}
 use Rattle.node.specs.declared.pass.Receipt.{Receipt}

@@ -4,7 +4,7 @@ use Rattle.replica.specs.declared.fault.CopyFault.{CopyFault}
 use Rattle.replica.specs.declared.input.Input.{Input}
 use Rattle.replica.specs.declared.output.Output.{Output}
 use Rattle.replica.specs.Logged.{Logged}
-use Rattle.audit.specs.declared.journal.Deed.{Deed}
+use Rattle.journal.specs.declared.journal.Deed.{Deed}
 use Rattle.node.specs.declared.fault.NodeFault.{NodeFault}
 use Rattle.node.specs.declared.fault.NodeFault.TheVariants.{Copy as Refused}
 use Rattle.node.specs.declared.pass.Receipt.{Receipt}

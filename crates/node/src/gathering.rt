@@ -5,7 +5,7 @@ ghost use Rattle.node.specs.Passes.{AreUpTo};
 
 use crate::pass::{Pass, Receipt};
 use crate::standing::stands_at;
-use audit::{Deed, Journal};
+use journal::{Deed, Journal};
 
 /// The place of a receipt that doesn't stand in a journal, or stands where another does.
 #[derive(Clone, Copy, Debug, PartialEq, Eq)]

@@ -1,7 +1,7 @@
 //! A copy with its journal.
 ghost use Rattle.std.specs.Prelude.{◌≡◌, [], false, IfOk, IfErr, IfSome, IfNone, IsOk};
-ghost use Rattle.audit.specs.Journal.{IsLegal, open_at};
-ghost use Rattle.audit.specs.declared.journal.Journal.TheVariants.{OfCopy};
+ghost use Rattle.journal.specs.Journal.{IsLegal, open_at};
+ghost use Rattle.journal.specs.declared.journal.Journal.TheVariants.{OfCopy};
 ghost use Rattle.node.specs.Reading.{IsGotFrom, IsUngot};
 ghost use Rattle.node.specs.Stands.{IsDenied, IsStray, LastStands};
 ghost use Rattle.node.specs.Held.{IsCall, IsHeld, IsLastOf, IsRefusal};
@@ -13,8 +13,8 @@ use crate::pass::{Pass, Receipt};
 use crate::reading::read;
 use crate::standing::stands_at;
 use crate::telling::{Inputs, Spot, tell};
-use audit::{Deed, Deeds, Journal, Opening};
 use doc::DocId;
+use journal::{Deed, Deeds, Journal, Opening};
 use replica::{Copy, CopyFault, Input};
 use std::alloc::Global;
 use std::marker::Model;

@@ -1,7 +1,7 @@
 //! What a caller has seen.
 ghost use Rattle.std.specs.Prelude.{◌≡◌};
 
-use audit::Deed;
+use journal::Deed;
 use std::alloc::Global;
 use std::marker::Model;
 

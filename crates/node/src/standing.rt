@@ -1,7 +1,7 @@
 //! Whether receipts stand in a journal.
 ghost use Rattle.std.specs.Prelude.{◌≡◌, ◌↔◌, Some, slice_get, IsTrue};
 
-use audit::Deed;
+use journal::Deed;
 use replica::{CopyFault, Output};
 
 /// Whether two answers are the same.

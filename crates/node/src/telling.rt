@@ -7,7 +7,7 @@ use crate::acting::{Answers, act};
 use crate::both::both;
 use crate::fault::NodeFault;
 use crate::pass::Receipt;
-use audit::Deed;
+use journal::Deed;
 use replica::{Copy, Input};
 use std::alloc::{AllocError, Global};
 use translog::LogDevice;

@@ -5,6 +5,7 @@ use crate::writing::{put, told};
 use anyhow::Result;
 use cluster::{Client, Cluster, Gate, InMemory};
 use doc::Mapping;
+use node::Receipt;
 use std::alloc::Global;
 use std::sync::atomic::{AtomicBool, AtomicU64, Ordering};
 use std::sync::{Arc, Wait};
@@ -81,8 +82,9 @@ fn run_one<R: Threads + Wait + Print + Clock + Copy + Send + Sync + Drop + 'stat
     let gate = Turns::new(*rt, held, first, Arc::try_clone(&gave_up)?);
     let devices = InMemory { alloc };
     let cluster = Cluster::start(rt, alloc, mapping.copy(alloc)?, 3, devices, gate).map_err(told)?;
-    let done = write_all(rt, alloc, cluster.client());
-    let (_, verdict) = ended(rt, alloc, mapping, cluster)?;
+    let mut receipts = Vec::new(alloc);
+    let done = write_all(rt, alloc, cluster.client(), &mut receipts);
+    let verdict = ended(rt, alloc, mapping, cluster, receipts)?;
     done?;
     let how = if gave_up.load(Ordering::SeqCst) {
         "COPIES STEP ONE AFTER THE OTHER"
@@ -95,9 +97,14 @@ fn run_one<R: Threads + Wait + Print + Clock + Copy + Send + Sync + Drop + 'stat
     Ok(())
 }
 
-fn write_all<R: Wait, D: LogDevice>(rt: &R, alloc: Global, client: &Client<D>) -> Result<()> {
+fn write_all<R: Wait, D: LogDevice>(
+    rt: &R,
+    alloc: Global,
+    client: &Client<D>,
+    receipts: &mut Vec<Receipt>,
+) -> Result<()> {
     for number in 0..WRITES {
-        put(rt, alloc, client, 0, number)?;
+        put(rt, alloc, client, 0, number, receipts)?;
     }
     Ok(())
 }

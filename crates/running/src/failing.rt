@@ -1,19 +1,29 @@
-//! A log that fails once, while clients write.
+//! A log that fails once, while four clients write and another copy becomes the primary.
 
-use crate::crowd::write_at_once;
+use crate::clients::{Share, write_at_once};
 use crate::judging::ended;
 use crate::shaky::OneShaky;
 use crate::writing::{found, told};
 use anyhow::Result;
 use cluster::{Client, Cluster, Open};
 use doc::Mapping;
+use node::Receipt;
 use std::alloc::Global;
 use std::sync::atomic::AtomicBool;
 use std::sync::{Arc, Wait};
 use std::thread::Threads;
 use translog::LogDevice;
 
-/// One run: the append of a number fails on the log of a node.
+/// How many clients there are.
+const WRITERS: usize = 4;
+
+const SHARE: Share = Share {
+    from: 0,
+    count: 50,
+    promoted: Some(2),
+};
+
+/// One run: the append of a number fails on the log of a node. It ends with every receipt of a confirmed write.
 fn run_one<R: Threads + Wait + Print + Copy + Send + Sync + Drop + 'static>(
     rt: &R,
     alloc: Global,
@@ -28,27 +38,28 @@ fn run_one<R: Threads + Wait + Print + Copy + Send + Sync + Drop + 'static>(
         has_failed: Arc::new(alloc, AtomicBool::new(false))?,
     };
     let cluster = Cluster::start(rt, alloc, mapping.copy(alloc)?, 3, devices, Open).map_err(told)?;
-    let done = work(rt, alloc, cluster.client());
-    let (_, verdict) = ended(rt, alloc, mapping, cluster)?;
-    let (confirmed, count) = done?;
+    let mut receipts = Vec::new(alloc);
+    let done = work(rt, alloc, cluster.client(), &mut receipts);
+    let verdict = ended(rt, alloc, mapping, cluster, receipts)?;
+    let (count, confirmed) = done?;
     println!(rt;
-        "log {node} fails once: {confirmed} writes are confirmed, the primary has {count}: {verdict}"
+        "log {node} fails once: {confirmed} writes are confirmed, the primary has {count}, and each has its receipt: {verdict}"
     )?;
     Ok(())
 }
 
-/// Has clients write, and tells how many writes are confirmed, and how many of them the primary has.
+/// Has clients write, and tells how many of the confirmed writes the primary has, and how many there are.
 fn work<R: Threads + Wait + Sync, D: LogDevice + Send>(
     rt: &R,
     alloc: Global,
     client: &Client<D>,
+    receipts: &mut Vec<Receipt>,
 ) -> Result<(usize, usize)> {
-    let written = write_at_once(rt, alloc, client, 0)?;
-    let count = found(rt, alloc, client, client.primary(rt), &written)?;
-    Ok((written.len(), count))
+    write_at_once(rt, alloc, client, WRITERS, SHARE, receipts)?;
+    found(rt, alloc, client, receipts)
 }
 
-/// The log of the primary, of another copy and of the master fails in turn.
+/// The log of the primary, of two other copies and of the master fails in turn.
 pub(crate) fn run<R: Threads + Wait + Print + Copy + Send + Sync + Drop + 'static>(
     rt: &R,
     alloc: Global,

@@ -1,17 +1,17 @@
 //! Each append of each log fails in turn, while clients write and a copy joins.
 
+use crate::clients::{Share, write_at_once};
 use crate::judging::ended;
 use crate::shaky::{OneShaky, Shaky};
-use crate::writing::{Noted, found, put, told};
+use crate::writing::{found, told};
 use anyhow::{Result, bail};
-use cluster::{Client, Cluster, ClusterFault, Open};
+use cluster::{Cluster, ClusterFault, Open};
 use doc::Mapping;
+use node::Receipt;
 use std::alloc::Global;
 use std::sync::atomic::{AtomicBool, Ordering};
 use std::sync::{Arc, Wait};
-use std::thread;
 use std::thread::Threads;
-use translog::LogDevice;
 
 /// How many clients there are.
 const WRITERS: usize = 2;
@@ -24,43 +24,6 @@ const MOST: u64 = 100;
 
 type Running = Cluster<Shaky, OneShaky, Open>;
 
-/// One client's writes.
-fn write_some<R: Wait, D: LogDevice>(
-    rt: &R,
-    alloc: Global,
-    client: &Client<D>,
-    writer: usize,
-    from: u64,
-) -> Result<Vec<Noted>> {
-    let mut written = Vec::new(alloc);
-    for step in 0..HALF {
-        written.push(put(rt, alloc, client, writer, from.saturating_add(step))?)?;
-    }
-    Ok(written)
-}
-
-/// All clients write, each on a thread of its own, and what they wrote is noted.
-fn write_at_once<R: Threads + Wait + Sync, D: LogDevice + Send>(
-    rt: &R,
-    alloc: Global,
-    client: &Client<D>,
-    from: u64,
-    written: &mut Vec<Noted>,
-) -> Result<()> {
-    let parts = thread::map_indices(
-        rt,
-        alloc,
-        WRITERS,
-        &|writer| write_some(rt, alloc, client, writer, from),
-    )?;
-    for part in parts {
-        for noted in part? {
-            written.push(noted)?;
-        }
-    }
-    Ok(())
-}
-
 /// Writes, has a copy join and writes on meanwhile, and looks for all writes. Where the log of the copy or of the master fails no copy may join.
 fn run_over<R: Threads + Wait + Copy + Send + Sync + Drop + 'static>(
     rt: &R,
@@ -69,8 +32,9 @@ fn run_over<R: Threads + Wait + Copy + Send + Sync + Drop + 'static>(
     cluster: Running,
 ) -> Result<()> {
     let mut cluster = cluster;
-    let done = work(rt, alloc, &mut cluster);
-    let (_, verdict) = ended(rt, alloc, mapping, cluster)?;
+    let mut receipts = Vec::new(alloc);
+    let done = work(rt, alloc, &mut cluster, &mut receipts);
+    let verdict = ended(rt, alloc, mapping, cluster, receipts)?;
     done?;
     if verdict.as_str() != "audit ok" {
         bail!("{verdict}");
@@ -78,19 +42,27 @@ fn run_over<R: Threads + Wait + Copy + Send + Sync + Drop + 'static>(
     Ok(())
 }
 
+/// Each client's documents, from a number on.
+fn share(from: u64) -> Share {
+    Share {
+        from,
+        count: HALF,
+        promoted: None,
+    }
+}
+
 /// Writes, has a copy join, writes on, and looks for all writes.
 fn work<R: Threads + Wait + Copy + Send + Sync + Drop + 'static>(
     rt: &R,
     alloc: Global,
     cluster: &mut Running,
+    receipts: &mut Vec<Receipt>,
 ) -> Result<()> {
-    let mut written = Vec::new(alloc);
-    write_at_once(rt, alloc, cluster.client(), 0, &mut written)?;
+    write_at_once(rt, alloc, cluster.client(), WRITERS, share(0), receipts)?;
     drop(cluster.allocate(rt));
-    write_at_once(rt, alloc, cluster.client(), HALF, &mut written)?;
-    let primary = cluster.client().primary(rt);
-    let count = found(rt, alloc, cluster.client(), primary, &written)?;
-    if count != written.len() {
+    write_at_once(rt, alloc, cluster.client(), WRITERS, share(HALF), receipts)?;
+    let (count, all) = found(rt, alloc, cluster.client(), receipts)?;
+    if count != all {
         bail!("a confirmed write isn't found");
     }
     Ok(())

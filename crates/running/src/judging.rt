@@ -2,33 +2,17 @@
 
 use crate::writing::told;
 use anyhow::{Result, anyhow, bail};
-use audit::{AuditFault, Journal, audit};
+use audit::audit;
 use cluster::{Cluster, Devices, Gate};
 use doc::Mapping;
+use journal::Journal;
 use journals::{JournalFault, read, write};
+use node::Receipt;
 use serde_json::Value;
 use std::alloc::Global;
 use std::sync::Wait;
 use std::thread::Threads;
 use translog::LogDevice;
-
-/// Whether the journals are of one run; the node and the place of the first entry that isn't, with what is wrong.
-pub(crate) fn judged(
-    alloc: Global,
-    mapping: &Mapping,
-    journals: Vec<Journal>,
-) -> Result<Option<AuditFault>> {
-    if journals.len() > 1_000 {
-        return Ok(Some(AuditFault::NoMemory));
-    }
-    match audit(alloc, mapping, &journals) {
-        Ok(world) => {
-            drop(world);
-            Ok(None)
-        }
-        Err(fault) => Ok(Some(fault)),
-    }
-}
 
 fn unread(fault: JournalFault) -> anyhow::Error {
     anyhow!("{fault}")
@@ -44,35 +28,37 @@ fn read_back(alloc: Global, mapping: &Value, journals: Vec<Journal>) -> Result<V
     Ok(again)
 }
 
-/// Ends a cluster; how many journals there are, and what an audit says of them.
+/// Ends a cluster with receipts, each of which has to stand in a journal, and tells what an audit says of the journals.
 pub(crate) fn ended<R, D, V, G>(
     rt: &R,
     alloc: Global,
     mapping: &Mapping,
     cluster: Cluster<D, V, G>,
-) -> Result<(usize, String)>
+    receipts: Vec<Receipt>,
+) -> Result<String>
 where
     R: Threads + Wait,
     D: LogDevice + Send + 'static,
     V: Devices<D>,
     G: Gate + Send + Sync + 'static,
 {
-    let journals = cluster.close(rt, &[]).map_err(told)?;
-    let count = journals.len();
-    let verdict = verdict_of(alloc, mapping, journals)?;
-    Ok((count, verdict))
+    let closed = cluster.close(rt, &receipts);
+    drop(receipts);
+    verdict_of(alloc, mapping, closed.map_err(told)?)
 }
 
 /// What an audit of the journals says, which are written and read first.
-pub(crate) fn verdict_of(
-    alloc: Global,
-    mapping: &Mapping,
-    journals: Vec<Journal>,
-) -> Result<String> {
+fn verdict_of(alloc: Global, mapping: &Mapping, journals: Vec<Journal>) -> Result<String> {
     let text = Value::from_str(alloc, crate::MAPPING)?;
     let journals = read_back(alloc, &text, journals)?;
-    match judged(alloc, mapping, journals)? {
-        None => Ok(String::from_str(alloc, "audit ok")?),
-        Some(fault) => Ok(format!(in alloc; "{fault}")?),
+    if journals.len() > 1_000 {
+        bail!("there are too many journals");
+    }
+    match audit(alloc, mapping, &journals) {
+        Ok(world) => {
+            drop(world);
+            Ok(String::from_str(alloc, "audit ok")?)
+        }
+        Err(fault) => Ok(format!(in alloc; "{fault}")?),
     }
 }

@@ -4,22 +4,13 @@ use anyhow::{Error, Result, anyhow, bail};
 use cluster::{Client, ClusterFault, Confirmed};
 use doc::{DocId, Source};
 use node::Receipt;
-use replica::{Answer, Input, OpType, Output, Write};
+use replica::{Answer, Input, OpType, Output, Write, Written};
 use std::alloc::Global;
 use std::sync::Wait;
 use translog::LogDevice;
 
 /// How often a write is tried that no primary keeps.
 const TRIES: u32 = 100_000;
-
-/// A write that was confirmed: whose it was, and its numbers.
-#[derive(Clone, Copy)]
-pub(crate) struct Noted {
-    pub(crate) writer: usize,
-    pub(crate) number: u64,
-    pub(crate) seq: u64,
-    pub(crate) term: u64,
-}
 
 /// The fault as an error of the program.
 pub(crate) fn told(fault: ClusterFault) -> Error {
@@ -28,37 +19,14 @@ pub(crate) fn told(fault: ClusterFault) -> Error {
     error
 }
 
-/// The id of a writer's document.
-pub(crate) fn id_of(alloc: Global, writer: usize, number: u64) -> Result<DocId> {
-    let text = format!(in alloc; "{writer}-{number}")?;
-    Ok(DocId::new(alloc, text.as_str())?)
-}
-
 /// The write of a document.
-pub(crate) fn write_of(alloc: Global, writer: usize, number: u64) -> Result<Write> {
+fn write_of(alloc: Global, writer: usize, number: u64) -> Result<Write> {
+    let id = format!(in alloc; "{writer}-{number}")?;
     let text = format!(in alloc; "{{\"writer\":{writer},\"number\":{number}}}")?;
     Ok(Write {
-        id: id_of(alloc, writer, number)?,
+        id: DocId::new(alloc, id.as_str())?,
         kind: OpType::Index(Source::new(alloc, text.as_str())?, None),
     })
-}
-
-/// The numbers of a write's own entry.
-fn noted_of(writer: usize, number: u64, receipt: &Receipt) -> Result<Noted> {
-    match &receipt.deed.answer {
-        Ok(
-            Output {
-                answer: Answer::Wrote(written),
-                ..
-            },
-        ) => Ok(Noted {
-            writer,
-            number,
-            seq: written.seq,
-            term: written.term,
-        }),
-        _ => bail!("a write is confirmed that wasn't kept"),
-    }
 }
 
 /// Whether a write may be tried again: its copy leads no more, or its log has failed, or the master's.
@@ -74,7 +42,7 @@ fn is_passing(fault: &ClusterFault) -> bool {
 }
 
 /// Does a write until it is confirmed.
-pub(crate) fn confirmed<R: Wait, D: LogDevice>(
+fn confirmed<R: Wait, D: LogDevice>(
     rt: &R,
     alloc: Global,
     client: &Client<D>,
@@ -94,64 +62,95 @@ pub(crate) fn confirmed<R: Wait, D: LogDevice>(
     bail!("a write isn't confirmed")
 }
 
-/// Writes one document until it is confirmed, and notes its numbers.
+/// Writes one document until that is confirmed, and keeps the receipt of the write and the one that acknowledges it.
 pub(crate) fn put<R: Wait, D: LogDevice>(
     rt: &R,
     alloc: Global,
     client: &Client<D>,
     writer: usize,
     number: u64,
-) -> Result<Noted> {
+    receipts: &mut Vec<Receipt>,
+) -> Result<()> {
     let write = write_of(alloc, writer, number)?;
     let done = confirmed(rt, alloc, client, &write);
     drop(write);
-    let done = done?;
-    let noted = noted_of(writer, number, &done.write);
-    drop(done);
-    noted
+    keep(receipts, done?)
 }
 
-/// Whether a copy has the document of a write, as that left it.
-pub(crate) fn is_found<R: Wait, D: LogDevice>(
-    rt: &R,
-    alloc: Global,
-    client: &Client<D>,
-    copy: u32,
-    noted: Noted,
-) -> Result<bool> {
-    let id = id_of(alloc, noted.writer, noted.number)?;
-    let receipt = client.call(rt, copy, Input::Get(id)).map_err(told)?;
-    let is_found = has_found(&receipt, noted);
-    drop(receipt);
-    Ok(is_found)
+fn keep(receipts: &mut Vec<Receipt>, done: Confirmed) -> Result<()> {
+    let Confirmed {
+        write,
+        acknowledgement,
+    } = done;
+    let first = receipts.push(write);
+    let second = receipts.push(acknowledgement);
+    first?;
+    second?;
+    Ok(())
+}
+
+/// The document that an entry wrote, with its numbers; none where it is no write.
+fn written_of(receipt: &Receipt) -> Option<(&DocId, Written)> {
+    let Input::Write(write) = &receipt.deed.input else {
+        return None;
+    };
+    match &receipt.deed.answer {
+        Ok(
+            Output {
+                answer: Answer::Wrote(written),
+                ..
+            },
+        ) => Some((&write.id, *written)),
+        _ => None,
+    }
 }
 
 /// Whether an entry has found the document of a write, as that left it.
-fn has_found(receipt: &Receipt, noted: Noted) -> bool {
+fn has_found(receipt: &Receipt, written: Written) -> bool {
     match &receipt.deed.answer {
         Ok(
             Output {
                 answer: Answer::Found(document),
                 ..
             },
-        ) => document.seq == noted.seq && document.term == noted.term,
+        ) => document.seq == written.seq && document.term == written.term,
         _ => false,
     }
 }
 
-/// How many of the writes a copy has.
-pub(crate) fn found<R: Wait, D: LogDevice>(
+/// Whether a copy has the document of a write, as that left it.
+fn is_found<R: Wait, D: LogDevice>(
     rt: &R,
     alloc: Global,
     client: &Client<D>,
     copy: u32,
-    writes: &[Noted],
-) -> Result<usize> {
-    let mut count: usize = 0;
-    for noted in writes {
-        if is_found(rt, alloc, client, copy, *noted)? {
-            count = count.saturating_add(1);
+    id: &DocId,
+    written: Written,
+) -> Result<bool> {
+    let receipt = client
+        .call(rt, copy, Input::Get(id.copy(alloc)?))
+        .map_err(told)?;
+    let is_found = has_found(&receipt, written);
+    drop(receipt);
+    Ok(is_found)
+}
+
+/// How many of the writes the primary has, and how many there are.
+pub(crate) fn found<R: Wait, D: LogDevice>(
+    rt: &R,
+    alloc: Global,
+    client: &Client<D>,
+    receipts: &[Receipt],
+) -> Result<(usize, usize)> {
+    let primary = client.primary(rt);
+    let (mut count, mut all): (usize, usize) = (0, 0);
+    for receipt in receipts {
+        if let Some((id, written)) = written_of(receipt) {
+            all = all.saturating_add(1);
+            if is_found(rt, alloc, client, primary, id, written)? {
+                count = count.saturating_add(1);
+            }
         }
     }
-    Ok(count)
+    Ok((count, all))
 }

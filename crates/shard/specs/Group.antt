@@ -26,16 +26,21 @@ use Rattle.front.specs.Command.{Command, write, get, search, count, refresh, pro
 use Rattle.front.specs.Reply.{Reply, counted, refreshed, promoted, refused}
 use Rattle.shard.specs.Answering.{hits_of, refusal_of, reply_of, write_of}
 
--- the reply that tells what a copy answered
-unfoldable pub told_by : Result Output CopyFault → Reply
-told_by (Ok output) = reply_of output.members output.answer
-told_by (Err fault) = refused (refusal_of fault)
+-- how many copies an entry counts
+abbrev pub counted_in : Result Output CopyFault → ℕ
+counted_in (Ok output) = output.members
+counted_in (Err fault) = 0
 
--- the write has an entry of its copy and one that acknowledges it, and the reply tells the first
+-- the reply that tells what a copy answered, of so many copies
+unfoldable pub told_by : Result Output CopyFault → ℕ → Reply
+told_by (Ok output) copies = reply_of copies output.answer
+told_by (Err fault) copies = refused (refusal_of fault)
+
+-- the write has an entry of its copy and one that acknowledges it; the reply tells the first, and the copies that the second counts
 pub record IsWritten (w : Write) (r : Reply) : Type 0 where
   pub confirmed : Confirmed
   pub acknowledged : IsConfirmed (write_of w) confirmed
-  pub told : r ≡ told_by confirmed.write.deed.answer
+  pub told : r ≡ told_by confirmed.write.deed.answer (counted_in confirmed.acknowledgement.deed.answer)
 
 -- the reply tells what a copy, after a legal journal, has of the id
 pub record IsGot (id : Id) (r : Reply) : Type 0 where

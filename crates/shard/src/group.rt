@@ -5,9 +5,9 @@ ghost use Rattle.engine.specs.Shown.{hits_view};
 ghost use Rattle.front.specs.CommandView.{command_view};
 ghost use Rattle.front.specs.ReplyView.{reply_view};
 ghost use Rattle.shard.specs.Answering as spec;
-ghost use Rattle.shard.specs.Group.{told_by, IsCounted, IsDone, IsFound, IsGot, IsRefreshed, IsWritten};
+ghost use Rattle.shard.specs.Group.{counted_in, told_by, IsCounted, IsDone, IsFound, IsGot, IsRefreshed, IsWritten};
 
-use crate::answering::{hits_of, refusal_of, reply_in, reply_of, write_of};
+use crate::answering::{hits_of, refusal_of, reply_in, write_of};
 use crate::promoting::{is_promotion, promote, refusal_to};
 use cluster::{Client, ClusterFault, Confirmed};
 use doc::{DocId, Mapping};
@@ -183,25 +183,41 @@ impl<'a, R: Wait, D: LogDevice> Group<'a, R, D> {
 
 /// The reply that tells a write that is confirmed.
 fn told(confirmed: Confirmed) -> Reply
-    ensures { reply_view result ≡ told_by confirmed.write.deed.answer }
+    ensures { reply_view result ≡ told_by confirmed.write.deed.answer (counted_in confirmed.acknowledgement.deed.answer) }
 {
-    told_in(confirmed.write)
+    let Confirmed {
+        write,
+        acknowledgement,
+    } = confirmed;
+    let copies = counted_in(&acknowledgement);
+    drop(acknowledgement);
+    told_in(write, copies)
 }
 
-/// The reply that tells an entry.
-fn told_in(receipt: Receipt) -> Reply
-    ensures { reply_view result ≡ told_by receipt.deed.answer }
+/// How many copies an entry counts.
+fn counted_in(receipt: &Receipt) -> u64
+    ensures { result ≡ counted_in receipt.now.deed.answer }
 {
-    reply_to(receipt.deed.answer)
+    match &receipt.deed.answer {
+        Ok(output) => output.members as u64,
+        Err(_) => 0,
+    }
 }
 
-/// The reply that tells what a copy answered.
+/// The reply that tells an entry, of so many copies.
+fn told_in(receipt: Receipt, copies: u64) -> Reply
+    ensures { reply_view result ≡ told_by receipt.deed.answer copies }
+{
+    reply_to(receipt.deed.answer, copies)
+}
+
+/// The reply that tells what a copy answered, of so many copies.
 #[tactic(auto, unfolding(crate::specs::Group::told_by))]
-fn reply_to(answer: Result<Output, CopyFault>) -> Reply
-    ensures { reply_view result ≡ told_by answer }
+fn reply_to(answer: Result<Output, CopyFault>, copies: u64) -> Reply
+    ensures { reply_view result ≡ told_by answer copies }
 {
     match answer {
-        Ok(output) => reply_of(output),
+        Ok(output) => reply_in(output.answer, copies),
         Err(fault) => Reply::Refused(refusal_of(&fault)),
     }
 }

@@ -16,12 +16,8 @@ mod merges;
 #[cfg(test)]
 mod records;
 #[cfg(test)]
-mod rows;
-#[cfg(test)]
 mod trackers;
 #[cfg(test)]
 mod translogs;
 #[cfg(test)]
 mod variants;
-#[cfg(test)]
-mod worlds;

@@ -57,12 +57,6 @@ fn finds(alloc: Global, engine: &Engine, total: u64, place: usize, id: &str) -> 
     Ok(hits.total == total && is_there)
 }
 
-/// Whether a merge is put in place.
-fn is_merged(alloc: Global, engine: &mut Engine) -> Result<bool, Fail> {
-    let merged = engine.begin_merge()?.build(alloc)?;
-    Ok(engine.swap_merged(alloc, merged)?)
-}
-
 /// Puts a merge in place that was begun before a change, and tells whether it is.
 fn swap(
     alloc: Global,
@@ -135,22 +129,6 @@ fn a_merge_is_put_in_place_once(rt: HostRuntime) -> Result<(), Fail> {
     Ok(())
 }
 
-fn are_left_out(alloc: Global, engine: &mut Engine) -> Result<bool, Fail> {
-    write_two_parts(alloc, engine)?;
-    delete(alloc, engine, 62, "d60")?;
-    Ok(is_merged(alloc, engine)? && finds(alloc, engine, 51, 50, "d61")?)
-}
-
-#[test]
-fn documents_that_are_not_live_are_left_out_of_a_merge(rt: HostRuntime) -> Result<(), Fail> {
-    let alloc = rt.alloc();
-    let mut engine = empty(alloc)?;
-    let is_so = are_left_out(alloc, &mut engine);
-    drop(engine);
-    assert!(rt; is_so?);
-    Ok(())
-}
-
 fn is_refused(alloc: Global, engine: &mut Engine) -> Result<bool, Fail> {
     write_two_parts(alloc, engine)?;
     Ok(!is_merged_over_a_restart(alloc, engine)? && finds(alloc, engine, 1, 0, "d10")?)
@@ -161,24 +139,6 @@ fn a_merge_of_what_a_restart_left_is_refused(rt: HostRuntime) -> Result<(), Fail
     let alloc = rt.alloc();
     let mut engine = empty(alloc)?;
     let is_so = is_refused(alloc, &mut engine);
-    drop(engine);
-    assert!(rt; is_so?);
-    Ok(())
-}
-
-/// Whether a merge takes nothing where there is one segment, and what it took is put in place at any time.
-fn is_of_none(alloc: Global, engine: &mut Engine) -> Result<bool, Fail> {
-    reopen(alloc, engine)?;
-    let merged = engine.begin_merge()?.build(alloc)?;
-    let written = write_all(alloc, engine, 11, 13);
-    Ok(swap(alloc, engine, merged, written)? && finds(alloc, engine, 3, 2, "d12")?)
-}
-
-#[test]
-fn a_merge_of_one_segment_takes_none(rt: HostRuntime) -> Result<(), Fail> {
-    let alloc = rt.alloc();
-    let mut engine = empty(alloc)?;
-    let is_so = is_of_none(alloc, &mut engine);
     drop(engine);
     assert!(rt; is_so?);
     Ok(())

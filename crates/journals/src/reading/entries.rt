@@ -10,7 +10,7 @@ use crate::reading::answered::{answer_of, denial_of, fault_of};
 use crate::reading::asked::{input_of, request_of};
 use crate::reading::items::{copy_of, message_of, messages_of, natural_of, ops_of, worded};
 use crate::reading::wrong::{Wrong, both};
-use audit::{Deed, Ruling};
+use journal::{Deed, Ruling};
 use master::{Decision, MasterFault};
 use op::Msg;
 use replica::{CopyFault, Output};

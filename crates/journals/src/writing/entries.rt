@@ -9,7 +9,7 @@ ghost use Rattle.journals.specs.Members.{answer_members, decision_members, outpu
 use crate::writing::answered::{answer_value, denial_value, fault_value};
 use crate::writing::asked::{input_value, request_value};
 use crate::writing::items::{message_value, messages_value, ops_value, worded};
-use audit::{Deed, Journal, Ruling};
+use journal::{Deed, Journal, Ruling};
 use master::{Decision, MasterFault};
 use replica::{CopyFault, Output};
 use serde_json::{Map, Value, put};

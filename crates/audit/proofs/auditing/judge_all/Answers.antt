@@ -1,7 +1,7 @@
 use Rattle.std.proofs.Common.{◌≡◌, length, Some, Err, refl, sym, subst, ◌∙◌}
 use Rattle.std.specs.Prelude.{slice_get}
 use Rattle.std.proofs.lemmas.Option.{slice_get_read}
-use Rattle.audit.specs.declared.journal.AuditFault.{AuditFault}
+use Rattle.audit.specs.declared.fault.AuditFault.{AuditFault}
 use Rattle.audit.specs.Audit.{IsAudited}
 use Rattle.audit.proofs.Passing.{all_below, below_more, differs, parts_more}
 use Rattle.audit.proofs.auditing.judge_all.Goals as goal

@@ -1,7 +1,7 @@
 use Rattle.std.proofs.Common.{ap, subst, sym, ◌∙◌, map, List}
 use Rattle.std.specs.Prelude.{slice_get}
-use Rattle.audit.specs.declared.moves.Move.{Move}
-use Rattle.audit.specs.declared.moves.Placed.{Placed}
+use Rattle.journal.specs.declared.moves.Move.{Move}
+use Rattle.journal.specs.declared.moves.Placed.{Placed}
 use Rattle.audit.specs.Moves.{CanGo}
 use Rattle.audit.proofs.Parts.{there_at, at_place, past_all}
 use Rattle.audit.proofs.merge.number_at.Goals as goal

@@ -1,5 +1,5 @@
 use Rattle.std.proofs.Common.{◌<◌, ℕ}
-use Rattle.audit.specs.declared.moves.Move.{Move}
+use Rattle.journal.specs.declared.moves.Move.{Move}
 use Rattle.audit.specs.Moves.{IsNext}
 use Rattle.audit.specs.Merge.{moves_in, count_of}
 use Rattle.audit.proofs.merge.number_of.Given as goal

@@ -2,7 +2,7 @@ use Rattle.std.proofs.Common.{◌≡◌, ◌∷◌, ◌++◌, [], List, length, 
 use Rattle.std.specs.Prelude.{All}
 use Rattle.std.proofs.lemmas.List.{length_push}
 use Rattle.std.proofs.lemmas.List.Elements.{All-push}
-use Rattle.audit.specs.declared.journal.Journal.{Journal}
+use Rattle.journal.specs.declared.journal.Journal.{Journal}
 use Rattle.cluster.specs.Journals.{copies_in, IsLegalJournal}
 use Rattle.cluster.proofs.cluster.journals.Goals as goal
 

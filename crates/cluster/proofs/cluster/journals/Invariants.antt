@@ -1,5 +1,5 @@
 use Rattle.std.specs.Prelude.{◌≡◌, ◌∷◌, ◌+◌, length, All}
-use Rattle.audit.specs.declared.journal.Journal.{Journal}
+use Rattle.journal.specs.declared.journal.Journal.{Journal}
 use Rattle.cluster.specs.Journals.{copies_in, IsLegalJournal}
 use Rattle.cluster.proofs.cluster.journals.Given as goal
 

@@ -1,5 +1,5 @@
 use Rattle.std.proofs.Common.{List, ◌++◌, sym, subst}
-use Rattle.audit.specs.declared.journal.Deed.{Deed}
+use Rattle.journal.specs.declared.journal.Deed.{Deed}
 use Rattle.journals.specs.Entries.{IsTextOf, TellsDeed}
 use Rattle.journals.proofs.Texts.{ends, goes_on}
 use Rattle.journals.proofs.reading.deeds_of.Goals as goal

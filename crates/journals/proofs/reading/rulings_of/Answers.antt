@@ -1,5 +1,5 @@
 use Rattle.std.proofs.Common.{List, ◌++◌, sym, subst}
-use Rattle.audit.specs.declared.journal.Ruling.{Ruling}
+use Rattle.journal.specs.declared.journal.Ruling.{Ruling}
 use Rattle.journals.specs.Entries.{IsTextOf, TellsRuling}
 use Rattle.journals.proofs.Texts.{ends, goes_on}
 use Rattle.journals.proofs.reading.rulings_of.Goals as goal

@@ -1,6 +1,6 @@
 use Rattle.std.proofs.Common.{◌≡◌, sym, subst}
-use Rattle.audit.specs.declared.journal.Journal.{Journal}
-use Rattle.audit.specs.Audit.{IsLawful}
+use Rattle.journal.specs.declared.journal.Journal.{Journal}
+use Rattle.journal.specs.Lawful.{IsLawful}
 use Rattle.node.specs.Held.{JournalData}
 use Rattle.cluster.specs.Journals.{node_of}
 use Rattle.cluster.proofs.left.Left.served.Goals as goal

@@ -1,5 +1,5 @@
 use Rattle.std.proofs.Common.{◌≡◌, List, [], ◌∷◌, ◌++◌, Ok, ap, sym, subst, ◌∙◌}
-use Rattle.audit.specs.declared.journal.Ruling.{Ruling}
+use Rattle.journal.specs.declared.journal.Ruling.{Ruling}
 use Rattle.master.specs.Decide.{decision_of, master_step}
 use Rattle.cluster.specs.Ruled.{IsRuled, RuledData, ruling}
 use Rattle.cluster.proofs.Rulings.{made_more}

@@ -1,5 +1,5 @@
 use Rattle.std.proofs.Common.{◌≡◌, false, List, [], ◌∷◌, ◌++◌, Err, ap, sym, subst, ◌∙◌}
-use Rattle.audit.specs.declared.journal.Ruling.{Ruling}
+use Rattle.journal.specs.declared.journal.Ruling.{Ruling}
 use Rattle.master.specs.Decide.{master_step}
 use Rattle.cluster.specs.Ruled.{IsRuled, RuledData, ruling}
 use Rattle.cluster.proofs.Rulings.{denied_more}

@@ -1,6 +1,6 @@
 use Rattle.std.proofs.Common.{◌≡◌, true, Option, Some, List, [], ◌∷◌, ◌++◌, Ok, ap, sym, subst, ◌∙◌, true≢false}
 use Rattle.std.specs.Prelude.{IsTrue}
-use Rattle.audit.specs.declared.journal.Ruling.{Ruling}
+use Rattle.journal.specs.declared.journal.Ruling.{Ruling}
 use Rattle.master.specs.Log.{kept_state}
 use Rattle.cluster.specs.Ruled.{IsRuled, RuledData}
 use Rattle.cluster.proofs.Rulings.{found_ruled}

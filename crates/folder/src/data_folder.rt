@@ -1,0 +1,469 @@
+//! The folder that an index is kept in: its mapping, the log of its master, and those of its copies.
+ghost use Rattle.std.specs.Prelude.{All, IfOk};
+ghost use Rattle.op.specs.Records.{IsRecord};
+
+use crate::data_fault::{DataFault, Difference};
+use doc::{DocFault, Mapping};
+use master::Master;
+use op::Record;
+use replica::{Birth, Copy, CopyFault};
+use serde_json::Value;
+use std::alloc::{AllocError, Global};
+use std::fs;
+use std::fs::{File, OpenFile, OpenOptions, TryLockError};
+use std::io::{Read, Write};
+use std::rt::Files;
+use translog::{FileDevice, LogFault, MemDevice, Refused, Translog};
+
+/// The file that is locked while the folder is served.
+const LOCK: &str = "lock";
+
+const MAPPING: &str = "mapping.json";
+
+/// What the mapping is written to before it takes its name.
+const MAPPING_WRITTEN: &str = "mapping.json.new";
+
+const MASTER: &str = "master.log";
+
+const COPY: &str = "copy-1.rsx";
+
+/// How many bytes of a copy's log are no record.
+const HEADER: usize = 4;
+
+/// How many copies a new index has at most.
+const MOST_COPIES: u32 = 5;
+
+/// The mapping that was handed in: its text, and what that is as JSON.
+#[derive(Drop)]
+pub struct MappingFile {
+    pub text: String,
+    pub value: Value,
+}
+
+/// The one copy of an index in a folder, and its master, as their logs have them. No other process serves it while this is held.
+#[derive(Drop)]
+pub struct KeptCopy {
+    pub master: Master<FileDevice<File>>,
+    pub copy: Copy<FileDevice<File>>,
+    pub lock: File,
+}
+
+/// Opens the index of a folder, and begins one where there is none. With no mapping handed in it is the one that is kept, or an empty one.
+pub fn open_copy<R: Files<File = File> + AllocGlobal>(
+    rt: &R,
+    path: &str,
+    given: Option<&MappingFile>,
+) -> Result<KeptCopy, DataFault> {
+    let folder = Folder { rt, path };
+    folder.make()?;
+    let lock = folder.lock()?;
+    let mapping = folder.mapping(given)?;
+    folder.copy(mapping, lock)
+}
+
+/// A folder whose copies are to be opened: the mapping of its index. No other process serves it while this is held.
+#[derive(Drop)]
+pub struct KeptFolder {
+    pub mapping: Mapping,
+    pub lock: File,
+}
+
+/// Locks the folder of an index of several copies, and makes one where there is none; its logs stay as they are.
+pub fn open_folder<R: Files<File = File> + AllocGlobal>(
+    rt: &R,
+    path: &str,
+    given: Option<&MappingFile>,
+) -> Result<KeptFolder, DataFault> {
+    let folder = Folder { rt, path };
+    folder.make()?;
+    let lock = folder.lock()?;
+    let mapping = folder.mapping(given)?;
+    folder.check_master()?;
+    folder.sync()?;
+    Ok(KeptFolder { mapping, lock })
+}
+
+/// What a folder keeps of an index, as it was read: nothing of it was changed. No other process serves the folder while this is held.
+#[derive(Drop)]
+pub struct KeptRecords {
+    pub text: String,
+    pub mapping: Mapping,
+    pub records: Vec<Record>,
+    pub lock: File,
+}
+
+/// Reads the index of a folder, as the copy has it that led last; a torn end of its log is passed over.
+pub fn read_index<R: Files<File = File> + AllocGlobal>(
+    rt: &R,
+    path: &str,
+) -> Result<KeptRecords, DataFault>
+    ensures { IfOk result (λ k. All IsRecord k.records.items) }
+{
+    let folder = Folder { rt, path };
+    if !folder.has(MAPPING)? {
+        return Err(DataFault::NoIndex);
+    }
+    let lock = folder.lock()?;
+    let text = folder.text(MAPPING)?;
+    let mapping = mapping_of(rt.alloc(), text.as_str())?;
+    match folder.records() {
+        Ok(records) => Ok(KeptRecords {
+            text,
+            mapping,
+            records,
+            lock,
+        }),
+        Err(fault) => Err(fault),
+    }
+}
+
+/// A folder, and what reads and writes its files.
+#[derive(Drop)]
+struct Folder<'a, R> {
+    rt: &'a R,
+    path: &'a str,
+}
+
+impl<'a, R: Files<File = File> + AllocGlobal> Folder<'a, R> {
+    fn path_of(&self, name: &str) -> Result<String, AllocError> {
+        let path = self.path;
+        format!(in self.rt.alloc(); "{path}/{name}")
+    }
+
+    /// The records of the copy that led last.
+    fn records(&self) -> Result<Vec<Record>, DataFault>
+        ensures { IfOk result (λ r. All IsRecord r.items) }
+    {
+        let primary = self.primary()?;
+        let mut log = Translog::over(self.kept_device(primary)?);
+        match log.read(self.rt.alloc()) {
+            Ok((records, _torn)) => Ok(records),
+            Err(LogFault::NoMemory) => Err(DataFault::NoMemory),
+            Err(fault) => Err(DataFault::Copy(primary, CopyFault::Log(fault))),
+        }
+    }
+
+    /// Makes the folder where it is missing.
+    fn make(&self) -> Result<(), DataFault> {
+        match fs::exists(self.rt, self.path) {
+            Ok(true) => Ok(()),
+            Ok(false) => fs::create_dir(self.rt, self.path).map_err(DataFault::Folder),
+            Err(error) => Err(DataFault::Folder(error)),
+        }
+    }
+
+    /// Locks the folder for this process.
+    fn lock(&self) -> Result<File, DataFault> {
+        let path = self.path_of(LOCK)?;
+        let file = match OpenOptions::new()
+            .write(true)
+            .create(true)
+            .open(self.rt, path.as_str())
+        {
+            Ok(file) => file,
+            Err(error) => return Err(DataFault::File(LOCK, error)),
+        };
+        match file.try_lock() {
+            Ok(()) => Ok(file),
+            Err(TryLockError::WouldBlock) => Err(DataFault::InUse),
+            Err(TryLockError::Error(error)) => Err(DataFault::File(LOCK, error)),
+        }
+    }
+
+    fn has(&self, name: &'static str) -> Result<bool, DataFault> {
+        let path = self.path_of(name)?;
+        match fs::exists(self.rt, path.as_str()) {
+            Ok(found) => Ok(found),
+            Err(error) => Err(DataFault::File(name, error)),
+        }
+    }
+
+    /// The mapping of the index: the kept one, which one that is handed in has to be, or that of a new index, which is kept first.
+    fn mapping(&self, given: Option<&MappingFile>) -> Result<Mapping, DataFault> {
+        if self.has(MAPPING)? {
+            return self.kept_mapping(given);
+        }
+        if self.has(MASTER)? || self.has(COPY)? {
+            return Err(DataFault::Missing(MAPPING));
+        }
+        let alloc = self.rt.alloc();
+        let Some(given) = given else {
+            self.keep_mapping("{}\n")?;
+            return mapping_of(alloc, "{}");
+        };
+        let mapping = Mapping::from_value(alloc, &given.value).map_err(refused)?;
+        self.keep_mapping(given.text.as_str())?;
+        Ok(mapping)
+    }
+
+    fn kept_mapping(&self, given: Option<&MappingFile>) -> Result<Mapping, DataFault> {
+        let text = self.text(MAPPING)?;
+        let value = value_of(self.rt.alloc(), text.as_str())?;
+        if let Some(given) = given {
+            if given.value != value {
+                let difference = difference(self.rt.alloc(), text.as_str(), given.text.as_str())?;
+                return Err(DataFault::OtherMapping(difference));
+            }
+        }
+        Mapping::from_value(self.rt.alloc(), &value).map_err(refused)
+    }
+
+    fn text(&self, name: &'static str) -> Result<String, DataFault> {
+        let path = self.path_of(name)?;
+        let mut text = String::new(self.rt.alloc());
+        let read = match fs::open(self.rt, path.as_str()) {
+            Ok(mut file) => file.read_to_string(&mut text),
+            Err(error) => Err(error),
+        };
+        match read {
+            Ok(_) => Ok(text),
+            Err(error) => Err(DataFault::File(name, error)),
+        }
+    }
+
+    /// Writes the mapping of a new index so that it is there whole or not at all.
+    fn keep_mapping(&self, text: &str) -> Result<(), DataFault> {
+        let written = self.path_of(MAPPING_WRITTEN)?;
+        let path = self.path_of(MAPPING)?;
+        let kept = write_synced(self.rt, written.as_str(), text).and_then(|()| fs::rename(
+            self.rt,
+            written.as_str(),
+            path.as_str(),
+        ));
+        match kept {
+            Ok(()) => self.sync(),
+            Err(error) => Err(DataFault::File(MAPPING, error)),
+        }
+    }
+
+    /// Waits until the names of the folder's files are on the disk, and its own.
+    fn sync(&self) -> Result<(), DataFault> {
+        let above = self.path_of("..")?;
+        for path in [self.path, above.as_str()] {
+            let synced = match fs::open(self.rt, path) {
+                Ok(opened) => opened.sync_all(),
+                Err(error) => Err(error),
+            };
+            synced.map_err(DataFault::Folder)?;
+        }
+        Ok(())
+    }
+
+    /// The path of a copy's log.
+    fn copy_path(&self, copy: u32) -> Result<String, AllocError> {
+        let path = self.path;
+        format!(in self.rt.alloc(); "{path}/copy-{copy}.rsx")
+    }
+
+    /// Where the master's log is missing no copy of a new index has a log with records.
+    fn check_master(&self) -> Result<(), DataFault> {
+        if self.has(MASTER)? {
+            return Ok(());
+        }
+        for copy in 1..=MOST_COPIES {
+            let path = self.copy_path(copy)?;
+            if let Ok(found) = fs::metadata(self.rt, path.as_str()) {
+                if found.len() > HEADER as u64 {
+                    return Err(DataFault::Missing(MASTER));
+                }
+            }
+        }
+        Ok(())
+    }
+
+    /// The copy that led last, as the master's log has it.
+    fn primary(&self) -> Result<u32, DataFault> {
+        Ok(self.master()?.state().primary)
+    }
+
+    /// Whether the index has, or has had, more than one copy.
+    fn has_several(&self) -> Result<bool, DataFault> {
+        Ok(self.master()?.state().next != 2)
+    }
+
+    /// The master, as its log has it, and that of a new index where there is none; nothing of the log changes.
+    fn master(&self) -> Result<Master<MemDevice>, DataFault> {
+        let alloc = self.rt.alloc();
+        let bytes = self.master_bytes()?;
+        match Master::begin(alloc, 1, MemDevice::new(bytes)) {
+            Ok(master) => Ok(master),
+            Err(refused) => Err(DataFault::Master(refused.into_fault())),
+        }
+    }
+
+    /// The bytes of the master's log; none where it is missing.
+    fn master_bytes(&self) -> Result<Vec<u8>, DataFault> {
+        let alloc = self.rt.alloc();
+        if !self.has(MASTER)? {
+            return Ok(Vec::new(alloc));
+        }
+        let path = self.path_of(MASTER)?;
+        let mut bytes = Vec::new(alloc);
+        let read = match fs::open(self.rt, path.as_str()) {
+            Ok(mut file) => file.read_to_end(&mut bytes),
+            Err(error) => Err(error),
+        };
+        match read {
+            Ok(_) => Ok(bytes),
+            Err(error) => Err(DataFault::File(MASTER, error)),
+        }
+    }
+
+    /// The device of a copy's log that is there.
+    fn kept_device(&self, copy: u32) -> Result<FileDevice<File>, DataFault> {
+        let path = self.copy_path(copy)?;
+        let opened = match fs::open(self.rt, path.as_str()) {
+            Ok(file) => FileDevice::open(self.rt.alloc(), file),
+            Err(error) => Err(error),
+        };
+        match opened {
+            Ok(device) => Ok(device),
+            Err(error) => Err(DataFault::CopyFile(copy, error)),
+        }
+    }
+
+    /// The device of a log, which is made where it is missing.
+    fn device(&self, name: &'static str) -> Result<FileDevice<File>, DataFault> {
+        let path = self.path_of(name)?;
+        let opened = match OpenOptions::new()
+            .read(true)
+            .append(true)
+            .create(true)
+            .open(self.rt, path.as_str())
+        {
+            Ok(file) => FileDevice::open(self.rt.alloc(), file),
+            Err(error) => Err(error),
+        };
+        match opened {
+            Ok(device) => Ok(device),
+            Err(error) => Err(DataFault::File(name, error)),
+        }
+    }
+
+    /// The devices of the copy's log and of the master's. A new index gets the copy's first, and its name is on the disk before the master's is made;
+    /// so where the master's is there, both are, whatever a crash takes.
+    fn devices(&self) -> Result<(FileDevice<File>, FileDevice<File>), DataFault> {
+        let had_master = self.has(MASTER)?;
+        if had_master && !self.has(COPY)? {
+            return Err(DataFault::Missing(COPY));
+        }
+        let copy = self.device(COPY)?;
+        if !had_master {
+            if copy.len() > HEADER {
+                return Err(DataFault::Missing(MASTER));
+            }
+            self.sync()?;
+        }
+        let master = self.device(MASTER)?;
+        self.sync()?;
+        Ok((copy, master))
+    }
+
+    /// The copy of the folder, and its master.
+    fn copy(&self, mapping: Mapping, lock: File) -> Result<KeptCopy, DataFault> {
+        let alloc = self.rt.alloc();
+        if self.has_several()? {
+            return Err(DataFault::SeveralCopies);
+        }
+        let (copy, master) = self.devices()?;
+        let master = match Master::begin(alloc, 1, master) {
+            Ok(master) => master,
+            Err(refused) => return Err(DataFault::Master(refused.into_fault())),
+        };
+        let opened = if master.state().term == 1 {
+            begun_or_opened(alloc, mapping, copy)
+        } else {
+            opened(alloc, mapping, copy)
+        };
+        match opened {
+            Ok(copy) => Ok(KeptCopy { master, copy, lock }),
+            Err(fault) => Err(fault),
+        }
+    }
+}
+
+/// The copy of an index in its first term: a new one where its log has no record.
+fn begun_or_opened(
+    alloc: Global,
+    mapping: Mapping,
+    device: FileDevice<File>,
+) -> Result<Copy<FileDevice<File>>, DataFault> {
+    let kept = mapping.copy(alloc)?;
+    match Copy::begin(alloc, 1, 1, mapping, device) {
+        Ok(copy) => Ok(copy),
+        Err(
+            Refused {
+                device,
+                fault: CopyFault::Mismatch,
+            },
+        ) => opened(alloc, kept, device),
+        Err(refused) => Err(DataFault::Copy(1, refused.into_fault())),
+    }
+}
+
+fn opened(
+    alloc: Global,
+    mapping: Mapping,
+    device: FileDevice<File>,
+) -> Result<Copy<FileDevice<File>>, DataFault> {
+    match Copy::open(alloc, 1, Birth::First, mapping, device) {
+        Ok(copy) => Ok(copy),
+        Err(refused) => Err(DataFault::Copy(1, refused.into_fault())),
+    }
+}
+
+fn write_synced<R: Files<File = File>>(rt: &R, path: &str, text: &str) -> std::io::Result<()> {
+    let mut file = fs::create(rt, path)?;
+    file.write_all(text.as_bytes())?;
+    file.sync_all()
+}
+
+fn value_of(alloc: Global, text: &str) -> Result<Value, DataFault> {
+    match Value::from_str(alloc, text) {
+        Ok(value) => Ok(value),
+        Err(error) => if error.is_memory() {
+            Err(DataFault::NoMemory)
+        } else {
+            Err(DataFault::NotJson(error))
+        },
+    }
+}
+
+fn mapping_of(alloc: Global, text: &str) -> Result<Mapping, DataFault> {
+    let value = value_of(alloc, text)?;
+    Mapping::from_value(alloc, &value).map_err(refused)
+}
+
+fn refused(fault: DocFault) -> DataFault {
+    match fault {
+        DocFault::NoMemory => DataFault::NoMemory,
+        fault => DataFault::Mapping(fault),
+    }
+}
+
+/// The first line in which two texts differ; a line that one of them doesn't have is empty.
+fn difference(alloc: Global, kept: &str, given: &str) -> Result<Difference, AllocError> {
+    let mut number: u64 = 1;
+    let mut others = given.lines();
+    for line in kept.lines() {
+        let other = others.next().unwrap_or("");
+        if line != other {
+            return difference_at(alloc, number, line, other);
+        }
+        number = number.saturating_add(1);
+    }
+    difference_at(alloc, number, "", others.next().unwrap_or(""))
+}
+
+fn difference_at(
+    alloc: Global,
+    line: u64,
+    kept: &str,
+    given: &str,
+) -> Result<Difference, AllocError> {
+    Ok(Difference {
+        line,
+        kept: String::from_str(alloc, kept)?,
+        given: String::from_str(alloc, given)?,
+    })
+}

@@ -1,0 +1,127 @@
+//! Writing the documents of an index that is kept in a folder.
+
+use crate::data_fault::DataFault;
+use crate::data_folder::{KeptRecords, read_index};
+use engine::Engine;
+use op::{Body, Op};
+use serde_json::Value;
+use std::alloc::{AllocError, Global};
+use std::fmt::Display;
+use std::fs::File;
+use std::io::Write;
+use std::rt::Files;
+use std::{fmt, io};
+
+/// What is written of a folder.
+#[derive(Clone, Copy)]
+pub struct Dumped<'a> {
+    pub data: &'a str,
+    /// The mapping, and no documents.
+    pub mapping: bool,
+}
+
+/// Why a folder isn't written, or not all of it.
+#[derive(Debug, Drop)]
+pub enum DumpFault {
+    Data(DataFault),
+    Output(io::Error),
+    NoMemory,
+}
+
+impl Display for DumpFault {
+    fn fmt<W: fmt::Write>(&self, f: &mut fmt::Formatter<W>) -> fmt::Result {
+        match self {
+            DumpFault::Data(fault) => write!(f, "the data folder: {fault}"),
+            DumpFault::Output(error) => write!(f, "the output can't be written: {error}"),
+            DumpFault::NoMemory => write!(f, "out of memory"),
+        }
+    }
+}
+
+impl From<AllocError> for DumpFault {
+    fn from(_refused: AllocError) -> DumpFault {
+        DumpFault::NoMemory
+    }
+}
+
+impl From<io::Error> for DumpFault {
+    fn from(error: io::Error) -> DumpFault {
+        DumpFault::Output(error)
+    }
+}
+
+impl From<DataFault> for DumpFault {
+    fn from(fault: DataFault) -> DumpFault {
+        match fault {
+            DataFault::NoMemory => DumpFault::NoMemory,
+            fault => DumpFault::Data(fault),
+        }
+    }
+}
+
+/// Writes the mapping of a folder's index, or its documents as the lines of a bulk, in the order in which they were last written. The folder stays as it is.
+pub fn dump<R: Files<File = File> + AllocGlobal, O: Write>(
+    rt: &R,
+    dumped: Dumped<'_>,
+    output: &mut O,
+) -> Result<(), DumpFault> {
+    let KeptRecords {
+        text,
+        mapping,
+        records,
+        lock,
+    } = read_index(rt, dumped.data)?;
+    if dumped.mapping {
+        write_line(output, text.as_str())?;
+    } else {
+        let engine = Engine::open(rt.alloc(), mapping, records)?;
+        write_documents(rt.alloc(), &engine, output)?;
+    }
+    output.flush()?;
+    drop(lock);
+    Ok(())
+}
+
+fn write_documents<O: Write>(
+    alloc: Global,
+    engine: &Engine,
+    output: &mut O,
+) -> Result<(), DumpFault> {
+    for op in &engine.above(alloc, -1)? {
+        write_operation(alloc, engine, op, output)?;
+    }
+    Ok(())
+}
+
+/// Writes the document of an operation, where no later one is on its id.
+fn write_operation<O: Write>(
+    alloc: Global,
+    engine: &Engine,
+    op: &Op,
+    output: &mut O,
+) -> Result<(), DumpFault> {
+    let Body::Index(id, source) = &op.body else {
+        return Ok(());
+    };
+    match engine.last(id) {
+        Some(last) if last.seq == op.seq => {}
+        _ => return Ok(()),
+    }
+    let id = Value::try_from_str(alloc, id.as_str())?.to_string(alloc)?;
+    writeln!(output, "{{\"index\":{{\"_id\":{id}}}}}")?;
+    write_line(output, source.as_str())
+}
+
+/// Writes JSON on one line: a break in it stands between two tokens, so a space means the same.
+fn write_line<O: Write>(output: &mut O, json: &str) -> Result<(), DumpFault> {
+    let mut lines = json.trim_end().split(|c| c == '\n' || c == '\r');
+    if let Some(first) = lines.next() {
+        output.write_all(first.as_bytes())?;
+    }
+    for line in lines {
+        output.write_all(b" ")?;
+        output.write_all(line.as_bytes())?;
+    }
+    output.write_all(b"\n")?;
+    Ok(())
+}

@@ -1,0 +1,98 @@
+//! Telling what the log of a copy holds.
+
+use std::alloc::{AllocError, Global};
+use std::fmt::Display;
+use std::io::Write;
+use std::rt::Files;
+use std::{fmt, fs, io};
+use translog::{LogFault, MemDevice, Torn, Translog};
+
+/// Why it isn't told of each file what it holds, or not each is a log.
+#[derive(Debug, Drop)]
+pub enum InspectFault {
+    /// A file, and why it can't be read.
+    Read(String, io::Error),
+    Output(io::Error),
+    /// How many files are no log of a copy, of how many.
+    NoLogs(usize, usize),
+    NoMemory,
+}
+
+impl Display for InspectFault {
+    fn fmt<W: fmt::Write>(&self, f: &mut fmt::Formatter<W>) -> fmt::Result {
+        match self {
+            InspectFault::Read(file, error) => write!(f, "{file}: {error}"),
+            InspectFault::Output(error) => write!(f, "the output can't be written: {error}"),
+            InspectFault::NoLogs(others, all) => {
+                write!(f, "{others} of {all} files are no whole log of a copy")
+            }
+            InspectFault::NoMemory => write!(f, "out of memory"),
+        }
+    }
+}
+
+impl From<AllocError> for InspectFault {
+    fn from(_refused: AllocError) -> InspectFault {
+        InspectFault::NoMemory
+    }
+}
+
+impl From<io::Error> for InspectFault {
+    fn from(error: io::Error) -> InspectFault {
+        InspectFault::Output(error)
+    }
+}
+
+/// Writes for each of these files what it holds as the log of a copy, on a line of its own. The files stay as they are.
+pub fn inspect<R: Files + AllocGlobal, O: Write>(
+    rt: &R,
+    files: &[String],
+    output: &mut O,
+) -> Result<(), InspectFault> {
+    let mut others: usize = 0;
+    for file in files {
+        let bytes = bytes_of(rt, file.as_str())?;
+        if !tell(rt.alloc(), bytes, output)? {
+            others = others.saturating_add(1);
+        }
+    }
+    output.flush()?;
+    if others > 0 {
+        return Err(InspectFault::NoLogs(others, files.len()));
+    }
+    Ok(())
+}
+
+fn bytes_of<R: Files + AllocGlobal>(rt: &R, file: &str) -> Result<Vec<u8>, InspectFault> {
+    match fs::read(rt, file) {
+        Ok(bytes) => Ok(bytes),
+        Err(error) => Err(InspectFault::Read(String::from_str(rt.alloc(), file)?, error)),
+    }
+}
+
+/// Writes what a log of these bytes holds, and tells whether they are one.
+fn tell<O: Write>(alloc: Global, bytes: Vec<u8>, output: &mut O) -> Result<bool, InspectFault> {
+    let mut log = Translog::over(MemDevice::new(bytes));
+    match log.read(alloc) {
+        Ok((records, torn)) => {
+            let count = records.len();
+            drop(records);
+            tell_records(count, torn, output)?;
+            Ok(true)
+        }
+        Err(LogFault::NoMemory) => Err(InspectFault::NoMemory),
+        Err(fault) => {
+            writeln!(output, "{fault}")?;
+            Ok(false)
+        }
+    }
+}
+
+/// Writes how many records a log has, and where its end is torn. Of a torn header nothing is left.
+fn tell_records<O: Write>(count: usize, torn: Torn, output: &mut O) -> io::Result<()> {
+    match torn {
+        Torn::Nothing => writeln!(output, "records {count}"),
+        Torn::End(whole) => writeln!(output, "records {count}, torn at byte {whole}"),
+        Torn::Header => writeln!(output, "records {count}, torn at byte 0"),
+    }
+}

@@ -1,0 +1,19 @@
+//! The folder that an index is kept in, the folder of journals, and what an audit says of them.
+#![tactic(auto)]
+
+mod auditing;
+mod data_fault;
+mod data_folder;
+mod dumping;
+mod inspecting;
+mod journal_folder;
+mod model_answer;
+mod verdict;
+
+pub use auditing::{AuditingFault, judge_folder};
+pub use data_fault::{DataFault, Difference};
+pub use data_folder::{KeptCopy, KeptFolder, MappingFile, open_copy, open_folder};
+pub use dumping::{DumpFault, Dumped, dump};
+pub use inspecting::{InspectFault, inspect};
+pub use journal_folder::{KeepFault, keep_journals};
+pub use verdict::{VerdictFault, judge};

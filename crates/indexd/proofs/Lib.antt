@@ -1,3 +1,0 @@
-pub mod Events
-pub mod FirstLine
-pub mod Played

@@ -1,0 +1,4 @@
+pub mod Opening
+pub mod Journal
+pub mod Rulings
+pub mod Lawful

@@ -1,0 +1,10 @@
+pub mod Lines
+pub mod Words
+pub mod Command
+pub mod Refusal
+pub mod Reply
+pub mod Step
+pub mod Output
+pub mod Going
+pub mod View
+pub mod Refused

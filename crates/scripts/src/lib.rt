@@ -1,0 +1,21 @@
+//! Plays scripts: each line is a command over a world in memory, and the answer is a line or more.
+#![tactic(auto)]
+
+mod command;
+mod explaining;
+mod fault;
+mod misfit;
+mod names;
+mod playing;
+mod refusal;
+mod reply;
+mod step;
+mod telling;
+mod writing;
+
+pub use fault::ReplayFault;
+pub use names::shown;
+pub use playing::{replay, replay_telling};
+pub use refusal::Refusal;
+pub use telling::{Listener, Teller, Wanted};
+pub use writing::Flushing;
