@@ -4,7 +4,7 @@
 # A client writes documents to a server with --audit and --journals, each once the page of the one before it is there, until the copies' journals have
 # about ENTRIES entries; then it is measured how long the server takes to write the journals and to audit them, and how long `indexd audit` takes, which
 # also reads them. A write is an entry of each copy, and the primary has one more for each acknowledgement.
-# INDEXD_PROGRAM=FILE measures the executable FILE in place of crates/indexd/out/indexd, which ./indexd builds first where it has to. Needs Linux and python3.
+# INDEXD_PROGRAM=FILE measures the executable FILE in place of the one that ./indexd runs, which is built first where it has to be. Needs Linux and python3.
 set -euo pipefail
 
 . "$(dirname -- "$(readlink -f -- "${BASH_SOURCE[0]}")")/program.sh"

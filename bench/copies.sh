@@ -4,7 +4,7 @@
 # Clients write documents over a connection each, each once the page of the one before it is there: 1, 4, and 16 of them, of which four are served at once and
 # the others one after another. Then one client searches, alone and beside a client that writes as fast as it can: the median of what a search takes, and the
 # 99th of a hundred. The folder is a new one in DIR, or in /var/tmp. In front of all stands what the disk gives: appends of 100 bytes, each synced.
-# INDEXD_PROGRAM=FILE measures the executable FILE in place of crates/indexd/out/indexd, which ./indexd builds first where it has to. Needs Linux and python3.
+# INDEXD_PROGRAM=FILE measures the executable FILE in place of the one that ./indexd runs, which is built first where it has to be. Needs Linux and python3.
 set -euo pipefail
 
 . "$(dirname -- "$(readlink -f -- "${BASH_SOURCE[0]}")")/program.sh"

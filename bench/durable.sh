@@ -4,7 +4,7 @@
 # First a file is appended to and synced (fdatasync) as often as that goes, by 100 bytes, the length of such a write's record; then clients write documents to a
 # server of an index in a folder (`--data`), each once the page of the one before it is there. Four connections are served at once, so each client closes its own
 # after every 25 writes, and the others have their turn. Both happen in DIR, or in a folder of /var/tmp. Then how long a start over what was written takes.
-# INDEXD_PROGRAM=FILE measures the executable FILE in place of crates/indexd/out/indexd, which ./indexd builds first where it has to. Needs Linux and python3.
+# INDEXD_PROGRAM=FILE measures the executable FILE in place of the one that ./indexd runs, which is built first where it has to be. Needs Linux and python3.
 set -euo pipefail
 
 . "$(dirname -- "$(readlink -f -- "${BASH_SOURCE[0]}")")/program.sh"

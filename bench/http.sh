@@ -3,7 +3,7 @@
 #
 # One connection asks one request after another, each once the page of the one before it is there. The floor is the same loop over a path that there isn't, whose
 # page is always the same. Then a search of everything in an empty index, in bodies of 1 KB, 100 KB and 1 MB that are filled up with spaces, as time a KB.
-# INDEXD_PROGRAM=FILE measures the executable FILE in place of crates/indexd/out/indexd, which ./indexd builds first where it has to. Needs Linux and python3.
+# INDEXD_PROGRAM=FILE measures the executable FILE in place of the one that ./indexd runs, which is built first where it has to be. Needs Linux and python3.
 set -euo pipefail
 
 . "$(dirname -- "$(readlink -f -- "${BASH_SOURCE[0]}")")/program.sh"

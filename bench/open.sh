@@ -4,7 +4,7 @@
 # The log is written by the format in docs/FORMATS.md into a new folder in DIR, or in /var/tmp: an index of one copy, each record a document of its own. Then a
 # server is started over it three times, and the time is taken until it says where it listens; the best is printed, and beside it what reading the file alone
 # takes. After each start one document is looked for.
-# INDEXD_PROGRAM=FILE measures the executable FILE in place of crates/indexd/out/indexd, which ./indexd builds first where it has to. Needs Linux and python3.
+# INDEXD_PROGRAM=FILE measures the executable FILE in place of the one that ./indexd runs, which is built first where it has to be. Needs Linux and python3.
 set -euo pipefail
 
 . "$(dirname -- "$(readlink -f -- "${BASH_SOURCE[0]}")")/program.sh"

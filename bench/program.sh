@@ -1,7 +1,3 @@
-# The program that is measured, as `program`, for the scripts beside this one: INDEXD_PROGRAM, or the one that ./indexd builds first where it has to.
+# The program that is measured, as `program`, for the scripts beside this one: INDEXD_PROGRAM, or the one that ./indexd runs, which is built first where it has to be.
 root=$(dirname -- "$(dirname -- "$(readlink -f -- "${BASH_SOURCE[0]}")")")
-program=${INDEXD_PROGRAM:-}
-if [ -z "$program" ]; then
-    "$root/indexd" replay - </dev/null
-    program=$root/crates/indexd/out/indexd
-fi
+program=${INDEXD_PROGRAM:-$("$root/.ci/program" </dev/null)}

@@ -4,7 +4,7 @@
 # Of each ten lines eight put a document, one gets one and one searches by a keyword; each hundredth line refreshes in place of a
 # search. The ids are drawn from N / 2, so that about half of the puts are updates; a search matches about one document in fifty.
 # Prints a line for each N: lines a second, with the start of the process, and peak memory. INDEXD_PROGRAM=FILE measures the
-# executable FILE in place of crates/indexd/out/indexd, which ./indexd builds first where it has to. Needs GNU time.
+# executable FILE in place of the one that ./indexd runs, which is built first where it has to be. Needs GNU time.
 set -euo pipefail
 
 . "$(dirname -- "$(readlink -f -- "${BASH_SOURCE[0]}")")/program.sh"

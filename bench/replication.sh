@@ -5,7 +5,7 @@
 # A write of three copies is five lines of a script: the put, its two messages to the replicas, and their two acknowledgements; the last confirms it. Each put is
 # of a document of its own. Prints a line for each N: writes a second of three copies and of one, with the start of the process, microseconds a write, and the
 # peak memory of three copies, which holds every message that was sent. Each time is the best of three runs. INDEXD_PROGRAM=FILE measures the executable FILE in
-# place of crates/indexd/out/indexd, which ./indexd builds first where it has to. Needs GNU time.
+# place of the one that ./indexd runs, which is built first where it has to be. Needs GNU time.
 set -euo pipefail
 
 . "$(dirname -- "$(readlink -f -- "${BASH_SOURCE[0]}")")/program.sh"

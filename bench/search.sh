@@ -7,7 +7,7 @@
 # documents: the search and its ids. Beside them stands SQLite with FTS5 in memory, the total and the ten ids of the page by one statement each, where python3's sqlite3 has
 # FTS5; a dash stands where a class has no such statement. Behind the classes stand changes with a refresh after each, a deep page over several segments, and memory; and last
 # a `match` of 16,000 words, `terms` of 65,536 values, and 1,000,000 puts.
-# INDEXD_PROGRAM=FILE measures the executable FILE in place of crates/indexd/out/indexd, which ./indexd builds first where it has to. Needs Linux and python3.
+# INDEXD_PROGRAM=FILE measures the executable FILE in place of the one that ./indexd runs, which is built first where it has to be. Needs Linux and python3.
 set -euo pipefail
 
 . "$(dirname -- "$(readlink -f -- "${BASH_SOURCE[0]}")")/program.sh"

@@ -114,6 +114,19 @@ def opened(log):
     return str(records)
 
 
+def torn_at(log):
+    """The byte behind a log's header and whole frames, where more stands there or the header isn't whole; else None."""
+    if len(log) < 4:
+        return 0
+    at = 4
+    while len(log) - at >= 4:
+        end = at + 4 + int.from_bytes(log[at:at + 4], "little")
+        if end > len(log):
+            break
+        at = end
+    return None if at == len(log) else at
+
+
 def logs():
     """The log cut after each of its bytes, and with each of its bytes changed to every other value."""
     yield from (WHOLE[:size] for size in range(len(WHOLE) + 1))

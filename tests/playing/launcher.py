@@ -1,0 +1,96 @@
+"""./indexd: which program it runs, and what it says of a first build."""
+import os
+import re
+import shutil
+import subprocess
+import tempfile
+from pathlib import Path
+
+from checking import NAMED, ROOT, check, program
+from playing.program import FIRST_RUN, front_of, not_all_right, not_one_complaint, other_output, run, wanted_of
+
+
+def launcher():
+    if NAMED:
+        return
+    how = {"program": str(ROOT / "indexd"), "cwd": FIRST_RUN.parent}
+    with open(FIRST_RUN, "rb") as given:
+        check("./indexd and standard input", not_all_right(run(["replay", "-"], stdin=given, **how), wanted_of(FIRST_RUN)))
+    check("./indexd and a FILE of the folder it is called in", not_all_right(run(["replay", FIRST_RUN.name], **how), wanted_of(FIRST_RUN)))
+    check("./indexd and a status of 1", not_one_complaint(run(["replay", "missing.script"], **how)))
+    ran = run([], **how)
+    check("./indexd and a status of 2", "" if ran.returncode == 2 else f"got {ran.returncode}")
+    with tempfile.TemporaryDirectory() as folder:
+        tree = tree_without_sources(Path(folder))
+        released(tree)
+        first_build(tree)
+
+
+def tree_without_sources(folder):
+    """A tree with the files of a first build and a crate's folder for each crate; in place of the prover a program makes what FAILS doesn't name."""
+    tree, rt = folder / "tree", folder / "bin/rt"
+    shutil.copytree(ROOT / ".ci", tree / ".ci")
+    for name in ("indexd", "crates.txt", "HANDLES"):
+        shutil.copy2(ROOT / name, tree / name)
+    lines = [it.partition("#")[0].partition(":") for it in (tree / "crates.txt").read_text().splitlines()]
+    for name in [head.split()[0] for head, colon, _ in lines if colon]:
+        (tree / f"crates/{name}/src").mkdir(parents=True)
+        (tree / f"crates/{name}/src/lib.rt").write_text(f"// {name}\n")
+    rt.parent.mkdir()
+    rt.write_text("#!/bin/sh\n")
+    (tree / ".ci/prove").write_text(
+        "#!/bin/sh\necho what the prover says of $1\n[ \"$1\" != \"$FAILS\" ] || exit 3\nsleep \"${SLEEPS:-0}\"\n"
+        f"mkdir -p crates/$1/out\n[ \"$1\" != indexd ] || cp '{program()}' crates/$1/out/indexd\n"
+    )
+    for it in (rt, tree / ".ci/prove"):
+        it.chmod(0o755)
+    return tree
+
+
+def started(tree, *words, fails="", **how):
+    for it in tree.glob("crates/*/out"):
+        shutil.rmtree(it)
+    env = {**os.environ, "PATH": f"{tree.parent}/bin:{os.environ['PATH']}", "FAILS": fails}
+    return run([*words] or ["replay", FIRST_RUN], program=str(tree / "indexd"), env=env, **how)
+
+
+def released(tree):
+    """A released program of these sources is run at once, and one of others isn't."""
+    folder = tree / "release"
+    folder.mkdir()
+    (folder / "indexd").write_text("#!/bin/sh\necho released $*\n")
+    (folder / "indexd").chmod(0o755)
+    sources = subprocess.run([tree / ".ci/sources"], capture_output=True, text=True).stdout.strip()
+    (folder / "MADE").write_text(f"sources {sources}\nkit none\n")
+    ran = started(tree, "replay", "-")
+    check("a released program of these sources is run at once", "" if (ran.stdout, ran.stderr) == (b"released replay -\n", b"") else f"got {ran.stdout}, {ran.stderr}")
+    (tree / "crates/doc/src/lib.rt").write_text("// changed\n")
+    ran = started(tree)
+    check("a released program of other sources isn't run", other_output(ran.stdout, wanted_of(FIRST_RUN)))
+    ran = started(tree, "--build")
+    check("./indexd --build builds, and runs nothing", "" if ran.returncode == 0 and not ran.stdout and (tree / "crates/indexd/out/indexd").exists() else f"got {ran.returncode}, {ran.stdout}")
+    shutil.rmtree(folder)
+
+
+def first_build(tree):
+    """What ./indexd says of a first build."""
+    ran = started(tree)
+    said = ran.stderr.decode().splitlines()
+    why = other_output(ran.stdout, wanted_of(FIRST_RUN)) or (f"status {ran.returncode}, it said {said}" if ran.returncode else "")
+    is_told = len(said) == 2 and re.search(r"proved and built now; .* takes about \d+ minutes$", said[0]) and re.fullmatch(r"indexd: built after \d+\.\d minutes", said[1])
+    check("a first build says how long it will take, and when it is done", why or ("" if is_told else f"it said {said}"))
+
+    text = (tree / ".ci/build").read_text()
+    (tree / ".ci/build").write_text(text.replace("MINUTE = 60", "MINUTE = 0.3"))
+    os.environ["SLEEPS"] = "0.2"
+    said = started(tree).stderr.decode().splitlines()[1:-1]
+    del os.environ["SLEEPS"]
+    (tree / ".ci/build").write_text(text)
+    told = [re.fullmatch(r"indexd: (\d+) of (\d+) crates proved, after \d+\.\d minutes; about \d+ are left", it) for it in said]
+    counts = [int(it[1]) for it in told if it]
+    check("a first build says each minute how far it is", "" if len(told) > 3 and all(told) and counts == sorted(counts) else f"it said {said}")
+
+    ran = started(tree, fails="doc")
+    log = re.search(rb"doc ended with status 3; what was said stands in (\S+)\n$", ran.stderr)
+    is_told = ran.returncode == 3 and not ran.stdout and log and "what the prover says of doc" in Path(log[1].decode()).read_text()
+    check("a first build that fails names a file", "" if is_told else f"status {ran.returncode}, {front_of(ran.stderr)}")
