@@ -109,7 +109,7 @@ def bulk():
         got = server.ask(b"POST /books/_refresh HTTP/1.1\r\n\r\nGET /books/_count HTTP/1.1\r\n\r\n")
         check("its documents are counted", "" if got.endswith(b'"count":5000}') else shown(got))
     bulk_of(3_001, b'{"create":{"_id":"%d"}}\n{}\n', "create", 201)
-    bulk_of(40_000, b'{"delete":{"_id":"%d"}}\n', "delete", 404)
+    bulk_of(8_000, b'{"delete":{"_id":"%d"}}\n', "delete", 404)
 
 
 def bulk_of(count, line, action, status):
