@@ -5,7 +5,8 @@ import time
 from pathlib import Path
 
 from checking import Told, check, shown
-from serving.pages import bodies, page_names, put_of, puts, sources
+from serving.answered import bulk_of
+from serving.pages import bodies, page_names, promote_of, put_of, puts, sources
 from serving.recorded import Recorded, found_again, shims_of, unkept
 from serving.server import MOST_BAD_RUNS, SECONDS, Server, is_kept, scratch
 
@@ -24,6 +25,7 @@ def broken():
                 broken_master(shim, call)
             for copies in (1, 3):
                 short_writes(shim, copies)
+            unrefreshed(shim)
 
 
 def broken_in_turn(shim, call, copies):
@@ -98,6 +100,24 @@ def broken_copy(shim, call, number):
         check(f"{name}: a refresh is of the copies in sync", "" if refreshed.get("_shards") == {"failed": 0, "successful": 2, "total": 2} else repr(refreshed))
         check(f"{name}: documents are found", "" if all(found[at] == {"n": at} for at, it in enumerate(before + after) if "error" not in it) else repr(found))
         check(f"{name}: and found again", found_again(run, before + after))
+
+
+def unrefreshed(shim):
+    """No copy is open: a refresh is refused, and the page of a bulk tells so too."""
+    lines = b'{"index":{"_id":"2"}}\n{}\n'
+    with scratch() as top:
+        gate = Path(top, "gate")
+        run = Recorded(top, shim, FAIL_CALL="sync", FAIL_GATE=str(gate), FAIL_NAME=".rsx")
+        with run.server("--copies", 2) as server:
+            run.do(server, puts(0, 1))
+            gate.touch()
+            run.do(server, puts(1, 2))
+            # The copy that leads leaves, and the other can't keep the entry that makes it lead.
+            server.ask(promote_of(b"2"))
+            got = bodies(server.ask(b"POST /books/_refresh HTTP/1.1\r\n\r\n" + bulk_of(lines, b"true") + bulk_of(lines, b"false")))
+        closed = {"reason": "Closed", "type": "unavailable"}
+        check("a refresh of no copy is refused", "" if got[0] == {"error": closed, "status": 503} else repr(got[0]))
+        check("and told behind a bulk", "" if [it.get("refresh") for it in got[1:]] == [closed, None] else repr(got[1:]))
 
 
 def broken_primary(shim, call):

@@ -1,9 +1,12 @@
-"""Clients as users have them: the example of a shell, and the connection class of Debian's python3-elasticsearch."""
+"""Clients as users have them: the example of a shell, and the classes of Debian's python3-elasticsearch."""
 import os
 import shutil
 import subprocess
+import tempfile
+from pathlib import Path
 
 from checking import ROOT, check, program
+from serving.pages import page_names
 from serving.server import SECONDS, Server, free_port, other
 
 

@@ -51,6 +51,25 @@ def page_of(pages):
     return json.loads(pages.read(length_in(head)))
 
 
+class Client:
+    """A connection that is kept, over which one request follows another's page."""
+
+    def __init__(self, server):
+        self.connection = server.connect()
+        self.connection.setsockopt(socket.IPPROTO_TCP, socket.TCP_NODELAY, 1)
+        self.pages = self.connection.makefile("rb")
+
+    def __enter__(self):
+        return self
+
+    def __exit__(self, *_):
+        self.pages.close()
+        self.connection.close()
+
+    def ask(self, request):
+        return asked(self.connection, self.pages, request)
+
+
 def asked(connection, pages, request):
     connection.sendall(request)
     return page_of(pages)

@@ -123,7 +123,8 @@ def routes_of_a_mapping():
 # A request, its status and the name of its fault ("" where there is none).
 HOSTILE = [
     (b"GET * HTTP/1.1\r\n\r\n", 404, "NoRoute"),
-    (b"GET http://x/books/_search HTTP/1.1\r\n\r\n", 404, "NoRoute"),
+    (b"GET https://x/books/_search HTTP/1.1\r\n\r\n", 404, "NoRoute"),
+    (b"GET http://x HTTP/1.1\r\n\r\n", 404, "NoRoute"),
     (b"GET / HTTP/1.1\r\n\r\n", 404, "NoRoute"),
     (b"GET /books/_doc HTTP/1.1\r\n\r\n", 404, "NoRoute"),
     (b"GET /books/_doc/1/ HTTP/1.1\r\n\r\n", 404, "NoRoute"),
@@ -170,7 +171,7 @@ def hostile():
     after = b"GET /books/_count HTTP/1.1\r\n\r\n"
     with Server() as server:
         for given, status, name in HOSTILE:
-            ends = name in ("BadHead", "TransferCoding", "BodyTooLarge")
+            ends = name in ("BadHead", "TransferCoding", "BodyTooLarge") or given.startswith(b"HEAD ")
             got, wanted = server.ask(given + after), [(status, name)] if ends else [(status, name), (200, "")]
             try:
                 why = "" if page_names(got) == wanted else f"{page_names(got)}, and wanted is {wanted}"

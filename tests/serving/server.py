@@ -31,11 +31,13 @@ def free_port():
 class Server:
     """A server of a new index, killed at the end where it hasn't ended."""
 
-    def __init__(self, *words, index="books", env=None, pass_fds=(), greatest_file=None, errors=subprocess.PIPE):
+    def __init__(self, *words, index="books", env=None, pass_fds=(), greatest_file=None, most_files=None, errors=subprocess.PIPE):
         self.port = free_port()
         # (what a search finds is then the same, however long a test takes)
         words = words if "--refresh-ms" in words else ("--refresh-ms", 0, *words)
         words = [program(), "serve", "--port", str(self.port), "--index", index, *map(str, words)]
+        if most_files is not None:
+            words = ["sh", "-c", f'ulimit -n {most_files} && exec "$@"', "sh", *words]
         self.process = subprocess.Popen(
             words, stdin=subprocess.DEVNULL, stdout=subprocess.PIPE, stderr=errors, env=env, pass_fds=pass_fds,
             restore_signals=greatest_file is None)  # Python ignores SIGXFSZ, and a server that is to meet a full file inherits that.
@@ -54,6 +56,11 @@ class Server:
     def __exit__(self, *_):
         self.process.kill()
         self.process.communicate()
+
+    def errors_said(self):
+        """Ends the server, and gives the lines that it said on standard error."""
+        self.process.kill()
+        return self.process.communicate()[1].decode(errors="replace").splitlines()
 
     def limit_files(self, length):
         resource.prlimit(self.process.pid, resource.RLIMIT_FSIZE, (length, resource.RLIM_INFINITY))

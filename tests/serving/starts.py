@@ -16,6 +16,7 @@ def starts():
     for words in ([], ["--port", "0"], ["--port", "65536"], ["--port", "x"], ["--port", "1", "--connections", "0"], ["--port", "1", "--copies", "0"],
                   ["--port", "1", "--copies", "6"], ["--port", "1", "--refresh-ms", "x"], ["--port", "1", "again"]):
         complains(f"serve {' '.join(words)}", ran(*words), 2)
+    bounds_of_options()
     with socket.socket() as taken, tempfile.TemporaryDirectory() as folder:
         taken.bind(("127.0.0.1", 0))
         taken.listen()
@@ -31,6 +32,19 @@ def starts():
     for name in ("a", "a" * 255, "bücher", "a.b-c_d+e"):
         with Server(index=name) as server:
             check(f"index name {name[:9]!r} is taken", "" if server.listens else shown(server.said))
+
+
+def bounds_of_options():
+    """Numbers of options outside of their bounds are refused with both; those at them are taken."""
+    for name, least, most in (("--refresh-ms", 0, 3_600_000), ("--threads", 1, 64), ("--idle-s", 1, 3_600), ("--request-mb", 4, 4_096)):
+        for number in (least - 1, most + 1, "", "x"):
+            got = ran("--port", "1", f"{name}={number}")
+            complains(f"serve {name}={number}", got, 2, name)
+            if number == most + 1:
+                complains(f"the bounds of {name}", got, 2, f"{least}..={most}")
+        for number in (least, most):
+            with Server(name, number) as server:
+                check(f"serve {name} {number}", "" if server.listens else shown(server.process.stderr.read()))
 
 
 def opening():

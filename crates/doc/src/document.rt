@@ -1,7 +1,7 @@
 //! Documents.
 ghost use Rattle.std.specs.Prelude.{◌≡◌, ◌++◌, ◌∷◌, ◌==◌, IfOk, OnOk, IfErr, IfSome, IsErr, option_map, [], Ok, string_bytes};
 ghost use Rattle.serde_json.specs.View.{view, members_view, items_view};
-ghost use Rattle.doc.specs.Outcome.{Gives, some_list};
+ghost use Rattle.doc.specs.Outcome.{Gives, behind, some_list};
 ghost use Rattle.doc.specs.Fields.{subject_at};
 ghost use Rattle.doc.specs.Mapping.{within};
 ghost use Rattle.doc.specs.Entries.{elements};
@@ -116,7 +116,7 @@ fn json_of(alloc: Global, text: &str) -> Result<Value, DocFault>
     }
 }
 
-#[tactic(auto, unfolding(crate::specs::Document::fields_of))]
+#[tactic(auto, unfolding(crate::specs::Document::fields_of), using(crate::proofs::Fronts::behind_nothing))]
 fn fields_of(
     alloc: Global,
     mapping: &Mapping,
@@ -126,10 +126,12 @@ fn fields_of(
         (spec.fields_of mapping.now (members_view members.now.entries)) }
 {
     let mut path = String::new(alloc);
-    members_from(alloc, mapping, MAX_LEVELS, &mut path, members)
+    let mut found = Vec::new(alloc);
+    members_from(alloc, mapping, MAX_LEVELS, &mut path, &mut found, members)?;
+    Ok(found)
 }
 
-/// What the members of an object give, where so many levels are left; `path` stands in front of their keys, and is the same at the end.
+/// Puts what the members of an object give behind what was found, where so many levels are left; `path` stands in front of their keys, and is the same at the end.
 #[cycle(walk)]
 #[tactic(auto, unfolding(crate::specs::Document::members_from))]
 fn members_from(
@@ -137,17 +139,18 @@ fn members_from(
     mapping: &Mapping,
     room: usize,
     path: &mut String,
+    found: &mut Vec<FieldValues>,
     members: &Map<String, Value>,
-) -> Result<Vec<FieldValues>, DocFault>
-    ensures gives { Gives fault_of (λ v. values_view v.items) result
-        (spec.members_from mapping.now room (string_bytes path.old) (members_view members.now.entries)) }
+) -> Result<(), DocFault>
+    ensures gives { Gives fault_of (λ u. values_view found.new.items) result
+        (behind (values_view found.old.items) (spec.members_from mapping.now room (string_bytes path.old) (members_view members.now.entries))) }
     ensures path { OnOk result (string_bytes path.new ≡ string_bytes path.old) }
 {
     if room == 0 {
         return Err(DocFault::TooDeep);
     }
     let room = room - 1;
-    places_in(alloc, mapping, room, path, members)
+    places_in(alloc, mapping, room, path, found, members)
 }
 
 /// The same, where so many levels are left below.
@@ -157,21 +160,20 @@ fn places_in(
     mapping: &Mapping,
     room: usize,
     path: &mut String,
+    found: &mut Vec<FieldValues>,
     members: &Map<String, Value>,
-) -> Result<Vec<FieldValues>, DocFault>
-    ensures gives { Gives fault_of (λ v. values_view v.items) result
-        (spec.places_in (spec.members_from mapping.now room) mapping.now (room == 0) (string_bytes path.old) (members_view members.now.entries)) }
+) -> Result<(), DocFault>
+    ensures gives { Gives fault_of (λ u. values_view found.new.items) result
+        (behind (values_view found.old.items) (spec.places_in (spec.members_from mapping.now room) mapping.now (room == 0) (string_bytes path.old) (members_view members.now.entries))) }
     ensures path { OnOk result (string_bytes path.new ≡ string_bytes path.old) }
 {
-    let mut found = Vec::new(alloc);
     for (key, value) in members {
-        let mut given = place_of(alloc, mapping, room, path, key, value)?;
-        found.append(&mut given)?;
+        place_of(alloc, mapping, room, path, found, key, value)?;
     }
-    Ok(found)
+    Ok(())
 }
 
-/// What the value of a key gives.
+/// Puts what the value of a key gives behind what was found.
 #[cycle(walk)]
 #[tactic(auto, unfolding(crate::specs::Document::place_of))]
 fn place_of(
@@ -179,11 +181,12 @@ fn place_of(
     mapping: &Mapping,
     room: usize,
     path: &mut String,
+    found: &mut Vec<FieldValues>,
     key: &String,
     value: &Value,
-) -> Result<Vec<FieldValues>, DocFault>
-    ensures gives { Gives fault_of (λ v. values_view v.items) result
-        (spec.place_of (spec.members_from mapping.now room) mapping.now (room == 0) (string_bytes path.old) (string_bytes key.now, view value.now)) }
+) -> Result<(), DocFault>
+    ensures gives { Gives fault_of (λ u. values_view found.new.items) result
+        (behind (values_view found.old.items) (spec.place_of (spec.members_from mapping.now room) mapping.now (room == 0) (string_bytes path.old) (string_bytes key.now, view value.now))) }
     ensures path { OnOk result (string_bytes path.new ≡ string_bytes path.old) }
 {
     if room == 0 && has_object(value) {
@@ -191,119 +194,121 @@ fn place_of(
     }
     let len = path.as_str().len();
     path.push_str(key.as_str())?;
-    let given = given_by(alloc, mapping, room, path, value)?;
+    given_by(alloc, mapping, room, path, found, value)?;
     path.truncate(len);
-    Ok(given)
+    Ok(())
 }
 
-/// What the value at a path gives.
+/// The same of the value at a path.
 #[cycle(walk)]
 fn given_by(
     alloc: Global,
     mapping: &Mapping,
     room: usize,
     path: &mut String,
+    found: &mut Vec<FieldValues>,
     value: &Value,
-) -> Result<Vec<FieldValues>, DocFault>
-    ensures gives { Gives fault_of (λ v. values_view v.items) result
-        (spec.given_by (spec.members_from mapping.now room) mapping.now.strict (string_bytes path.old) (subject_at (string_bytes path.old) mapping.now.fields) (view value.now)) }
+) -> Result<(), DocFault>
+    ensures gives { Gives fault_of (λ u. values_view found.new.items) result
+        (behind (values_view found.old.items) (spec.given_by (spec.members_from mapping.now room) mapping.now.strict (string_bytes path.old) (subject_at (string_bytes path.old) mapping.now.fields) (view value.now))) }
     ensures path { OnOk result (string_bytes path.new ≡ string_bytes path.old) }
 {
     match mapping.subject(path.as_str()) {
-        Some(Subject::Values(kind)) => one_field(alloc, path.as_str(), kind, value),
-        Some(Subject::Object) => in_parts(alloc, mapping, room, path, false, value),
+        Some(Subject::Values(kind)) => one_field(alloc, path.as_str(), found, kind, value),
+        Some(Subject::Object) => in_parts(alloc, mapping, room, path, found, false, value),
         None => {
             if mapping.strict() {
                 return Err(unmapped(alloc, path.as_str()));
             }
-            in_parts(alloc, mapping, room, path, true, value)
+            in_parts(alloc, mapping, room, path, found, true, value)
         }
     }
 }
 
-/// What the parts of a value give, at the path of an object, or at one that isn't mapped, where plain values are passed over.
+/// The same of the parts of a value, at the path of an object, or at one that isn't mapped, where plain values are passed over.
 #[cycle(walk)]
 fn in_parts(
     alloc: Global,
     mapping: &Mapping,
     room: usize,
     path: &mut String,
+    found: &mut Vec<FieldValues>,
     lenient: bool,
     value: &Value,
-) -> Result<Vec<FieldValues>, DocFault>
-    ensures gives { Gives fault_of (λ v. values_view v.items) result
-        (spec.in_parts (spec.members_from mapping.now room) lenient (string_bytes path.old) (view value.now)) }
+) -> Result<(), DocFault>
+    ensures gives { Gives fault_of (λ u. values_view found.new.items) result
+        (behind (values_view found.old.items) (spec.in_parts (spec.members_from mapping.now room) lenient (string_bytes path.old) (view value.now))) }
     ensures path { OnOk result (string_bytes path.new ≡ string_bytes path.old) }
 {
-    let mut found = Vec::new(alloc);
     for part in parts(value) {
-        let mut given = in_part(alloc, mapping, room, path, lenient, part)?;
-        found.append(&mut given)?;
+        in_part(alloc, mapping, room, path, found, lenient, part)?;
     }
-    Ok(found)
+    Ok(())
 }
 
-/// What one of them gives.
+/// The same of one of them.
 #[cycle(walk)]
 fn in_part(
     alloc: Global,
     mapping: &Mapping,
     room: usize,
     path: &mut String,
+    found: &mut Vec<FieldValues>,
     lenient: bool,
     value: &Value,
-) -> Result<Vec<FieldValues>, DocFault>
-    ensures gives { Gives fault_of (λ v. values_view v.items) result
-        (spec.in_part (spec.members_from mapping.now room) lenient (string_bytes path.old) (view value.now)) }
+) -> Result<(), DocFault>
+    ensures gives { Gives fault_of (λ u. values_view found.new.items) result
+        (behind (values_view found.old.items) (spec.in_part (spec.members_from mapping.now room) lenient (string_bytes path.old) (view value.now))) }
     ensures path { OnOk result (string_bytes path.new ≡ string_bytes path.old) }
 {
     match value {
-        Value::Null => Ok(Vec::new(alloc)),
-        Value::Object(members) => inside(alloc, mapping, room, path, members),
+        Value::Null => Ok(()),
+        Value::Object(members) => inside(alloc, mapping, room, path, found, members),
         Value::Array(_) => Err(wrong_value(alloc, path.as_str())),
         _ => if lenient {
-            Ok(Vec::new(alloc))
+            Ok(())
         } else {
             Err(wrong_value(alloc, path.as_str()))
         },
     }
 }
 
-/// What the members of the object at a path give.
+/// The same of the members of the object at a path.
 #[cycle(walk)]
 fn inside(
     alloc: Global,
     mapping: &Mapping,
     room: usize,
     path: &mut String,
+    found: &mut Vec<FieldValues>,
     members: &Map<String, Value>,
-) -> Result<Vec<FieldValues>, DocFault>
-    ensures gives { Gives fault_of (λ v. values_view v.items) result
-        (spec.members_from mapping.now room (within (string_bytes path.old)) (members_view members.now.entries)) }
+) -> Result<(), DocFault>
+    ensures gives { Gives fault_of (λ u. values_view found.new.items) result
+        (behind (values_view found.old.items) (spec.members_from mapping.now room (within (string_bytes path.old)) (members_view members.now.entries))) }
     ensures path { OnOk result (string_bytes path.new ≡ string_bytes path.old) }
 {
     let len = path.as_str().len();
     path.push_str(".")?;
-    let given = members_from(alloc, mapping, room, path, members)?;
+    members_from(alloc, mapping, room, path, found, members)?;
     path.truncate(len);
-    Ok(given)
+    Ok(())
 }
 
-/// The one field at a path, with its values.
+/// Puts the one field at a path, with its values, behind what was found.
 fn one_field(
     alloc: Global,
     path: &str,
+    found: &mut Vec<FieldValues>,
     kind: Kind,
     value: &Value,
-) -> Result<Vec<FieldValues>, DocFault>
-    ensures { Gives fault_of (λ v. values_view v.items) result
-        (spec.field_or path.now kind (view value.now)) }
+) -> Result<(), DocFault>
+    ensures { Gives fault_of (λ u. values_view found.new.items) result
+        (behind (values_view found.old.items) (spec.field_or path.now kind (view value.now))) }
 {
     let values = values_of(alloc, path, kind, value)?;
     let name = String::from_str(alloc, path)?;
-    let mut fields = Vec::new(alloc);
-    fields.push(FieldValues { name, values })?;
-    Ok(fields)
+    found.push(FieldValues { name, values })?;
+    Ok(())
 }
 
 /// Whether an object stands there, or in the array there.

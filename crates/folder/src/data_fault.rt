@@ -1,5 +1,6 @@
 //! Why the folder that an index is kept in can't be served.
 
+use crate::mapping_file::MappingFault;
 use replica::CopyFault;
 use std::alloc::{AllocError, AllocFailed};
 use std::fmt::Display;
@@ -76,5 +77,15 @@ impl From<AllocError> for DataFault {
 impl<T: Drop> From<AllocFailed<T>> for DataFault {
     fn from(_refused: AllocFailed<T>) -> DataFault {
         DataFault::NoMemory
+    }
+}
+
+impl From<MappingFault> for DataFault {
+    fn from(fault: MappingFault) -> DataFault {
+        match fault {
+            MappingFault::NotJson(error) => DataFault::NotJson(error),
+            MappingFault::Mapping(fault) => DataFault::Mapping(fault),
+            MappingFault::NoMemory => DataFault::NoMemory,
+        }
     }
 }

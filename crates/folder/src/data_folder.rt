@@ -3,11 +3,11 @@ ghost use Rattle.std.specs.Prelude.{All, IfOk};
 ghost use Rattle.op.specs.Records.{IsRecord};
 
 use crate::data_fault::{DataFault, Difference};
+use crate::mapping_file::MappingFile;
 use doc::{DocFault, Mapping};
 use master::Master;
 use op::Record;
 use replica::{Birth, Copy, CopyFault};
-use serde_json::Value;
 use std::alloc::{AllocError, Global};
 use std::fs;
 use std::fs::{File, OpenFile, OpenOptions, TryLockError};
@@ -32,13 +32,6 @@ const HEADER: usize = 4;
 
 /// How many copies a new index has at most.
 const MOST_COPIES: u32 = 5;
-
-/// The mapping that was handed in: its text, and what that is as JSON.
-#[derive(Drop)]
-pub struct MappingFile {
-    pub text: String,
-    pub value: Value,
-}
 
 /// The one copy of an index in a folder, and its master, as their logs have them. No other process serves it while this is held.
 #[derive(Drop)]
@@ -104,8 +97,8 @@ pub fn read_index<R: Files<File = File> + AllocGlobal>(
         return Err(DataFault::NoIndex);
     }
     let lock = folder.lock()?;
-    let text = folder.text(MAPPING)?;
-    let mapping = mapping_of(rt.alloc(), text.as_str())?;
+    let MappingFile { text, value } = folder.mapping_file()?;
+    let mapping = Mapping::from_value(rt.alloc(), &value).map_err(refused)?;
     match folder.records() {
         Ok(records) => Ok(KeptRecords {
             text,
@@ -189,7 +182,7 @@ impl<'a, R: Files<File = File> + AllocGlobal> Folder<'a, R> {
         let alloc = self.rt.alloc();
         let Some(given) = given else {
             self.keep_mapping("{}\n")?;
-            return mapping_of(alloc, "{}");
+            return self.kept_mapping(None);
         };
         let mapping = Mapping::from_value(alloc, &given.value).map_err(refused)?;
         self.keep_mapping(given.text.as_str())?;
@@ -197,15 +190,21 @@ impl<'a, R: Files<File = File> + AllocGlobal> Folder<'a, R> {
     }
 
     fn kept_mapping(&self, given: Option<&MappingFile>) -> Result<Mapping, DataFault> {
-        let text = self.text(MAPPING)?;
-        let value = value_of(self.rt.alloc(), text.as_str())?;
+        let alloc = self.rt.alloc();
+        let kept = self.mapping_file()?;
         if let Some(given) = given {
-            if given.value != value {
-                let difference = difference(self.rt.alloc(), text.as_str(), given.text.as_str())?;
+            if given.value != kept.value {
+                let difference = difference(alloc, kept.text.as_str(), given.text.as_str())?;
                 return Err(DataFault::OtherMapping(difference));
             }
         }
-        Mapping::from_value(self.rt.alloc(), &value).map_err(refused)
+        Mapping::from_value(alloc, &kept.value).map_err(refused)
+    }
+
+    /// The mapping that is kept.
+    fn mapping_file(&self) -> Result<MappingFile, DataFault> {
+        let text = self.text(MAPPING)?;
+        Ok(MappingFile::read(self.rt.alloc(), text)?)
     }
 
     fn text(&self, name: &'static str) -> Result<String, DataFault> {
@@ -416,22 +415,6 @@ fn write_synced<R: Files<File = File>>(rt: &R, path: &str, text: &str) -> std::i
     let mut file = fs::create(rt, path)?;
     file.write_all(text.as_bytes())?;
     file.sync_all()
-}
-
-fn value_of(alloc: Global, text: &str) -> Result<Value, DataFault> {
-    match Value::from_str(alloc, text) {
-        Ok(value) => Ok(value),
-        Err(error) => if error.is_memory() {
-            Err(DataFault::NoMemory)
-        } else {
-            Err(DataFault::NotJson(error))
-        },
-    }
-}
-
-fn mapping_of(alloc: Global, text: &str) -> Result<Mapping, DataFault> {
-    let value = value_of(alloc, text)?;
-    Mapping::from_value(alloc, &value).map_err(refused)
 }
 
 fn refused(fault: DocFault) -> DataFault {

@@ -2,6 +2,7 @@
 
 use crate::data_fault::DataFault;
 use crate::data_folder::{KeptRecords, read_index};
+use crate::parts::{Parts, write_parts};
 use engine::Engine;
 use op::{Body, Op};
 use serde_json::Value;
@@ -18,6 +19,8 @@ pub struct Dumped<'a> {
     pub data: &'a str,
     /// The mapping, and no documents.
     pub mapping: bool,
+    /// The files that the documents are written to; with none it is the output.
+    pub parts: Option<Parts<'a>>,
 }
 
 /// Why a folder isn't written, or not all of it.
@@ -25,6 +28,12 @@ pub struct Dumped<'a> {
 pub enum DumpFault {
     Data(DataFault),
     Output(io::Error),
+    /// The folder of the parts, and why it can't be made or read.
+    Folder(String, io::Error),
+    /// The folder of the parts, and a name in it.
+    NotEmpty(String, String),
+    /// A part, and why it can't be written.
+    Part(String, io::Error),
     NoMemory,
 }
 
@@ -33,6 +42,12 @@ impl Display for DumpFault {
         match self {
             DumpFault::Data(fault) => write!(f, "the data folder: {fault}"),
             DumpFault::Output(error) => write!(f, "the output can't be written: {error}"),
+            DumpFault::Folder(folder, error) => write!(f, "{folder} can't be made: {error}"),
+            DumpFault::NotEmpty(folder, name) => write!(
+                f,
+                "{folder} isn't empty: it has {name}; give a new folder by --to"
+            ),
+            DumpFault::Part(part, error) => write!(f, "{part} can't be written: {error}"),
             DumpFault::NoMemory => write!(f, "out of memory"),
         }
     }
@@ -46,7 +61,11 @@ impl From<AllocError> for DumpFault {
 
 impl From<io::Error> for DumpFault {
     fn from(error: io::Error) -> DumpFault {
-        DumpFault::Output(error)
+        if error.kind() == io::ErrorKind::OutOfMemory {
+            DumpFault::NoMemory
+        } else {
+            DumpFault::Output(error)
+        }
     }
 }
 
@@ -60,10 +79,12 @@ impl From<DataFault> for DumpFault {
 }
 
 /// Writes the mapping of a folder's index, or its documents as the lines of a bulk, in the order in which they were last written. The folder stays as it is.
-pub fn dump<R: Files<File = File> + AllocGlobal, O: Write>(
+/// A document that a part hasn't room for is told on `errors`.
+pub fn dump<R: Files<File = File> + AllocGlobal + Clone + Drop, O: Write, E: Write>(
     rt: &R,
     dumped: Dumped<'_>,
     output: &mut O,
+    errors: &mut E,
 ) -> Result<(), DumpFault> {
     let KeptRecords {
         text,
@@ -75,7 +96,10 @@ pub fn dump<R: Files<File = File> + AllocGlobal, O: Write>(
         write_line(output, text.as_str())?;
     } else {
         let engine = Engine::open(rt.alloc(), mapping, records)?;
-        write_documents(rt.alloc(), &engine, output)?;
+        match dumped.parts {
+            Some(parts) => write_parts(rt, &engine, parts, errors)?,
+            None => write_documents(rt.alloc(), &engine, output)?,
+        }
     }
     output.flush()?;
     drop(lock);
@@ -94,7 +118,7 @@ fn write_documents<O: Write>(
 }
 
 /// Writes the document of an operation, where no later one is on its id.
-fn write_operation<O: Write>(
+pub(crate) fn write_operation<O: Write>(
     alloc: Global,
     engine: &Engine,
     op: &Op,

@@ -1,6 +1,6 @@
 //! Journals as files of a folder.
 
-use crate::data_folder::MappingFile;
+use crate::mapping_file::MappingFile;
 use journal::Journal;
 use journals::{HeadFault, write};
 use serde_json::Value;

@@ -7,13 +7,17 @@ mod data_folder;
 mod dumping;
 mod inspecting;
 mod journal_folder;
+mod mapping_file;
 mod model_answer;
+mod parts;
 mod verdict;
 
 pub use auditing::{AuditingFault, judge_folder};
 pub use data_fault::{DataFault, Difference};
-pub use data_folder::{KeptCopy, KeptFolder, MappingFile, open_copy, open_folder};
+pub use data_folder::{KeptCopy, KeptFolder, open_copy, open_folder};
 pub use dumping::{DumpFault, Dumped, dump};
 pub use inspecting::{InspectFault, inspect};
 pub use journal_folder::{KeepFault, keep_journals};
+pub use mapping_file::{MappingFault, MappingFile};
+pub use parts::Parts;
 pub use verdict::{VerdictFault, judge};

@@ -1,11 +1,13 @@
 -- Items that are done one after another.
-use Rattle.std.proofs.Common.{◌≡◌, ℕ, Bool, List, [], ◌∷◌, ◌++◌, map, Option, Some, None, IfSome, is_none, false, Result, Ok, Err, refl, sym, ap, ◌∙◌, append_assoc, suc, ◌+◌, ◌<◌, length, get_or, take, drop, take-append-drop, drop-cons}
+use Rattle.std.proofs.Common.{◌≡◌, ℕ, Bool, true, ◌&&◌, ◌||◌, is_ok, List, [], ◌∷◌, ◌++◌, map, Option, Some, None, IfSome, is_none, false, Result, Ok, Err, refl, sym, ap, ◌∙◌, append_assoc, suc, ◌+◌, ◌<◌, length, get_or, take, drop, take-append-drop, drop-cons}
+use Rattle.std.proofs.Math.Seq.{take-append_seam, drop-append_seam}
 use Rattle.std.proofs.lemmas.List.{map-append, take_more}
 use Rattle.doc.specs.Mapping.{MappingData}
 use Rattle.front.specs.declared.command.Write.{Write}
+use Rattle.front.specs.declared.reply.Refusal.{Refusal}
 use Rattle.front.specs.Item.{Item}
-use Rattle.front.specs.Bulk.{item_write, item_commands, fault_text, reply_text, text_then, bulk_commands, bulk_texts, ItemDone, ItemsDone, BegunOf, BulkDone}
-use Rattle.front.specs.Command.{Command, write}
+use Rattle.front.specs.Bulk.{item_write, item_commands, fault_text, reply_text, text_then, refreshing, is_any, writes_of, bulk_commands, bulk_texts, refusal_in, bulk_refusal, ItemDone, ItemsDone, BegunOf, WritesDone, RefreshDone, BulkDone}
+use Rattle.front.specs.Command.{Command, write, refresh}
 use Rattle.front.specs.Fault.{Fault}
 use Rattle.front.specs.Reply.{Reply}
 use Rattle.front.specs.Calls.{Calls}
@@ -49,33 +51,33 @@ module _ {S : Type 0} (answers : S → Command → Reply → S → Type 0) where
   then_text i (Ok w) (r ∷ []) qs more one s t h e = cc
   then_text i (Ok w) (r ∷ q ∷ rs) qs more one s t h e = absurd (h.2)
 
-  pub items_called : (served : List ℕ) (mapping : MappingData) (refresh : Bool) (s t : S) (items : List Item) (texts : List (Bool × List ℕ))
-      → ItemsDone answers (item_write served mapping refresh) s items texts t → BulkDone answers served mapping refresh items s texts t
-  items_called served mapping refresh s t [] texts h = record { replies = []; called = h.0; same = h.1 }
-  items_called served mapping refresh s t (i ∷ items) texts h =
-      let others = items_called served mapping refresh h.0 t items h.2 h.4 in
-      let w = item_write served mapping refresh i in
+  pub items_called : (served : List ℕ) (mapping : MappingData) (s t : S) (items : List Item) (texts : List (Bool × List ℕ))
+      → ItemsDone answers (item_write served mapping) s items texts t → WritesDone answers served mapping items s texts t
+  items_called served mapping s t [] texts h = record { replies = []; called = h.0; same = h.1 }
+  items_called served mapping s t (i ∷ items) texts h =
+      let others = items_called served mapping h.0 t items h.2 h.4 in
+      let w = item_write served mapping i in
       record {
         replies = h.3.replies ++ others.replies;
-        called = calls_join s h.0 t (item_commands w) (bulk_commands served mapping refresh items) h.3.replies others.replies h.3.called others.called;
-        same = h.5 ∙ ap (λ x. h.1 ∷ x) others.same ∙ sym (then_text i w h.3.replies others.replies (bulk_texts served mapping refresh items) h.1 s h.0 h.3.called h.3.text);
+        called = calls_join s h.0 t (item_commands w) (writes_of served mapping items) h.3.replies others.replies h.3.called others.called;
+        same = h.5 ∙ ap (λ x. h.1 ∷ x) others.same ∙ sym (then_text i w h.3.replies others.replies (bulk_texts served mapping items) h.1 s h.0 h.3.called h.3.text);
       }
 
-  pub items_begun : (served : List ℕ) (mapping : MappingData) (refresh : Bool) (s m t : S) (items : List Item) (i : Item) (rest : List Item) (texts : List (Bool × List ℕ))
-      → ItemsDone answers (item_write served mapping refresh) s items texts m → BegunOf answers (item_commands (item_write served mapping refresh i)) m t
-      → BegunOf answers (bulk_commands served mapping refresh (items ++ i ∷ rest)) s t
-  items_begun served mapping refresh s m t [] i rest texts h b =
+  pub items_begun : (served : List ℕ) (mapping : MappingData) (s m t : S) (items : List Item) (i : Item) (rest : List Item) (texts : List (Bool × List ℕ))
+      → ItemsDone answers (item_write served mapping) s items texts m → BegunOf answers (item_commands (item_write served mapping i)) m t
+      → BegunOf answers (writes_of served mapping (items ++ i ∷ rest)) s t
+  items_begun served mapping s m t [] i rest texts h b =
       let c : Calls answers s b.done b.replies t = rw h.0 at b.called in
       record {
         done = b.done;
-        left = b.left ++ bulk_commands served mapping refresh rest;
-        split = ap (λ l. l ++ bulk_commands served mapping refresh rest) b.split ∙ append_assoc b.done b.left (bulk_commands served mapping refresh rest);
+        left = b.left ++ writes_of served mapping rest;
+        split = ap (λ l. l ++ writes_of served mapping rest) b.split ∙ append_assoc b.done b.left (writes_of served mapping rest);
         replies = b.replies;
         called = c;
       }
-  items_begun served mapping refresh s m t (j ∷ items) i rest texts h b =
-      let others = items_begun served mapping refresh h.0 m t items i rest h.2 h.4 b in
-      let front = item_commands (item_write served mapping refresh j) in
+  items_begun served mapping s m t (j ∷ items) i rest texts h b =
+      let others = items_begun served mapping h.0 m t items i rest h.2 h.4 b in
+      let front = item_commands (item_write served mapping j) in
       record {
         done = front ++ others.done;
         left = others.left;
@@ -83,6 +85,56 @@ module _ {S : Type 0} (answers : S → Command → Reply → S → Type 0) where
         replies = h.3.replies ++ others.replies;
         called = calls_join s h.0 t front others.done h.3.replies others.replies h.3.called others.called;
       }
+
+  same_length : (s t : S) (cs : List Command) (rs : List Reply) → Calls answers s cs rs t → length rs ≡ length cs
+  same_length s t [] [] h = refl
+  same_length s t [] (r ∷ rs) h = absurd h
+  same_length s t (c ∷ cs) [] h = absurd h
+  same_length s t (c ∷ cs) (r ∷ rs) h = ap suc (same_length h.0 t cs rs h.2)
+
+  -- the writes, and then the refresh
+  pub bulk_done : (served : List ℕ) (mapping : MappingData) (wanted any now : Bool) (s m t : S) (items : List Item) (texts : List (Bool × List ℕ)) (refusal : Option Refusal)
+      → WritesDone answers served mapping items s texts m → any ≡ is_any (writes_of served mapping items) → now ≡ (wanted && any) → RefreshDone answers now m refusal t
+      → BulkDone answers served mapping wanted items s texts refusal t
+  bulk_done served mapping wanted any now s m t items texts refusal w e k r =
+      let writes = writes_of served mapping items in
+      let long = sym (same_length s m writes w.replies w.called) in
+      let called : Calls answers m (refreshing (wanted && is_any writes)) r.replies t = rw (k, e) at r.called in
+      record {
+        replies = w.replies ++ r.replies;
+        called = calls_join s m t writes (refreshing (wanted && is_any writes)) w.replies r.replies w.called called;
+        texts_are = w.same ∙ ap (bulk_texts served mapping items) (sym (ap (λ n. take n (w.replies ++ r.replies)) long ∙ take-append_seam w.replies r.replies));
+        refusal_is = r.same ∙ ap bulk_refusal (sym (ap (λ n. drop n (w.replies ++ r.replies)) long ∙ drop-append_seam w.replies r.replies));
+      }
+
+  pub bulk_begun : (served : List ℕ) (mapping : MappingData) (wanted : Bool) (s t : S) (items : List Item)
+      → BegunOf answers (writes_of served mapping items) s t → BegunOf answers (bulk_commands served mapping wanted items) s t
+  bulk_begun served mapping wanted s t items b =
+      let more = refreshing (wanted && is_any (writes_of served mapping items)) in
+      record {
+        done = b.done;
+        left = b.left ++ more;
+        split = ap (λ l. l ++ more) b.split ∙ append_assoc b.done b.left more;
+        replies = b.replies;
+        called = b.called;
+      }
+
+pub refresh_done : {S : Type 0} (answers : S → Command → Reply → S → Type 0) (wanted : Bool) (r : Reply) (s t : S) → wanted ≡ true → answers s refresh r t → RefreshDone answers wanted s (refusal_in r) t
+refresh_done answers wanted r s t e h = rw e (record { replies = r ∷ []; called = (t, h, refl); same = refl })
+
+-- whether items have a write, and one more
+pub any_more : (served : List ℕ) (mapping : MappingData) (items : List Item) (i : Item)
+    → is_any (writes_of served mapping (items ++ i ∷ [])) ≡ (is_any (writes_of served mapping items) || is_ok (item_write served mapping i))
+any_more served mapping [] i = alone (item_write served mapping i)
+  where
+    alone : (w : Result Write Fault) → is_any (item_commands w ++ []) ≡ is_ok w
+    alone (Ok v) = refl
+    alone (Err f) = refl
+any_more served mapping (j ∷ items) i = behind (is_ok (item_write served mapping i)) (writes_of served mapping (items ++ i ∷ [])) (writes_of served mapping items) (item_write served mapping j) (any_more served mapping items i)
+  where
+    behind : (b : Bool) (cs ds : List Command) (w : Result Write Fault) → is_any cs ≡ (is_any ds || b) → is_any (item_commands w ++ cs) ≡ (is_any (item_commands w ++ ds) || b)
+    behind b cs ds (Ok v) e = refl
+    behind b cs ds (Err f) e = e
 
 -- an element in its place
 pub at_place : {A B : Type 0} (view : A → B) (xs : List A) (i : ℕ) (x : A) → i < length xs → x ≡ get_or xs i x → map view xs ≡ map view (take i xs) ++ view x ∷ map view (drop (suc i) xs)

@@ -25,7 +25,7 @@ use Rattle.front.specs.Item.{Item, Asked, one, many}
 use Rattle.wire.specs.Framing.{Request}
 use Rattle.wire.specs.Number.{number_of}
 use Rattle.wire.specs.Pieces.{cut_at, text_of}
-use Rattle.front.specs.Target.{check, route_of, is_served, is_allowed, method_of, parameters_of}
+use Rattle.front.specs.Target.{check, origin_of, route_of, is_served, is_allowed, method_of, parameters_of}
 
 abbrev pub in_doc : {A : Type 0} → Result A doc.Fault → Result A Fault
 in_doc (Ok a) = Ok a
@@ -165,10 +165,10 @@ asked_of mapping Promote m id p body named = one_of (command_of mapping Promote 
 -- what a request asks, or its first fault: of the route, the index, the method, the parameters, the id, the body
 unfoldable pub ask : List ℕ → MappingData → Request → Result Asked Fault
 ask index mapping r = do
-  route ← route_of (cut_at 63 r.target).0
+  route ← route_of (cut_at 63 (origin_of r.target)).0
   served ← check (is_served index route.index) no_index
   allowed ← check (is_allowed route.endpoint (method_of r.method)) (bad_method route.endpoint)
   id ← id_text (text_of route.id)
-  p ← parameters_of (or_nothing (cut_at 63 r.target).1)
+  p ← parameters_of (or_nothing (cut_at 63 (origin_of r.target)).1)
   fit ← check (fits route.endpoint (method_of r.method) p) bad_parameter
   asked_of mapping route.endpoint (method_of r.method) id p r.body (items_index index route.index)

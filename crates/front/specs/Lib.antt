@@ -17,3 +17,4 @@ pub mod Page
 pub mod Bulk
 pub mod Work
 pub mod Serving
+pub mod Greeting

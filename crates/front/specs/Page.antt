@@ -167,21 +167,25 @@ abbrev pub got_page : List ℕ → List ℕ → Option Found → List ℕ
 got_page index id None = response status.NotFound [] (codes "{" ++ (place id index ++ codes ",\"found\":false}"))
 got_page index id (Some f) = response status.Good [] (found_body id index f)
 
+-- what stands between a hit's id and its source
+unfoldable pub hit_middle : List ℕ → List ℕ
+hit_middle index = codes ",\"_index\":" ++ (quoted index ++ codes ",\"_score\":null,\"_source\":")
+
 unfoldable pub hit_text : List ℕ → Hit → List ℕ
-hit_text index h = codes "{" ++ (place h.id index ++ (codes ",\"_score\":null,\"_source\":" ++ (h.source ++ codes "}")))
+hit_text middle h = codes "{\"_id\":" ++ (quoted h.id ++ (middle ++ (h.source ++ codes "}")))
 
 -- the hits, with a comma between two
 abbrev pub more_hits : List ℕ → List Hit → List ℕ
-more_hits index [] = []
-more_hits index (h ∷ hs) = codes "," ++ (hit_text index h ++ more_hits index hs)
+more_hits middle [] = []
+more_hits middle (h ∷ hs) = codes "," ++ (hit_text middle h ++ more_hits middle hs)
 
 abbrev pub hits_text : List ℕ → List Hit → List ℕ
-hits_text index [] = []
-hits_text index (h ∷ hs) = hit_text index h ++ more_hits index hs
+hits_text middle [] = []
+hits_text middle (h ∷ hs) = hit_text middle h ++ more_hits middle hs
 
 unfoldable pub hits_body : List ℕ → ℕ → List Hit → List ℕ
 hits_body index total hs =
-    codes "{\"_shards\":{\"failed\":0,\"skipped\":0,\"successful\":1,\"total\":1},\"hits\":{\"hits\":[" ++ (hits_text index hs
+    codes "{\"_shards\":{\"failed\":0,\"skipped\":0,\"successful\":1,\"total\":1},\"hits\":{\"hits\":[" ++ (hits_text (hit_middle index) hs
     ++ (codes "],\"max_score\":null,\"total\":{\"relation\":\"eq\",\"value\":" ++ (decimal total ++ codes "}},\"timed_out\":false,\"took\":0}")))
 
 unfoldable pub counted_body : ℕ → List ℕ

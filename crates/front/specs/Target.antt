@@ -1,6 +1,6 @@
 -- What the target of a request names: its path and its parameters.
-use Rattle.std.specs.Prelude.{ℕ, ◌^◌, ◌==◌, ◌&&◌, ◌||◌, Bool, true, false, bytes_eq, codes, map, nat_lt, nat_le, length, List, [], ◌∷◌, Option, Some, None, Result, Ok, Err, ⊤, if◌then◌else◌}
-use Rattle.std.specs.List.{slice_split}
+use Rattle.std.specs.Prelude.{ℕ, ◌^◌, ◌==◌, ◌&&◌, ◌||◌, Bool, true, false, bytes_eq, codes, map, nat_lt, nat_le, length, take, drop, List, [], ◌∷◌, Option, Some, None, Result, Ok, Err, ⊤, if◌then◌else◌}
+use Rattle.std.specs.List.{slice_split, position_or_len}
 use Rattle.std.specs.Str.{all_ascii_digits}
 use Rattle.std.specs.Str.Lossy.{utf8_lossy}
 use Rattle.std.specs.Str.Parse.{digits_value}
@@ -12,8 +12,20 @@ use Rattle.front.specs.declared.target.Endpoint.TheVariants.{Document, Create, S
 use Rattle.front.specs.declared.target.Method.{Method}
 use Rattle.front.specs.declared.target.Method.TheVariants.{Delete, Get, Post, Put, Other}
 use Rattle.front.specs.declared.target.Parameters.{Parameters}
+use Rattle.wire.specs.Framing.{is_named}
 use Rattle.wire.specs.Number.{number_of}
 use Rattle.front.specs.Fault.{Fault, no_route, bad_parameter}
+
+-- whether a target has the absolute form, whose scheme no case tells apart
+abbrev pub is_absolute : List ℕ → Bool
+is_absolute target = nat_le 7 (length target) && is_named (take 7 target) (codes "http://")
+
+abbrev pub from_path : List ℕ → List ℕ
+from_path bytes = drop (position_or_len (λ b. b == 47 || b == 63) bytes) bytes
+
+-- a target's origin form: of an absolute one, what stands from the first `/` or `?` behind its scheme on
+abbrev pub origin_of : List ℕ → List ℕ
+origin_of target = if is_absolute target then from_path (drop 7 target) else target
 
 -- what a path names: the index, where it names one, and an id
 pub record Route : Type 0 where

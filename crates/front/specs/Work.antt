@@ -2,7 +2,7 @@
 use Rattle.std.specs.Prelude.{ℕ, Bool, List, [], ◌∷◌, Result, Ok, Err}
 use Rattle.doc.specs.Mapping.{MappingData}
 use Rattle.front.specs.Asking.{ask}
-use Rattle.front.specs.Bulk.{bulk_commands, bulk_texts, bulk_page}
+use Rattle.front.specs.Bulk.{bulk_commands, to_writes, behind_writes, bulk_texts, bulk_refusal, bulk_page}
 use Rattle.front.specs.Command.{Command}
 use Rattle.front.specs.Fault.{Fault, of_head}
 use Rattle.front.specs.Item.{Item, Asked, one, many}
@@ -19,7 +19,7 @@ pub data Work : Type 0 where
 abbrev pub worked : List ℕ → MappingData → Result Asked Fault → Work
 worked index mapping (Err f) = refused f
 worked index mapping (Ok (one c)) = single c
-worked index mapping (Ok (many refresh items)) = bulk index mapping refresh items
+worked index mapping (Ok (many wanted items)) = bulk index mapping wanted items
 
 abbrev pub work_of : List ℕ → MappingData → Standing → Work
 work_of index mapping (bad f) = refused (of_head f)
@@ -28,7 +28,7 @@ work_of index mapping (good r) = worked index mapping (ask index mapping r)
 abbrev pub commands : Work → List Command
 commands (refused f) = []
 commands (single c) = c ∷ []
-commands (bulk index mapping refresh items) = bulk_commands index mapping refresh items
+commands (bulk index mapping wanted items) = bulk_commands index mapping wanted items
 
 abbrev pub single_page : List ℕ → Command → List Reply → List ℕ
 single_page index c [] = []
@@ -37,4 +37,4 @@ single_page index c (r ∷ rs) = reply_page index (subject_of c) r
 abbrev pub page : List ℕ → Work → List Reply → List ℕ
 page index (refused f) replies = fault_page f
 page index (single c) replies = single_page index c replies
-page index (bulk served mapping refresh items) replies = bulk_page (bulk_texts served mapping refresh items replies)
+page index (bulk served mapping wanted items) replies = bulk_page (bulk_texts served mapping items (to_writes served mapping items replies)) (bulk_refusal (behind_writes served mapping items replies))

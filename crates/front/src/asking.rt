@@ -17,14 +17,14 @@ use crate::json_text::value_in;
 use crate::lines::items_in;
 use crate::parameters::parameters_of;
 use crate::request_fault::RequestFault;
-use crate::target::{Endpoint, Method, Parameters, route_of};
+use crate::target::{Endpoint, Method, Parameters, origin_of, route_of};
 use doc::{Doc, DocId, Mapping};
 use query::{CountBody, QueryFault, SearchBody};
 use serde_json::Value;
 use std::alloc::Global;
 use wire::{Request, cut_at, number_of, text_of};
 
-/// What a request asks: one command, or many writes, each with a refresh or not.
+/// What a request asks: one command, or many writes, with a refresh behind them or not.
 #[derive(Drop)]
 pub(crate) enum Asked<'b> {
     One(Command),
@@ -41,7 +41,7 @@ pub(crate) fn ask<'b>(
 ) -> Result<Asked<'b>, RequestFault>
     ensures { Gives fault_of asked_view result (spec.ask index.now mapping.now (request_view request.now)) }
 {
-    let (path, parameters) = cut_at(&request.target, b'?');
+    let (path, parameters) = cut_at(origin_of(&request.target), b'?');
     let route = route_of(alloc, path)?;
     check_served(index, &route.index)?;
     let method = Method::of(&request.method);
@@ -138,13 +138,13 @@ fn id_text(bytes: &[u8]) -> Result<&str, RequestFault>
     }
 }
 
-fn or_nothing(text: Option<&[u8]>) -> &[u8]
+pub(crate) fn or_nothing(text: Option<&[u8]>) -> &[u8]
     ensures { result.now ≡ spec.or_nothing (option_copied text.entry) }
 {
     text.unwrap_or(b"")
 }
 
-fn has_none(parameters: Parameters) -> bool
+pub(crate) fn has_none(parameters: Parameters) -> bool
     ensures { result ≡ spec.has_none parameters }
 {
     parameters.refresh.is_none()

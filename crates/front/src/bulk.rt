@@ -1,5 +1,5 @@
 //! Many writes in one request, and their page.
-ghost use Rattle.std.specs.Prelude.{◌≡◌, map, bytes_eq, IfOk, IfSome, OnErr, string_bytes};
+ghost use Rattle.std.specs.Prelude.{◌≡◌, map, bytes_eq, is_ok, IfOk, IfSome, OnErr, string_bytes};
 ghost use Rattle.doc.specs.Outcome.{Gives};
 ghost use Rattle.front.specs.Bulk as spec;
 ghost use Rattle.front.specs.BulkView.{item_view, text_view};
@@ -41,66 +41,141 @@ pub(crate) struct ItemText {
     pub(crate) text: String,
 }
 
-/// Does the items of a bulk in order. A refusal of one doesn't stop the others.
+/// What a bulk did: the texts of its items, and why the refresh behind them was refused, if it was.
+#[derive(Drop)]
+pub(crate) struct Done {
+    pub(crate) texts: Vec<ItemText>,
+    pub(crate) refusal: Option<Refusal>,
+}
+
+/// The texts of items that were done, and whether any of them was a write.
+#[derive(Drop)]
+struct Written {
+    texts: Vec<ItemText>,
+    is_any: bool,
+}
+
+/// An item that was done: its text, and whether it was a write.
+#[derive(Drop)]
+struct DoneItem {
+    text: ItemText,
+    is_write: bool,
+}
+
+/// Does the items of a bulk in order, and then one refresh, where that is wanted and any of them was a write.
 pub(crate) fn do_items<'b, S: Service>(
     alloc: Global,
     service: &mut S,
     refresh: bool,
     items: &[Item<'b>],
-) -> Result<Vec<ItemText>, StreamFault>
-    ensures ok { IfOk result (λ texts. spec.BulkDone S.answers (S.name service.old) (S.fields service.old) refresh (map item_view items.now)
-        service.old (map text_view texts.items) service.new) }
+) -> Result<Done, StreamFault>
+    ensures ok { IfOk result (λ done. spec.BulkDone S.answers (S.name service.old) (S.fields service.old) refresh (map item_view items.now)
+        service.old (map text_view done.texts.items) done.refusal service.new) }
     ensures err { OnErr result (spec.BegunOf S.answers (spec.bulk_commands (S.name service.old) (S.fields service.old) refresh (map item_view items.now))
         service.old service.new) }
     ensures name { S.name service.new ≡ S.name service.old }
     ensures fields { S.fields service.new ≡ S.fields service.old }
 {
+    let Written { texts, is_any } = do_writes(alloc, service, items)?;
+    let refusal = do_refresh(service, refresh && is_any);
+    Ok(Done { texts, refusal })
+}
+
+/// Does the writes of items in order. A refusal of one doesn't stop the others.
+fn do_writes<'b, S: Service>(
+    alloc: Global,
+    service: &mut S,
+    items: &[Item<'b>],
+) -> Result<Written, StreamFault>
+    ensures ok { IfOk result (λ w. spec.WritesDone S.answers (S.name service.old) (S.fields service.old) (map item_view items.now)
+        service.old (map text_view w.texts.items) service.new) }
+    ensures any { IfOk result (λ w. w.is_any ≡ spec.is_any (spec.writes_of (S.name service.old) (S.fields service.old) (map item_view items.now))) }
+    ensures err { OnErr result (spec.BegunOf S.answers (spec.writes_of (S.name service.old) (S.fields service.old) (map item_view items.now))
+        service.old service.new) }
+    ensures name { S.name service.new ≡ S.name service.old }
+    ensures fields { S.fields service.new ≡ S.fields service.old }
+{
     let mut texts = Vec::new(alloc);
+    let mut is_any = false;
     for item in items {
         texts.reserve(1)?;
-        let text = do_item(alloc, service, refresh, item)?;
+        let DoneItem { text, is_write } = do_item(alloc, service, item)?;
         texts.push(text)?;
+        is_any = is_any || is_write;
     }
-    Ok(texts)
+    Ok(Written { texts, is_any })
+}
+
+/// Refreshes, where that is wanted, and tells why that was refused.
+fn do_refresh<S: Service>(service: &mut S, wanted: bool) -> Option<Refusal>
+    ensures done { spec.RefreshDone S.answers wanted service.old result service.new }
+    ensures name { S.name service.new ≡ S.name service.old }
+    ensures fields { S.fields service.new ≡ S.fields service.old }
+{
+    if !wanted {
+        return None;
+    }
+    let reply = service.call(Command::Refresh);
+    let refusal = refusal_in(&reply);
+    drop(reply);
+    refusal
+}
+
+/// Why a refresh was refused.
+fn refusal_in(reply: &Reply) -> Option<Refusal>
+    ensures { result ≡ spec.refusal_in (reply_view reply.now) }
+{
+    match reply {
+        Reply::Refreshed(_) => None,
+        Reply::Refused(refusal) => Some(*refusal),
+        _ => Some(Refusal::Mismatch),
+    }
 }
 
 /// Does one item.
 fn do_item<'b, S: Service>(
     alloc: Global,
     service: &mut S,
-    refresh: bool,
     item: &Item<'b>,
-) -> Result<ItemText, StreamFault>
-    ensures ok { IfOk result (λ text. spec.ItemDone S.answers (item_view item.now) (spec.item_write (S.name service.old) (S.fields service.old) refresh (item_view item.now))
-        service.old (text_view text) service.new) }
-    ensures err { OnErr result (spec.BegunOf S.answers (spec.item_commands (spec.item_write (S.name service.old) (S.fields service.old) refresh (item_view item.now)))
+) -> Result<DoneItem, StreamFault>
+    ensures ok { IfOk result (λ d. spec.ItemDone S.answers (item_view item.now) (spec.item_write (S.name service.old) (S.fields service.old) (item_view item.now))
+        service.old (text_view d.text) service.new) }
+    ensures write { IfOk result (λ d. d.is_write ≡ is_ok (spec.item_write (S.name service.old) (S.fields service.old) (item_view item.now))) }
+    ensures err { OnErr result (spec.BegunOf S.answers (spec.item_commands (spec.item_write (S.name service.old) (S.fields service.old) (item_view item.now)))
         service.old service.new) }
     ensures name { S.name service.new ≡ S.name service.old }
     ensures fields { S.fields service.new ≡ S.fields service.old }
 {
-    match item_write(alloc, service.index(), service.mapping(), refresh, item) {
+    match item_write(alloc, service.index(), service.mapping(), item) {
         Ok(write) => {
             let reply = service.call(Command::Write(write));
-            Ok(reply_text(alloc, item, &reply)?)
+            let text = reply_text(alloc, item, &reply)?;
+            Ok(DoneItem {
+                text,
+                is_write: true,
+            })
         }
         Err(fault) => if fault.is_memory() {
             Err(StreamFault::NoMemory)
         } else {
-            Ok(fault_text(alloc, item, &fault)?)
+            let text = fault_text(alloc, item, &fault)?;
+            Ok(DoneItem {
+                text,
+                is_write: false,
+            })
         },
     }
 }
 
-/// The write of an item, or its fault.
+/// The write of an item, without a refresh, or its fault.
 #[tactic(auto, unfolding(crate::specs::Bulk::item_write))]
-fn item_write<'b>(
+pub(crate) fn item_write<'b>(
     alloc: Global,
     served: &str,
     mapping: &Mapping,
-    refresh: bool,
     item: &Item<'b>,
 ) -> Result<Write, RequestFault>
-    ensures { Gives fault_of (λ w. w) result (spec.item_write served.now mapping.now refresh (item_view item.now)) }
+    ensures { Gives fault_of (λ w. w) result (spec.item_write served.now mapping.now (item_view item.now)) }
 {
     check_index(served, item.index.as_str())?;
     let id = DocId::new(alloc, item.id.as_str())?;
@@ -109,7 +184,7 @@ fn item_write<'b>(
             id,
             change,
             condition: item.condition,
-            refresh,
+            refresh: false,
         }),
         Err(fault) => {
             drop(id);
@@ -276,20 +351,42 @@ fn truth(b: bool) -> &'static str
     if b { "true" } else { "false" }
 }
 
+/// The field that tells why the refresh was refused.
+fn refresh_field(alloc: Global, refusal: Option<Refusal>) -> Result<String, AllocError>
+    ensures { IfOk result (λ t. string_bytes t ≡ spec.refresh_field refusal) }
+{
+    let Some(refusal) = refusal else {
+        return Ok(String::new(alloc));
+    };
+    let error = error(alloc, refusal.name(), refusal.kind().1)?;
+    let error = error.as_str();
+    format!(in alloc; ",\"refresh\":{error}")
+}
+
 #[tactic(auto, unfolding(crate::specs::Bulk::bulk_body))]
-fn bulk_body(alloc: Global, texts: &[ItemText]) -> Result<String, AllocError>
-    ensures { IfOk result (λ t. string_bytes t ≡ spec.bulk_body (map text_view texts.now)) }
+fn bulk_body(
+    alloc: Global,
+    texts: &[ItemText],
+    refusal: Option<Refusal>,
+) -> Result<String, AllocError>
+    ensures { IfOk result (λ t. string_bytes t ≡ spec.bulk_body (map text_view texts.now) refusal) }
 {
     let errors = truth(has_failed(texts));
     let items = joined(alloc, texts)?;
     let items = items.as_str();
-    format!(in alloc; "{{\"errors\":{errors},\"items\":[{items}],\"took\":0}}")
+    let refresh = refresh_field(alloc, refusal)?;
+    let refresh = refresh.as_str();
+    format!(in alloc; "{{\"errors\":{errors},\"items\":[{items}]{refresh},\"took\":0}}")
 }
 
-/// The page of the texts of items.
-pub(crate) fn bulk_page(alloc: Global, texts: &[ItemText]) -> Result<String, AllocError>
-    ensures { IfOk result (λ page. string_bytes page ≡ spec.bulk_page (map text_view texts.now)) }
+/// The page of what a bulk did.
+pub(crate) fn bulk_page(
+    alloc: Global,
+    texts: &[ItemText],
+    refusal: Option<Refusal>,
+) -> Result<String, AllocError>
+    ensures { IfOk result (λ page. string_bytes page ≡ spec.bulk_page (map text_view texts.now) refusal) }
 {
-    let body = bulk_body(alloc, texts)?;
+    let body = bulk_body(alloc, texts, refusal)?;
     response(alloc, Status::Good, "", body.as_str())
 }

@@ -1,5 +1,6 @@
 //! The JSON of a text.
-ghost use Rattle.std.specs.Prelude.{◌≡◌, option_map, IfOk};
+ghost use Rattle.std.specs.Prelude.{◌≡◌, ◌↔◌, [], ◌∷◌, ◌++◌, IsTrue, option_map, IfOk, OnOk, string_bytes};
+ghost use Rattle.json.specs.Print as json;
 ghost use Rattle.serde_json.specs.Read.{read};
 ghost use Rattle.serde_json.specs.View.{view};
 
@@ -18,4 +19,37 @@ pub(crate) fn value_in(alloc: Global, text: &str) -> Result<Option<Value>, Alloc
             if is_memory { Err(AllocError) } else { Ok(None) }
         }
     }
+}
+
+/// Appends a text as JSON spells it.
+pub(crate) fn push_quoted(alloc: Global, page: &mut String, text: &str) -> Result<(), AllocError>
+    ensures { OnOk result (string_bytes page.new ≡ string_bytes page.old ++ json.quoted text.now) }
+{
+    if is_plain(text) {
+        page.push_str("\"")?;
+        page.push_str(text)?;
+        page.push_str("\"")
+    } else {
+        let escaped = Value::try_from_str(alloc, text)?.to_string(alloc)?;
+        page.push_str(escaped.as_str())
+    }
+}
+
+/// Whether JSON spells a text as it is, between quotes.
+fn is_plain(text: &str) -> bool
+    ensures { IsTrue result ↔ (json.escape text.now ≡ text.now) }
+{
+    for byte in text.as_bytes() {
+        if !is_plain_byte(*byte) {
+            return false;
+        }
+    }
+    true
+}
+
+#[tactic(auto, unfolding(json::specs::Print::escape_byte))]
+fn is_plain_byte(byte: u8) -> bool
+    ensures { IsTrue result ↔ (json.escape_byte byte ≡ byte ∷ []) }
+{
+    byte >= 32 && byte != b'"' && byte != b'\\'
 }

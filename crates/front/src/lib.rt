@@ -4,6 +4,9 @@
 mod asking;
 mod bulk;
 pub mod command;
+pub mod explaining;
+mod greeting;
+mod hits;
 mod json_text;
 mod lines;
 mod page;
@@ -15,7 +18,9 @@ mod serving;
 mod target;
 
 pub use command::Command;
+pub use explaining::{greeted_reasons_of, reasons_of};
+pub use greeting::greet;
 pub use reply::Reply;
 pub use service::Service;
-pub use serving::serve_stream;
+pub use serving::{answer, serve_stream};
 pub use wire::StreamFault;

@@ -1,6 +1,5 @@
 //! The pages that are written: bodies without spaces and with keys in byte order, as the Elasticsearch reference names them.
 ghost use Rattle.std.specs.Prelude.{◌≡◌, ◌++◌, codes, IfOk, IfSome, string_bytes};
-ghost use Rattle.json.specs.Print as json;
 ghost use Rattle.front.specs.CommandView.{command_view};
 ghost use Rattle.front.specs.Fault.{fault_of};
 ghost use Rattle.front.specs.Page as spec;
@@ -8,11 +7,12 @@ ghost use Rattle.front.specs.ReplyView.{reply_view};
 ghost use Rattle.front.specs.SubjectView.{subject_view};
 
 use crate::command::Command;
-use crate::reply::{Found, Hit, Outcome, Refusal, Reply, Wrote};
+use crate::hits::hits_body;
+use crate::json_text::push_quoted;
+use crate::reply::{Found, Outcome, Refusal, Reply, Wrote};
 use crate::request_fault::RequestFault;
 use crate::target::Endpoint;
 use doc::DocId;
-use serde_json::Value;
 use std::alloc::{AllocError, Global};
 use wire::HeadFault;
 
@@ -94,6 +94,9 @@ impl Subject {
     }
 }
 
+/// Room for the head of a page without `allow`, of which the longest has 106 bytes.
+const HEAD_ROOM: usize = 128;
+
 /// A whole page: the status line, the fields, an empty line, the body (RFC 9112, section 2.1).
 #[tactic(auto, unfolding(crate::specs::Page::response))]
 pub(crate) fn response(
@@ -107,16 +110,14 @@ pub(crate) fn response(
     let number = status.number();
     let reason = status.reason();
     let length = body.len();
-    format!(in alloc;
-        "HTTP/1.1 {number} {reason}\r\ncontent-type: application/json\r\ncontent-length: {length}\r\n{allow}\r\n{body}"
-    )
-}
-
-/// A text as JSON spells it.
-fn quoted(alloc: Global, text: &str) -> Result<String, AllocError>
-    ensures { IfOk result (λ t. string_bytes t ≡ json.quoted text.now) }
-{
-    Value::try_from_str(alloc, text)?.to_string(alloc)
+    let room = HEAD_ROOM.saturating_add(allow.len()).saturating_add(length);
+    let mut page = String::with_capacity(alloc, room)?;
+    write!(
+        page,
+        "HTTP/1.1 {number} {reason}\r\ncontent-type: application/json\r\ncontent-length: {length}\r\n{allow}\r\n"
+    )?;
+    page.push_str(body)?;
+    Ok(page)
 }
 
 fn methods_of(endpoint: Endpoint) -> &'static str
@@ -284,27 +285,34 @@ pub(crate) fn outcome_status(outcome: Outcome) -> Status
     }
 }
 
+/// Room for the object of a document beside its texts, unless numbers are long.
+const OBJECT_ROOM: usize = 192;
+
 /// What stands first in the object of a document.
 #[tactic(auto, unfolding(crate::specs::Page::place))]
 pub(crate) fn place(alloc: Global, id: &str, index: &str) -> Result<String, AllocError>
     ensures { IfOk result (λ t. string_bytes t ≡ spec.place id.now index.now) }
 {
-    let id = quoted(alloc, id)?;
-    let id = id.as_str();
-    let index = quoted(alloc, index)?;
-    let index = index.as_str();
-    format!(in alloc; "\"_id\":{id},\"_index\":{index}")
+    let room = OBJECT_ROOM
+        .saturating_add(id.len())
+        .saturating_add(index.len());
+    let mut place = String::with_capacity(alloc, room)?;
+    place.push_str("\"_id\":")?;
+    push_quoted(alloc, &mut place, id)?;
+    place.push_str(",\"_index\":")?;
+    push_quoted(alloc, &mut place, index)?;
+    Ok(place)
 }
 
 #[tactic(auto, unfolding(crate::specs::Page::wrote_front))]
 fn wrote_front(alloc: Global, id: &str, index: &str, wrote: Wrote) -> Result<String, AllocError>
     ensures { IfOk result (λ t. string_bytes t ≡ spec.wrote_front id.now index.now wrote) }
 {
-    let place = place(alloc, id, index)?;
-    let place = place.as_str();
+    let mut front = place(alloc, id, index)?;
     let term = wrote.term;
     let seq = wrote.seq;
-    format!(in alloc; "{place},\"_primary_term\":{term},\"_seq_no\":{seq}")
+    write!(front, ",\"_primary_term\":{term},\"_seq_no\":{seq}")?;
+    Ok(front)
 }
 
 #[tactic(auto, unfolding(crate::specs::Page::wrote_fields))]
@@ -316,22 +324,22 @@ pub(crate) fn wrote_fields(
 ) -> Result<String, AllocError>
     ensures { IfOk result (λ t. string_bytes t ≡ spec.wrote_fields id.now index.now wrote) }
 {
-    let middle = wrote_middle(alloc, id, index, wrote)?;
-    let middle = middle.as_str();
+    let mut fields = wrote_middle(alloc, id, index, wrote)?;
     let end = wrote_end(alloc, wrote)?;
     let end = end.as_str();
-    format!(in alloc; "{middle},{end}")
+    write!(fields, ",{end}")?;
+    Ok(fields)
 }
 
 #[tactic(auto, unfolding(crate::specs::Page::wrote_middle))]
 fn wrote_middle(alloc: Global, id: &str, index: &str, wrote: Wrote) -> Result<String, AllocError>
     ensures { IfOk result (λ t. string_bytes t ≡ spec.wrote_middle id.now index.now wrote) }
 {
-    let front = wrote_front(alloc, id, index, wrote)?;
-    let front = front.as_str();
+    let mut middle = wrote_front(alloc, id, index, wrote)?;
     let shards = shards(alloc, wrote.copies)?;
     let shards = shards.as_str();
-    format!(in alloc; "{front},\"_shards\":{shards}")
+    write!(middle, ",\"_shards\":{shards}")?;
+    Ok(middle)
 }
 
 #[tactic(auto, unfolding(crate::specs::Page::wrote_end))]
@@ -362,9 +370,15 @@ fn found_body(alloc: Global, id: &str, index: &str, found: &Found) -> Result<Str
     let seq = found.seq;
     let version = found.version;
     let source = found.source.as_str();
-    format!(in alloc;
+    let room = OBJECT_ROOM
+        .saturating_add(place.len())
+        .saturating_add(source.len());
+    let mut body = String::with_capacity(alloc, room)?;
+    write!(
+        body,
         "{{{place},\"_primary_term\":{term},\"_seq_no\":{seq},\"_source\":{source},\"_version\":{version},\"found\":true}}"
-    )
+    )?;
+    Ok(body)
 }
 
 fn got_page(
@@ -387,53 +401,6 @@ fn got_page(
             response(alloc, Status::NotFound, "", body.as_str())
         }
     }
-}
-
-#[tactic(auto, unfolding(crate::specs::Page::hit_text))]
-fn hit_text(alloc: Global, index: &str, hit: &Hit) -> Result<String, AllocError>
-    ensures { IfOk result (λ t. string_bytes t ≡ spec.hit_text index.now hit.now) }
-{
-    let place = place(alloc, hit.id.as_str(), index)?;
-    let place = place.as_str();
-    let source = hit.source.as_str();
-    format!(in alloc; "{{{place},\"_score\":null,\"_source\":{source}}}")
-}
-
-fn more_hits(alloc: Global, index: &str, hits: &[Hit]) -> Result<String, AllocError>
-    ensures { IfOk result (λ t. string_bytes t ≡ spec.more_hits index.now hits.now) }
-{
-    let mut text = String::new(alloc);
-    for hit in hits {
-        let one = hit_text(alloc, index, hit)?;
-        text.push_str(",")?;
-        text.push_str(one.as_str())?;
-    }
-    Ok(text)
-}
-
-fn hits_text(alloc: Global, index: &str, hits: &[Hit]) -> Result<String, AllocError>
-    ensures { IfOk result (λ t. string_bytes t ≡ spec.hits_text index.now hits.now) }
-{
-    match hits {
-        [] => Ok(String::new(alloc)),
-        [hit, others @ ..] => {
-            let mut text = hit_text(alloc, index, hit)?;
-            let others = more_hits(alloc, index, others)?;
-            text.push_str(others.as_str())?;
-            Ok(text)
-        }
-    }
-}
-
-#[tactic(auto, unfolding(crate::specs::Page::hits_body))]
-fn hits_body(alloc: Global, index: &str, total: u64, hits: &[Hit]) -> Result<String, AllocError>
-    ensures { IfOk result (λ t. string_bytes t ≡ spec.hits_body index.now total hits.now) }
-{
-    let hits = hits_text(alloc, index, hits)?;
-    let hits = hits.as_str();
-    format!(in alloc;
-        "{{\"_shards\":{{\"failed\":0,\"skipped\":0,\"successful\":1,\"total\":1}},\"hits\":{{\"hits\":[{hits}],\"max_score\":null,\"total\":{{\"relation\":\"eq\",\"value\":{total}}}}},\"timed_out\":false,\"took\":0}}"
-    )
 }
 
 #[tactic(auto, unfolding(crate::specs::Page::counted_body))]

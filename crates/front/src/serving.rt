@@ -47,7 +47,11 @@ pub fn serve_stream<R: Read, W: Write, S: Service>(
 }
 
 /// Does what a request asks, and spells the page of the replies.
-fn answer<S: Service>(alloc: Global, service: &mut S, whole: &Whole) -> Result<String, StreamFault>
+pub fn answer<S: Service>(
+    alloc: Global,
+    service: &mut S,
+    whole: &Whole,
+) -> Result<String, StreamFault>
     ensures ok { IfOk result (λ page. (q : Standing) → read.IsStanding whole.now q → spec.Answered S.answers (S.name service.old)
         (work_of (S.name service.old) (S.fields service.old) q) service.old (string_bytes page) service.new) }
     ensures err { OnErr result ((q : Standing) → read.IsStanding whole.now q → spec.Begun S.answers
@@ -61,7 +65,7 @@ fn answer<S: Service>(alloc: Global, service: &mut S, whole: &Whole) -> Result<S
     }
 }
 
-fn answer_request<S: Service>(
+pub(crate) fn answer_request<S: Service>(
     alloc: Global,
     service: &mut S,
     request: &Request,
@@ -106,7 +110,7 @@ fn do_command<S: Service>(
     Ok(page?)
 }
 
-/// Does the items of a bulk, and spells their page.
+/// Does the items of a bulk and the refresh behind them, and spells their page.
 fn do_bulk<'b, S: Service>(
     alloc: Global,
     service: &mut S,
@@ -119,6 +123,6 @@ fn do_bulk<'b, S: Service>(
     ensures name { S.name service.new ≡ S.name service.old }
     ensures fields { S.fields service.new ≡ S.fields service.old }
 {
-    let texts = do_items(alloc, service, refresh, items)?;
-    Ok(bulk_page(alloc, &texts)?)
+    let done = do_items(alloc, service, refresh, items)?;
+    Ok(bulk_page(alloc, &done.texts, done.refusal)?)
 }

@@ -124,7 +124,7 @@ fn is(bytes: &[u8], text: &str) -> bool
     bytes == text.as_bytes()
 }
 
-fn decoded(alloc: Global, bytes: &[u8]) -> Result<Vec<u8>, AllocError>
+pub(crate) fn decoded(alloc: Global, bytes: &[u8]) -> Result<Vec<u8>, AllocError>
     ensures { IfOk result (λ d. d.items ≡ percent_decode bytes.now) }
 {
     let mut out = Vec::new(alloc);
@@ -146,6 +146,27 @@ fn routed(
             id,
         }),
         None => Err(RequestFault::NoRoute),
+    }
+}
+
+/// The origin form of a target (RFC 9112, section 3.2.1): of one in absolute form (section 3.2.2) what stands behind the authority.
+pub(crate) fn origin_of(target: &[u8]) -> &[u8]
+    ensures { result.now ≡ spec.origin_of target.now }
+{
+    if target.len() >= 7 && target[..7].eq_ignore_ascii_case(b"http://") {
+        from_path(&target[7..])
+    } else {
+        target
+    }
+}
+
+/// The bytes from the first `/` or `?` on.
+fn from_path(bytes: &[u8]) -> &[u8]
+    ensures { result.now ≡ spec.from_path bytes.now }
+{
+    match bytes.iter().position(|&b| b == b'/' || b == b'?') {
+        Some(i) => &bytes[i..],
+        None => &[],
     }
 }
 

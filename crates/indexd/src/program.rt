@@ -66,6 +66,7 @@ where
         Ok(Task::Serve(settings)) => {
             let settings = Settings {
                 at_terminal: terminals.errors,
+                explains: settings.explains || terminals.errors,
                 ..settings
             };
             run_server(rt, settings, output, errors)
@@ -108,7 +109,7 @@ where
 }
 
 /// Writes what a folder keeps, and answers the exit status: 0, or 1 with one line on `errors`.
-fn run_dump<R: Files<File = File> + AllocGlobal, O: Write, E: Write>(
+fn run_dump<R: Files<File = File> + AllocGlobal + Clone + Drop, O: Write, E: Write>(
     rt: &R,
     dumped: Dumped<'_>,
     output: &mut O,
@@ -116,7 +117,7 @@ fn run_dump<R: Files<File = File> + AllocGlobal, O: Write, E: Write>(
 ) -> u8
     ensures { result < 2 }
 {
-    match dump(rt, dumped, output) {
+    match dump(rt, dumped, output, errors) {
         Ok(()) => 0,
         Err(fault) => {
             let _ = writeln!(errors, "indexd: {fault}");

@@ -1,12 +1,12 @@
 //! Why a line is refused, in words: what stands beside the name of the refusal for whoever wrote the line.
 
 use crate::command::{Command, LineWrite, command_of};
-use crate::misfit::{cut, misfit};
 use crate::refusal::Refusal;
 use doc::{DocFault, DocId};
 use engine::Last;
 use master::MasterFault;
 use query::QueryFault;
+use reasons::{cut, document_reason};
 use replica::CopyFault;
 use serde_json::Value;
 use std::alloc::{AllocError, Global};
@@ -130,41 +130,11 @@ fn doc_reason(
     line: &[u8],
     index: Option<&World>,
 ) -> Result<String, AllocError> {
-    match fault {
-        DocFault::NotJson => not_json(alloc, line),
-        DocFault::WrongValue(path) => wrong_value(alloc, path, line, index),
-        DocFault::TooLarge => {
-            let len = json_of(line).len();
-            format!(in alloc; "the document has {len} bytes; at most 65,536 are taken")
-        }
-        _ => format!(in alloc; "{fault}"),
-    }
-}
-
-/// Where the text of a line isn't JSON, as its reader says it.
-fn not_json(alloc: Global, line: &[u8]) -> Result<String, AllocError> {
-    match Value::from_str(alloc, json_of(line)) {
-        Ok(_) => text(alloc, "not JSON"),
-        Err(error) => {
-            let at = error.column();
-            format!(in alloc; "not JSON: {error} (byte {at} of the JSON)")
-        }
-    }
-}
-
-/// The first value at a path that doesn't fit what stands there, and why it doesn't.
-fn wrong_value(
-    alloc: Global,
-    path: &str,
-    line: &[u8],
-    index: Option<&World>,
-) -> Result<String, AllocError> {
-    if let (Some(world), Ok(document)) = (index, Value::from_str(alloc, json_of(line))) {
-        if let Some(why) = misfit(alloc, world.mapping(), path, &document)? {
-            return Ok(why);
-        }
-    }
-    format!(in alloc; "a value at {path} doesn't fit")
+    let mapping = match index {
+        Some(world) => Some(world.mapping()),
+        None => None,
+    };
+    document_reason(alloc, fault, mapping, json_of(line))
 }
 
 // ---- searches and steps

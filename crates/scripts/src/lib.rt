@@ -4,7 +4,6 @@
 mod command;
 mod explaining;
 mod fault;
-mod misfit;
 mod names;
 mod playing;
 mod refusal;

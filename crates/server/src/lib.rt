@@ -3,8 +3,8 @@
 
 mod connections;
 mod index_name;
-mod noting;
 mod opening;
 mod serving;
+mod telling;
 
 pub use serving::{ServeFault, Settings, serve};

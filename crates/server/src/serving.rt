@@ -1,24 +1,27 @@
 //! Serving an index over HTTP on 127.0.0.1.
 
-use crate::connections::{Bounds, Index, serve_connections, serve_group};
+use crate::connections::{Index, OneCopy, serve_connections, serve_group};
 use crate::index_name::is_index_name;
 use crate::opening::{Counted, OpeningLine};
+use crate::telling::Telling;
+use clients::{Clients, Limits};
 use cluster::{Cluster, ClusterFault, Devices, InMemory, Open, Unopened};
 use doc::{DocFault, Mapping};
 use folder::{
-    DataFault, KeepFault, KeptCopy, KeptFolder, MappingFile, VerdictFault, judge, keep_journals,
-    open_copy, open_folder,
+    DataFault, KeepFault, KeptCopy, KeptFolder, MappingFault, MappingFile, VerdictFault, judge,
+    keep_journals, open_copy, open_folder,
 };
+use front::Service;
 use master::Master;
 use serde_json::Value;
-use shard::Shard;
+use shard::{Shard, SharedShard};
 use std::alloc::{AllocError, Global};
 use std::fmt::Display;
 use std::fs::File;
 use std::io::{Read, Write};
 use std::net::{Net, TcpListener, TcpStream};
 use std::rt::Files;
-use std::sync::Wait;
+use std::sync::{Mutex, Wait};
 use std::thread::Threads;
 use std::time::Clock;
 use std::{fmt, fs, io};
@@ -46,15 +49,29 @@ pub struct Settings<'a> {
     pub journals: Option<&'a str>,
     /// After how many milliseconds the index is refreshed again; 0 for never.
     pub refresh: u64,
+    /// How many threads answer requests.
+    pub threads: u64,
+    /// For how many seconds a connection is kept that has no request.
+    pub idle: u64,
+    /// How many bytes of unfinished requests all connections have together.
+    pub request_bytes: u64,
+    /// Whether standard error says why requests are refused.
+    pub explains: bool,
+    /// Whether requests are answered as the client libraries of Elasticsearch ask them.
+    pub greets: bool,
     /// Whether standard error is a terminal: the opening of large logs is shown there, and an entry that doesn't pass the audit.
     pub at_terminal: bool,
 }
 
 impl<'a> Settings<'a> {
-    fn bounds(self) -> Bounds {
-        Bounds {
+    fn limits(self) -> Limits {
+        Limits {
+            threads: self.threads as usize,
             connections: self.connections,
+            bytes: self.request_bytes,
+            idle: self.idle,
             refresh: self.refresh,
+            greets: self.greets,
         }
     }
 }
@@ -134,6 +151,16 @@ impl From<DataFault> for ServeFault {
     }
 }
 
+impl From<MappingFault> for ServeFault {
+    fn from(fault: MappingFault) -> ServeFault {
+        match fault {
+            MappingFault::NotJson(error) => ServeFault::NotJson(error),
+            MappingFault::Mapping(fault) => ServeFault::Mapping(fault),
+            MappingFault::NoMemory => ServeFault::NoMemory,
+        }
+    }
+}
+
 impl From<KeepFault> for ServeFault {
     fn from(fault: KeepFault) -> ServeFault {
         match fault {
@@ -192,7 +219,7 @@ where
             || open_index(rt, folder, name, mapping.as_ref()),
         );
         match opened {
-            Ok(kept) => return serve_kept(rt, settings, kept, output),
+            Ok(kept) => return serve_kept(rt, settings, kept, output, errors),
             Err(DataFault::SeveralCopies) => {}
             Err(fault) => return Err(ServeFault::from(fault)),
         }
@@ -221,7 +248,7 @@ where
         + Drop
         + 'static,
     O: Write,
-    E: Write,
+    E: Write + Send,
 {
     if settings.copies > 1 || settings.audit {
         return serve_copies(rt, settings, mapping, output, errors);
@@ -229,7 +256,7 @@ where
     let alloc = rt.alloc();
     let name = String::from_str(alloc, settings.index)?;
     let shard = in_memory(alloc, name, mapping)?;
-    listen(rt, settings, shard, output)
+    listen(rt, settings, shard, output, errors)
 }
 
 /// An index of one copy in a folder, which no other process serves while this is held.
@@ -269,11 +296,12 @@ fn led(
 }
 
 /// Serves an index of one copy that is kept in a folder.
-fn serve_kept<R, O>(
+fn serve_kept<R, O, E>(
     rt: &R,
     settings: Settings<'_>,
     kept: KeptIndex,
     output: &mut O,
+    errors: &mut E,
 ) -> Result<(), ServeFault>
 where
     R: AllocGlobal
@@ -283,9 +311,10 @@ where
         + Clock
         + Sync,
     O: Write,
+    E: Write + Send,
 {
     let KeptIndex { shard, lock } = kept;
-    let ended = listen(rt, settings, shard, output);
+    let ended = listen(rt, settings, shard, output, errors);
     drop(lock);
     ended
 }
@@ -348,7 +377,7 @@ where
         + Drop
         + 'static,
     O: Write,
-    E: Write,
+    E: Write + Send,
 {
     let alloc = rt.alloc();
     let fields = fields_of(alloc, mapping)?;
@@ -360,7 +389,7 @@ where
         mapping: &fields,
         client: cluster.client(),
     };
-    let ended = listen_to_group(rt, settings, &index, output);
+    let ended = listen_to_group(rt, settings, &index, output, errors);
     let journals = cluster.close(rt, &[])?;
     ended?;
     if let Some(folder) = settings.journals {
@@ -448,7 +477,7 @@ where
         + 'static,
     V: Devices<FileDevice<File>>,
     O: Write,
-    E: Write,
+    E: Write + Send,
 {
     let lacking = lacking(rt, cluster, settings.copies)?;
     if let Some(short) = cluster.short_log() {
@@ -465,7 +494,7 @@ where
         mapping: fields,
         client: cluster.client(),
     };
-    listen_to_group(rt, settings, &index, output)
+    listen_to_group(rt, settings, &index, output, errors)
 }
 
 /// How many copies are to be added, so that there are as many as are wanted.
@@ -504,11 +533,12 @@ fn fields_of(alloc: Global, mapping: Option<&MappingFile>) -> Result<Mapping, Se
 }
 
 /// Takes the port, and serves the connections that come to it.
-fn listen<R, O, D>(
+fn listen<R, O, E, D>(
     rt: &R,
     settings: Settings<'_>,
     shard: Shard<D>,
     output: &mut O,
+    errors: &mut E,
 ) -> Result<(), ServeFault>
 where
     R: AllocGlobal
@@ -518,18 +548,39 @@ where
         + Clock
         + Sync,
     O: Write,
+    E: Write + Send,
     D: LogDevice + Send,
 {
+    let alloc = rt.alloc();
+    let name = String::from_str(alloc, shard.index())?;
+    let mapping = shard.mapping().copy(alloc)?;
+    let shared = SharedShard::new(alloc, shard);
     let listener = bound(rt, settings.port, output)?;
-    serve_connections(rt, rt.alloc(), &listener, shard, settings.bounds()).map_err(ended)
+    let telling = Telling {
+        rt,
+        alloc,
+        index: name.as_str(),
+        mapping: &mapping,
+        explains: settings.explains,
+        greets: settings.greets,
+        errors: Mutex::new(errors),
+    };
+    let clients = Clients::new(rt, alloc, listener, settings.limits(), &telling).map_err(ended)?;
+    let index = OneCopy {
+        name: name.as_str(),
+        mapping: &mapping,
+        shard: &shared,
+    };
+    serve_connections(rt, alloc, &clients, &index).map_err(ended)
 }
 
 /// Takes the port, and serves the connections that come to it to copies on threads.
-fn listen_to_group<R, O, D>(
+fn listen_to_group<R, O, E, D>(
     rt: &R,
     settings: Settings<'_>,
     index: &Index<'_, D>,
     output: &mut O,
+    errors: &mut E,
 ) -> Result<(), ServeFault>
 where
     R: AllocGlobal
@@ -539,10 +590,22 @@ where
         + Clock
         + Sync,
     O: Write,
+    E: Write + Send,
     D: LogDevice + Send,
 {
+    let alloc = rt.alloc();
     let listener = bound(rt, settings.port, output)?;
-    serve_group(rt, rt.alloc(), &listener, index, settings.bounds()).map_err(ended)
+    let telling = Telling {
+        rt,
+        alloc,
+        index: index.name,
+        mapping: index.mapping,
+        explains: settings.explains,
+        greets: settings.greets,
+        errors: Mutex::new(errors),
+    };
+    let clients = Clients::new(rt, alloc, listener, settings.limits(), &telling).map_err(ended)?;
+    serve_group(rt, alloc, &clients, index).map_err(ended)
 }
 
 /// Takes the port, and says so.
@@ -579,16 +642,11 @@ fn mapping_of<R: Files + AllocGlobal>(
     rt: &R,
     file: Option<&str>,
 ) -> Result<Option<MappingFile>, ServeFault> {
-    let alloc = rt.alloc();
     let Some(file) = file else {
         return Ok(None);
     };
     let text = text_of(rt, file)?;
-    let value = json_of(alloc, text.as_str())?;
-    match Mapping::from_value(alloc, &value) {
-        Ok(_) => Ok(Some(MappingFile { text, value })),
-        Err(fault) => Err(refused(fault)),
-    }
+    Ok(Some(MappingFile::read(rt.alloc(), text)?))
 }
 
 fn json_of(alloc: Global, text: &str) -> Result<Value, ServeFault> {

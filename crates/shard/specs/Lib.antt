@@ -1,4 +1,3 @@
 pub mod Answering
-pub mod Group
 pub mod Ready
 pub mod Seen

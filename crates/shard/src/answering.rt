@@ -1,4 +1,4 @@
-//! What a copy answers the commands of requests.
+//! What a copy answers the commands of requests, and how that is replied.
 ghost use Rattle.std.specs.Prelude.{◌≡◌, true, false, length, map, IfOk, IfErr, OnOk, option_map};
 ghost use Rattle.doc.specs.Outcome.{Gives};
 ghost use Rattle.engine.specs.Answer.{answer_of, found};
@@ -11,7 +11,7 @@ ghost use Rattle.replica.specs.Fault.{fault_of, is_log};
 ghost use Rattle.replica.specs.Logged.{uses_log};
 ghost use Rattle.shard.specs.Answering as spec;
 
-use engine::{Hit as Found, Snapshot};
+use engine::{Hit as Found, Hits, Snapshot};
 use front::command::{Change, Command, Condition, Write};
 use front::reply::{Found as Document, Hit, Outcome, Refusal, Reply, Wrote};
 use query::{Page, Query, SearchBody};
@@ -105,7 +105,7 @@ fn input_of(write: Write) -> Input
 }
 
 /// The write, as a copy takes it.
-pub(crate) fn write_of(write: Write) -> replica::Write
+pub fn write_of(write: Write) -> replica::Write
     ensures { result ≡ spec.write_of write }
 {
     let Write {
@@ -151,7 +151,7 @@ pub(crate) fn reply_of(output: Output) -> Reply
 }
 
 /// The reply that tells an answer; so many copies have to acknowledge a write.
-pub(crate) fn reply_in(answer: Answer, copies: u64) -> Reply
+pub fn reply_in(answer: Answer, copies: u64) -> Reply
     ensures { reply_view result ≡ spec.reply_of copies answer }
 {
     match answer {
@@ -188,7 +188,7 @@ fn replied_outcome(outcome: replica::Outcome) -> Outcome
 }
 
 /// The refusal that tells why a copy refuses a step.
-pub(crate) fn refusal_of(fault: &CopyFault) -> Refusal
+pub fn refusal_of(fault: &CopyFault) -> Refusal
     ensures { result ≡ spec.refusal_of fault.now }
 {
     match fault {
@@ -232,28 +232,29 @@ pub(crate) fn search_of(
 ) -> Result<Reply, AllocError>
     ensures { IfOk result (λ r. reply_view r ≡ spec.hits_of (answer_of snapshot.now (query_view body.now.query) body.now.page)) }
 {
-    let found = snapshot.search(alloc, &body.query, body.page)?;
-    let hits = hits_of(alloc, &found.hits)?;
-    Ok(Reply::Hits(found.total, hits))
+    let Hits { total, hits } = snapshot.search(alloc, &body.query, body.page)?;
+    let hits = hits_of(alloc, hits)?;
+    Ok(Reply::Hits(total, hits))
 }
 
-pub(crate) fn hits_of(alloc: Global, found: &[Found]) -> Result<Vec<Hit>, AllocError>
-    ensures { IfOk result (λ hits. hits.items ≡ map (λ h. spec.hit_of (hit_view h)) found.now) }
+/// The hits of a page, which take the ids and the texts of what was found.
+pub fn hits_of(alloc: Global, handed: Vec<Found>) -> Result<Vec<Hit>, AllocError>
+    ensures { IfOk result (λ hits. hits.items ≡ map (λ h. spec.hit_of (hit_view h)) handed.items) }
 {
-    let mut hits = Vec::new(alloc);
-    for hit in found {
-        hits.push(hit_of(alloc, hit)?)?;
+    let mut hits = Vec::with_capacity(alloc, handed.len())?;
+    for hit in handed {
+        hits.push(hit_of(hit))?;
     }
     Ok(hits)
 }
 
-fn hit_of(alloc: Global, found: &Found) -> Result<Hit, AllocError>
-    ensures { IfOk result (λ hit. hit ≡ spec.hit_of (hit_view found.now)) }
+fn hit_of(found: Found) -> Hit
+    ensures { result ≡ spec.hit_of (hit_view found) }
 {
-    Ok(Hit {
-        id: found.id.copy(alloc)?,
-        source: found.source.copy(alloc)?,
-    })
+    Hit {
+        id: found.id,
+        source: found.source,
+    }
 }
 
 fn count<D: LogDevice>(alloc: Global, copy: &Copy<D>, query: &Query) -> Result<Reply, CopyFault>

@@ -1,13 +1,10 @@
-//! An index as a service that answers the requests of HTTP: one of one copy, and one of several copies on threads of their own.
+//! An index of one copy as a service that answers the requests of HTTP.
 #![tactic(auto)]
 
-mod answering;
+pub mod answering;
 pub mod desk;
-pub mod group;
-mod promoting;
 mod ready;
 pub mod shard;
 
 pub use desk::{Desk, SharedShard};
-pub use group::Group;
 pub use shard::Shard;

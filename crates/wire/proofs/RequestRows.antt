@@ -22,6 +22,10 @@ pub twice : requests (put_text ++ put_text) ≡ good put_request ∷ good put_re
 unfolding requests first cut framed framing head_of is_token_byte trim_ows is_utf8 chars encode_utf8
 twice = refl
 
+pub head : requests (codes "HEAD / HTTP/1.1\r\n\r\nGET / HTTP/1.1\r\n\r\n") ≡ good (record { method = codes "HEAD"; target = codes "/"; body = [] }) ∷ []
+unfolding requests first cut framed framing head_of is_token_byte trim_ows is_utf8 chars encode_utf8
+head = refl
+
 pub version : requests (codes "GET / HTTP/9.9\r\n\r\n") ≡ bad bad_head ∷ []
 unfolding requests first cut framed framing head_of is_token_byte trim_ows is_utf8 chars encode_utf8
 version = refl

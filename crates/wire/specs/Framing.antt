@@ -72,10 +72,14 @@ lists_close value = list_any is_close (slice_split (λ b. b == 44) value)
 abbrev pub closing : List (List ℕ × List ℕ) → Bool
 closing fields = list_any (λ f. is_named f.0 (codes "connection") && lists_close f.1) fields
 
+-- a stream ends after a request of HTTP/1.0, after one that asks for it, and after a HEAD, whose page has a body that no client reads
+abbrev pub ends_after : HeadData → Bool
+ends_after h = h.minor == 0 || bytes_eq h.method (codes "HEAD") || closing h.fields
+
 -- the faults in order: of the lengths, of a transfer coding, of the size
 unfoldable pub framing : HeadData → Result Frame Fault
 framing h =
-    lengths None h.fields >>= λ n. uncoded (is_coded h.fields) >>= λ u. size_of n >>= λ size. Ok (record { length = size; closes = h.minor == 0 || closing h.fields })
+    lengths None h.fields >>= λ n. uncoded (is_coded h.fields) >>= λ u. size_of n >>= λ size. Ok (record { length = size; closes = ends_after h })
 
 -- a request that stands whole: the parts that say what it asks
 pub record Request : Type 0 where

@@ -28,8 +28,15 @@ pub(crate) fn framing<'b>(head: &Head<'b>) -> Result<Frame, HeadFault>
     let length = length_of(&head.fields)?;
     check_coding(&head.fields)?;
     let length = size_of(length)?;
-    let closes = head.minor == 0 || is_closing(&head.fields);
+    let closes = ends_after(head);
     Ok(Frame { length, closes })
+}
+
+/// Whether the stream ends after a request: a HEAD's page has no body for a client (RFC 9110, section 9.3.2), so what follows ours would be garbled.
+fn ends_after<'b>(head: &Head<'b>) -> bool
+    ensures { result ≡ spec.ends_after (head_view head.now) }
+{
+    head.minor == 0 || head.method == b"HEAD".as_slice() || is_closing(&head.fields)
 }
 
 /// The significant digits of the one number that all fields `content-length` give: they can tell numbers apart that no machine number holds.

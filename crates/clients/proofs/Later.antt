@@ -1,0 +1,96 @@
+-- The first request stays the first, whatever comes behind it.
+use Rattle.std.proofs.Common.{◌≡◌, ℕ, zero, suc, ◌≤◌, Bool, true, false, List, [], ◌∷◌, ◌++◌, length, take, drop, Option, Some, None, Result, Ok, Err, if◌then◌else◌, nat_le, refl, sym, ap, ◌∙◌, arith, length-append}
+use Rattle.wire.specs.Cut.{Cut, short, long, whole, onto, next, cut_at, cut_from, cut}
+use Rattle.wire.specs.Fault.{Fault}
+use Rattle.wire.specs.Framing.{First, none, broken, asked, Framed, framed, with_body, after_cut, first}
+use Rattle.wire.specs.Requests.{Standing, requests_after, requests}
+use Rattle.wire.proofs.Standings.{requests_step}
+use Rattle.clients.specs.Steps.{IsNext}
+
+-- a head that was cut off stays the same
+abbrev Behind : List ℕ → Cut → Cut → Type 0
+Behind more short c = Unit {0}
+Behind more long c = c ≡ long
+Behind more (whole head rest) c = c ≡ whole head (rest ++ more)
+
+behind_onto : (more : List ℕ) (b : ℕ) (c d : Cut) → Behind more c d → Behind more (onto b c) (onto b d)
+behind_onto more b short d h = tt
+behind_onto more b long d h = ap (onto b) h
+behind_onto more b (whole head rest) d h = ap (onto b) h
+
+behind_at : (more : List ℕ) (b : ℕ) (bs : List ℕ) (f g : _ → Cut) (o : Option _) → ((p : _) → Behind more (f p) (g p)) → Behind more (cut_at b bs f o) (cut_at b (bs ++ more) g o)
+behind_at more b bs f g None h = refl
+behind_at more b bs f g (Some p) h = behind_onto more b (f p) (g p) (h p)
+
+behind_from : (more : List ℕ) (room : ℕ) (p : _) (bs : List ℕ) → Behind more (cut_from room p bs) (cut_from room p (bs ++ more))
+behind_from more zero p bs = refl
+behind_from more (suc room) p [] = tt
+behind_from more (suc room) p (b ∷ bs) = behind_at more b bs (λ q. cut_from room q bs) (λ q. cut_from room q (bs ++ more)) (next p b) (λ q. behind_from more room q bs)
+
+-- what stands first stays the same
+abbrev Later : List ℕ → First → First → Type 0
+Later more none f = Unit {0}
+Later more (broken x) f = f ≡ broken x
+Later more (asked r closes rest) f = f ≡ asked r closes (rest ++ more)
+
+take_in : (n : ℕ) (xs ys : List ℕ) → n ≤ length xs → take n (xs ++ ys) ≡ take n xs
+take_in zero xs ys h = refl
+take_in (suc n) [] ys h = absurd (omega arith)
+take_in (suc n) (x ∷ xs) ys h = ap (λ l. x ∷ l) (take_in n xs ys (omega arith))
+
+drop_in : (n : ℕ) (xs ys : List ℕ) → n ≤ length xs → drop n (xs ++ ys) ≡ drop n xs ++ ys
+drop_in zero xs ys h = refl
+drop_in (suc n) [] ys h = absurd (omega arith)
+drop_in (suc n) (x ∷ xs) ys h = drop_in n xs ys (omega arith)
+
+le_true : (n m : ℕ) → n ≤ m → nat_le n m ≡ true
+le_true n m h = grind arith
+
+true_le : (n m : ℕ) → nat_le n m ≡ true → n ≤ m
+true_le n m h = grind arith
+
+true_if : {A : Type 0} (b : Bool) (x y : A) → b ≡ true → (if b then x else y) ≡ x
+true_if true x y e = refl
+true_if false x y e = absurd (cc e)
+
+later_if : (more rest : List ℕ) (x : Framed) (b : Bool) → nat_le x.frame.length (length rest) ≡ b
+    → Later more (if b then asked (record { method = x.method; target = x.target; body = take x.frame.length rest }) x.frame.closes (drop x.frame.length rest) else none) (with_body (rest ++ more) (Ok x))
+later_if more rest x false e = tt
+later_if more rest x true e =
+    let fits : x.frame.length ≤ length rest = true_le x.frame.length (length rest) e in
+    let still : nat_le x.frame.length (length (rest ++ more)) ≡ true = le_true x.frame.length (length (rest ++ more)) (omega (arith, fits, length-append rest more)) in
+    true_if (nat_le x.frame.length (length (rest ++ more))) (asked (record { method = x.method; target = x.target; body = take x.frame.length (rest ++ more) }) x.frame.closes (drop x.frame.length (rest ++ more))) none still
+    ∙ ap (λ body. asked (record { method = x.method; target = x.target; body = body }) x.frame.closes (drop x.frame.length (rest ++ more))) (take_in x.frame.length rest more fits)
+    ∙ ap (λ behind. asked (record { method = x.method; target = x.target; body = take x.frame.length rest }) x.frame.closes behind) (drop_in x.frame.length rest more fits)
+
+later_body : (more rest : List ℕ) (f : Result Framed Fault) → Later more (with_body rest f) (with_body (rest ++ more) f)
+later_body more rest (Err x) = refl
+later_body more rest (Ok x) = later_if more rest x (nat_le x.frame.length (length rest)) refl
+
+later_cut : (more : List ℕ) (c d : Cut) → Behind more c d → Later more (after_cut c) (after_cut d)
+later_cut more short d h = tt
+later_cut more long d h = ap after_cut h
+later_cut more (whole head rest) d h = let same : d ≡ whole head (rest ++ more) = h in rw same (later_body more rest (framed head))
+
+behind : (bs more : List ℕ) → Behind more (cut bs) (cut (bs ++ more))
+unfolding cut
+behind bs more = search behind_from
+
+later : (bs more : List ℕ) → Later more (first bs) (first (bs ++ more))
+unfolding first
+later bs more = later_cut more (cut bs) (cut (bs ++ more)) (behind bs more)
+
+later_of : (more rest : List ℕ) (f g : First) (q : Standing) (ended : Bool) → Later more f g → IsNext f q rest ended
+    → requests_after g requests ≡ q ∷ (if ended then [] else requests (rest ++ more))
+later_of more rest none g q ended l h = absurd h
+later_of more rest (broken x) g q ended l h = ap (λ f. requests_after f requests) l ∙ ap (λ p. p ∷ []) (sym h.0) ∙ ap (λ e. q ∷ (if e then [] else requests (rest ++ more))) (sym h.1)
+later_of more rest (asked r closes bytes) g q ended l h =
+    ap (λ f. requests_after f requests) l
+    ∙ ap (λ p. p ∷ (if closes then [] else requests (bytes ++ more))) (sym h.0)
+    ∙ ap (λ b. q ∷ (if closes then [] else requests (b ++ more))) (sym h.1)
+    ∙ ap (λ e. q ∷ (if e then [] else requests (rest ++ more))) (sym h.2)
+
+-- the first request, and then those of the bytes behind it and of what comes later
+pub next_later : (bs more rest : List ℕ) (q : Standing) (ended : Bool) → IsNext (first bs) q rest ended
+    → requests (bs ++ more) ≡ q ∷ (if ended then [] else requests (rest ++ more))
+next_later bs more rest q ended h = requests_step (bs ++ more) ∙ later_of more rest (first bs) (first (bs ++ more)) q ended (later bs more) h

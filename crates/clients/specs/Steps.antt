@@ -1,0 +1,57 @@
+-- The steps of a conversation.
+use Rattle.std.specs.Prelude.{◌≡◌, ℕ, List, [], ◌++◌, length, Bool, true, false, Option, Some, None, if◌then◌else◌}
+use Rattle.std.specs.Io.KnownBytes.{Consumes, Appends}
+use Rattle.doc.specs.Mapping.{MappingData}
+use Rattle.wire.specs.declared.reading.Whole.{Whole}
+use Rattle.wire.specs.Framing.{First, none, broken, asked, first}
+use Rattle.wire.specs.Reading.{IsStanding}
+use Rattle.wire.specs.Requests.{Standing, bad, good, requests}
+use Rattle.front.specs.Command.{Command}
+use Rattle.front.specs.Reply.{Reply}
+use Rattle.front.specs.Greeting.{Greeted}
+use Rattle.front.specs.Serving.{Answered}
+use Rattle.front.specs.Work.{work_of}
+use Rattle.clients.specs.Talk.{Talk}
+
+-- these bytes came behind the others
+abbrev pub Receives : List ℕ → Talk → Talk → Type 0
+Receives bytes old new = (new.waiting ≡ old.waiting ++ bytes) × (new.unsent ≡ old.unsent) × (new.ended ≡ old.ended)
+
+-- these bytes, the first that weren't sent, were sent
+abbrev pub Sends : List ℕ → Talk → Talk → Type 0
+Sends bytes old new = (new.waiting ≡ old.waiting) × (old.unsent ≡ bytes ++ new.unsent) × (new.ended ≡ old.ended)
+
+-- so many bytes were read, and came behind the others
+abbrev pub Gathers : ℕ → Option (List ℕ) → Option (List ℕ) → Talk → Talk → Type 0
+Gathers n left after old new = (bytes : List ℕ) × (length bytes ≡ n) × Consumes left after bytes × Receives bytes old new
+
+-- so many bytes, the first that weren't sent, were written
+abbrev pub SendsTo : ℕ → Option (List ℕ) → Option (List ℕ) → Talk → Talk → Type 0
+SendsTo n before after old new = (bytes : List ℕ) × (length bytes ≡ n) × Appends before after bytes × Sends bytes old new
+
+-- this request stands first, these bytes are behind it, and this is whether the stream ends after it
+abbrev pub IsNext : First → Standing → List ℕ → Bool → Type 0
+IsNext none q rest ended = ⊥
+IsNext (broken x) q rest ended = (q ≡ bad x) × (ended ≡ true)
+IsNext (asked r closes bytes) q rest ended = (q ≡ good r) × (rest ≡ bytes) × (ended ≡ closes)
+
+-- a request was answered by the one rule or the other: as the client libraries of Elasticsearch ask it, or as it stands
+abbrev pub AnsweredBy : {S : Type 0} → Bool → (S → Command → Reply → S → Type 0) → List ℕ → MappingData → Standing → S → List ℕ → S → Type 0
+AnsweredBy true answers index mapping q s out t = Greeted answers index mapping q s out t
+AnsweredBy false answers index mapping q s out t = Answered answers index (work_of index mapping q) s out t
+
+-- the first request of the bytes that wait was answered, once, and its page waits to be sent
+pub record Answers {S : Type 0} (greets : Bool) (answers : S → Command → Reply → S → Type 0) (index : List ℕ) (mapping : MappingData) (q : Standing) (s t : S) (old new : Talk) : Type 0 where
+  pub going : old.ended ≡ false
+  pub sent : old.unsent ≡ []
+  pub is_first : IsNext (first old.waiting) q new.waiting new.ended
+  pub answered : AnsweredBy greets answers index mapping q s new.unsent t
+
+-- the requests that stand whole and aren't answered
+abbrev pub standing : Talk → List Standing
+standing c = if c.ended then [] else requests c.waiting
+
+-- the request was answered, or where there was none nothing was done
+abbrev pub AnswersNext : {S : Type 0} → Bool → (S → Command → Reply → S → Type 0) → List ℕ → MappingData → S → S → Talk → Talk → Option Whole → Type 0
+AnswersNext greets answers index mapping s t old new None = (standing old ≡ []) × (t ≡ s) × (new ≡ old)
+AnswersNext greets answers index mapping s t old new (Some w) = (q : Standing) × IsStanding w q × Answers greets answers index mapping q s t old new

@@ -1,0 +1,57 @@
+//! Room for the bytes of unfinished requests, handed out in turn.
+
+use crate::limits::{LONGEST_REQUEST, SHARE};
+use std::alloc::{AllocError, Global};
+use std::collections::VecDeque;
+
+/// Places of one size, and those who wait for one, the first to come in front.
+#[derive(Drop)]
+pub(crate) struct Places {
+    free: usize,
+    line: VecDeque<usize>,
+}
+
+impl Places {
+    fn new(alloc: Global, count: usize) -> Places {
+        Places {
+            free: count.max(1),
+            line: VecDeque::new(alloc),
+        }
+    }
+
+    /// Whether there was a place; else this one stands in line for the next.
+    pub(crate) fn take(&mut self, who: usize) -> Result<bool, AllocError> {
+        if self.free == 0 || !self.line.is_empty() {
+            self.line.push_back(who)?;
+            return Ok(false);
+        }
+        self.free -= 1;
+        Ok(true)
+    }
+
+    /// A place is given back. It goes to the first in line.
+    pub(crate) fn give_back(&mut self) -> Option<usize> {
+        let next = self.line.pop_front();
+        if next.is_none() {
+            self.free = self.free.saturating_add(1);
+        }
+        next
+    }
+}
+
+/// One half is for small shares, the other for tickets, each room for the longest request.
+#[derive(Drop)]
+pub(crate) struct Budget {
+    pub(crate) shares: Places,
+    pub(crate) tickets: Places,
+}
+
+impl Budget {
+    pub(crate) fn new(alloc: Global, bytes: u64) -> Budget {
+        let half = bytes as usize / 2;
+        Budget {
+            shares: Places::new(alloc, half / SHARE),
+            tickets: Places::new(alloc, half / LONGEST_REQUEST),
+        }
+    }
+}

@@ -1,0 +1,357 @@
+//! Connections that a few threads serve: each in turn waits for all, and works on what is ready.
+
+use crate::connection::{Connection, Next};
+use crate::limits::{Limits, ROOM, SWEEP};
+use crate::noting::Noting;
+use crate::poller::{LISTENER, Poller};
+use crate::table::{Job, Table};
+use crate::watcher::Watcher;
+use front::{Command, Reply, Service};
+use mio::net::TcpStream;
+use mio::{Interest, Token, Waker};
+use std::alloc::Global;
+use std::io::ErrorKind;
+use std::net::{Net, TcpListener};
+use std::sync::atomic::{AtomicBool, Ordering};
+use std::sync::{Mutex, Wait};
+use std::time::{Clock, Duration, Instant};
+use std::{io, thread};
+
+/// The longest wait between two looks whether the server has ended, in milliseconds.
+const TICK: u64 = 50;
+
+/// How many connections are accepted before others are looked at.
+const MOST_ACCEPTED: u64 = 256;
+
+/// The connections of a listener.
+#[derive(Drop)]
+pub struct Clients<'w, W: Watcher> {
+    alloc: Global,
+    limits: Limits,
+    watcher: &'w W,
+    started: Option<Instant>,
+    poller: Mutex<Poller>,
+    table: Mutex<Table>,
+    waker: Waker,
+    all_begun: AtomicBool,
+    ended: AtomicBool,
+    written: AtomicBool,
+}
+
+impl<'w, W: Watcher> Clients<'w, W> {
+    /// The connections that come to a listener.
+    pub fn new<R: Net + Clock>(
+        rt: &R,
+        alloc: Global,
+        listener: TcpListener,
+        limits: Limits,
+        watcher: &'w W,
+    ) -> io::Result<Clients<'w, W>> {
+        let (poller, waker) = Poller::new(rt, alloc, listener)?;
+        let idle = limits.idle.saturating_mul(1000);
+        Ok(Clients {
+            alloc,
+            limits,
+            watcher,
+            started: Instant::now(rt).ok(),
+            poller: Mutex::new(poller),
+            table: Mutex::new(Table::new(alloc, limits.bytes, idle)),
+            waker,
+            all_begun: AtomicBool::new(limits.connections == Some(0)),
+            ended: AtomicBool::new(limits.connections == Some(0)),
+            written: AtomicBool::new(false),
+        })
+    }
+
+    /// In how many threads `run` is to be called: those that work, and the one that refreshes.
+    pub fn lanes(&self) -> usize {
+        self.limits.working() + 1
+    }
+
+    /// Serves connections in this lane with this service, until the last that is wanted has ended; in the last lane it refreshes the index.
+    pub fn run<R: Wait + Clock, S: Service + Drop>(
+        &self,
+        rt: &R,
+        lane: usize,
+        service: S,
+    ) -> io::Result<()> {
+        let mut service = Noting {
+            service,
+            written: &self.written,
+        };
+        if lane >= self.limits.working() {
+            self.refresh_in_turn(rt, &mut service);
+            return Ok(());
+        }
+        let worked = self.serve(rt, &mut service);
+        self.end();
+        worked
+    }
+
+    /// Works on what is ready, and where nothing is waits until something is.
+    fn serve<R: Wait + Clock, S: Service>(&self, rt: &R, service: &mut S) -> io::Result<()> {
+        let mut room = Vec::from_elem(self.alloc, 0u8, ROOM)?;
+        for _ in rt.forever() {
+            if self.ended.load(Ordering::SeqCst) {
+                return Ok(());
+            }
+            match self.next_job(rt) {
+                Some(job) => self.work(rt, job, service, &mut room),
+                None => self.lead(rt, service, &mut room)?,
+            }
+        }
+        unreachable!()
+    }
+
+    fn next_job<R: Wait>(&self, rt: &R) -> Option<Job> {
+        let mut table = self.table.lock(rt);
+        table.next()
+    }
+
+    /// Has the connection do what it can, and puts it back.
+    fn work<R: Wait + Clock, S: Service>(
+        &self,
+        rt: &R,
+        job: Job,
+        service: &mut S,
+        room: &mut [u8],
+    ) {
+        let mut job = job;
+        let next = job.connection.work(service, self.watcher, room);
+        let now = self.now(rt);
+        if next == Next::Ended {
+            return self.close(rt, job, now);
+        }
+        let mut table = self.table.lock(rt);
+        table.put(job, next, now);
+    }
+
+    /// Ends a connection.
+    fn close<R: Wait>(&self, rt: &R, job: Job, now: u64) {
+        let Job { place, connection } = job;
+        let (share, ticket) = (connection.has_share, connection.has_ticket);
+        drop(connection);
+        let mut table = self.table.lock(rt);
+        table.end(place, share, ticket, now);
+        let open = table.open();
+        drop(table);
+        self.end_behind_last(open);
+    }
+
+    /// Ends the server where all connections that are wanted have begun, and none is open.
+    fn end_behind_last(&self, open: usize) {
+        if open == 0 && self.all_begun.load(Ordering::SeqCst) {
+            self.end();
+        }
+    }
+
+    fn end(&self) {
+        self.ended.store(true, Ordering::SeqCst);
+        let _ = self.waker.wake();
+    }
+
+    /// Waits for all connections, while no other thread does. As long as only one is open this thread works on it itself: nobody else is held up.
+    fn lead<R: Wait + Clock, S: Service>(
+        &self,
+        rt: &R,
+        service: &mut S,
+        room: &mut [u8],
+    ) -> io::Result<()> {
+        let mut poller = self.poller.lock(rt);
+        for _ in rt.forever() {
+            if self.ended.load(Ordering::SeqCst) || self.is_ready(rt) {
+                return Ok(());
+            }
+            self.look(rt, &mut poller)?;
+            let Some((job, open)) = self.next_of(rt) else {
+                continue;
+            };
+            if open > 1 {
+                drop(poller);
+                self.work(rt, job, service, room);
+                return Ok(());
+            }
+            self.work(rt, job, service, room);
+        }
+        unreachable!()
+    }
+
+    /// The next connection that is ready, and how many are open.
+    fn next_of<R: Wait>(&self, rt: &R) -> Option<(Job, usize)> {
+        let mut table = self.table.lock(rt);
+        let job = table.next()?;
+        Some((job, table.open()))
+    }
+
+    fn is_ready<R: Wait>(&self, rt: &R) -> bool {
+        let table = self.table.lock(rt);
+        table.is_ready()
+    }
+
+    /// Waits until something is ready, and notes what is.
+    fn look<R: Wait + Clock>(&self, rt: &R, poller: &mut Poller) -> io::Result<()> {
+        let most = if poller.calls && poller.full.is_none() {
+            0
+        } else {
+            SWEEP
+        };
+        poller.wait(most)?;
+        let now = self.now(rt);
+        let mut table = self.table.lock(rt);
+        for event in &poller.events {
+            let Token(place) = event.token();
+            if place == LISTENER {
+                poller.calls = true;
+            } else {
+                table.note(place, event.is_read_closed());
+            }
+        }
+        if now.saturating_sub(poller.swept) >= SWEEP {
+            poller.swept = now;
+            table.sweep(now);
+        }
+        let open = table.open();
+        drop(table);
+        if poller.calls && may_accept(poller.full, now, open) {
+            self.accept(rt, poller, now);
+        }
+        Ok(())
+    }
+
+    /// Accepts the connections that wait, so many at most.
+    fn accept<R: Wait>(&self, rt: &R, poller: &mut Poller, now: u64) {
+        for _ in 0..MOST_ACCEPTED {
+            if self.has_all(poller) {
+                self.stop_accepting(rt, poller);
+                return;
+            }
+            match poller.listener.accept() {
+                Ok((stream, _)) => {
+                    poller.full = None;
+                    self.admit(rt, poller, stream, now);
+                }
+                Err(error) => match error.kind() {
+                    ErrorKind::WouldBlock => {
+                        poller.calls = false;
+                        return;
+                    }
+                    ErrorKind::Interrupted | ErrorKind::ConnectionAborted => {}
+                    _ => {
+                        self.is_full(rt, poller, now);
+                        return;
+                    }
+                },
+            }
+        }
+    }
+
+    /// No connection can be had: it is tried again when one has ended, or after a second. Those that come wait, and the others go on.
+    fn is_full<R: Wait>(&self, rt: &R, poller: &mut Poller, now: u64) {
+        let open = self.table.lock(rt).open();
+        poller.full = Some((now, open));
+        if !poller.told {
+            poller.told = true;
+            self.watcher.is_full();
+        }
+    }
+
+    fn has_all(&self, poller: &Poller) -> bool {
+        match self.limits.connections {
+            Some(most) => poller.begun >= most,
+            None => false,
+        }
+    }
+
+    /// No more connections are wanted.
+    fn stop_accepting<R: Wait>(&self, rt: &R, poller: &mut Poller) {
+        poller.calls = false;
+        let _ = poller.poll.registry().deregister(&mut poller.listener);
+        self.all_begun.store(true, Ordering::SeqCst);
+        let open = self.table.lock(rt).open();
+        self.end_behind_last(open);
+    }
+
+    /// Takes a connection into the table. One for which memory is wanting ends at once.
+    fn admit<R: Wait>(&self, rt: &R, poller: &mut Poller, stream: TcpStream, now: u64) {
+        poller.begun = poller.begun.saturating_add(1);
+        let mut stream = stream;
+        let _ = stream.set_nodelay(true);
+        let begun = self.table.lock(rt).begin();
+        let Ok(place) = begun else {
+            return;
+        };
+        let interests = Interest::READABLE | Interest::WRITABLE;
+        let registered = poller
+            .poll
+            .registry()
+            .register(&mut stream, Token(place), interests);
+        let deadline = now.saturating_add(self.limits.idle.saturating_mul(1000));
+        let connection = Box::new(
+            self.alloc,
+            Connection::new(
+                self.alloc,
+                poller.begun,
+                stream,
+                deadline,
+                self.limits.greets,
+            ),
+        );
+        let mut table = self.table.lock(rt);
+        match connection {
+            Ok(connection) if registered.is_ok() => table.start(place, connection),
+            _ => table.end(place, false, false, now),
+        }
+    }
+
+    /// How many milliseconds have gone by; 0 where no clock can be read, and then no time is over.
+    fn now<R: Clock>(&self, clock: &R) -> u64 {
+        let Some(started) = self.started else {
+            return 0;
+        };
+        match started.elapsed(clock) {
+            Ok(gone) => gone
+                .as_secs()
+                .saturating_mul(1000)
+                .saturating_add(u64::from(gone.subsec_millis())),
+            Err(_) => 0,
+        }
+    }
+
+    /// Refreshes the index again and again until the last connection has ended.
+    fn refresh_in_turn<C: Clock, S: Service>(&self, clock: &C, service: &mut S) {
+        if self.limits.refresh == 0 {
+            return;
+        }
+        let mut left = self.limits.refresh;
+        for _ in 0..u64::MAX {
+            if self.ended.load(Ordering::SeqCst) {
+                return;
+            }
+            let tick = left.min(TICK);
+            thread::sleep(clock, Duration::from_millis(tick));
+            left -= tick;
+            if left == 0 {
+                self.refresh_once(service);
+                left = self.limits.refresh;
+            }
+        }
+    }
+
+    /// Refreshes the index where something was written. What is refused is tried again the next time.
+    fn refresh_once<S: Service>(&self, service: &mut S) {
+        if !self.written.swap(false, Ordering::SeqCst) {
+            return;
+        }
+        if let Reply::Refused(_) = service.call(Command::Refresh) {
+            self.written.store(true, Ordering::SeqCst);
+        }
+    }
+}
+
+/// Whether it is time to accept: no connection was refused, or one has ended since, or a while has gone by.
+fn may_accept(full: Option<(u64, usize)>, now: u64, open: usize) -> bool {
+    match full {
+        Some((since, then)) => open < then || now.saturating_sub(since) >= SWEEP,
+        None => true,
+    }
+}

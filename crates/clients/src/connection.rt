@@ -1,0 +1,258 @@
+//! One connection: what it does when something may have come, and when it has waited for too long.
+
+use crate::conversation::Conversation;
+use crate::limits::{LINGER, LONGEST_REQUEST, MOST_LINGERING, PATIENCE, SHARE, STEPS_IN_A_ROW};
+use crate::progress::Progress;
+use crate::watcher::Watcher;
+use front::Service;
+use mio::net::TcpStream;
+use std::alloc::Global;
+use std::io::{Error, ErrorKind, Read};
+use std::net::Shutdown;
+
+/// What comes next for a connection.
+#[derive(Clone, Copy, Debug, PartialEq, Eq)]
+pub(crate) enum Next {
+    /// It waits for its peer.
+    Waits,
+    /// It has more to do, behind the others.
+    Goes,
+    /// It needs room for a large request.
+    Wants,
+    Ended,
+}
+
+/// What a connection waits for, apart from its peer.
+#[derive(Clone, Copy, Debug, PartialEq, Eq)]
+pub(crate) enum Held {
+    Free,
+    ForShare,
+    ForTicket,
+}
+
+/// What the times of a connection are counted for.
+#[derive(Clone, Copy, Debug, PartialEq, Eq)]
+enum Phase {
+    Idle,
+    Receiving,
+    Sending,
+    Lingering,
+    Held,
+}
+
+/// A connection, its conversation, and what it holds of the room for unfinished requests.
+#[derive(Drop)]
+pub(crate) struct Connection {
+    number: u64,
+    stream: TcpStream,
+    conversation: Conversation,
+    progress: Progress,
+    answered: u64,
+    drained: bool,
+    lingers: Option<usize>,
+    phase: Phase,
+    since: u64,
+    pub(crate) deadline: u64,
+    pub(crate) held: Held,
+    pub(crate) has_share: bool,
+    pub(crate) has_ticket: bool,
+    pub(crate) closed: bool,
+    pub(crate) expired: bool,
+}
+
+impl Connection {
+    pub(crate) fn new(
+        alloc: Global,
+        number: u64,
+        stream: TcpStream,
+        deadline: u64,
+        greets: bool,
+    ) -> Connection {
+        Connection {
+            number,
+            stream,
+            conversation: Conversation::new(alloc, greets),
+            progress: Progress::new(),
+            answered: 0,
+            drained: false,
+            lingers: None,
+            phase: Phase::Idle,
+            since: 0,
+            deadline,
+            held: Held::Free,
+            has_share: false,
+            has_ticket: false,
+            closed: false,
+            expired: false,
+        }
+    }
+
+    /// Does what can be done without waiting, up to so many steps.
+    pub(crate) fn work<S: Service, W: Watcher>(
+        &mut self,
+        service: &mut S,
+        watcher: &W,
+        room: &mut [u8],
+    ) -> Next {
+        if self.expired {
+            return Next::Ended;
+        }
+        self.drained = false;
+        for _ in 0..STEPS_IN_A_ROW {
+            let next = self.step(service, watcher, room);
+            if next != Next::Goes {
+                return next;
+            }
+        }
+        Next::Goes
+    }
+
+    /// Sends what waits to be sent, or else answers a request that stands whole, or else reads.
+    fn step<S: Service, W: Watcher>(
+        &mut self,
+        service: &mut S,
+        watcher: &W,
+        room: &mut [u8],
+    ) -> Next {
+        if !self.conversation.is_sent() {
+            return self.send();
+        }
+        if self.conversation.has_ended() {
+            return self.linger(room);
+        }
+        if self.progress.may_stand(self.conversation.waiting()) {
+            return self.answer(service, watcher);
+        }
+        self.gather(room)
+    }
+
+    fn send(&mut self) -> Next {
+        let mut stream = &self.stream;
+        match self.conversation.send(&mut stream) {
+            Ok(0) => Next::Ended,
+            Ok(_) => Next::Goes,
+            Err(error) => after(&error),
+        }
+    }
+
+    /// Answers the next request, and sends its page as far as it is taken at once. Where memory is wanting for it this connection ends.
+    fn answer<S: Service, W: Watcher>(&mut self, service: &mut S, watcher: &W) -> Next {
+        if !self.conversation.is_sent() {
+            return Next::Goes;
+        }
+        match self.conversation.answer(service) {
+            Ok(Some(request)) => {
+                watcher.answered(self.number, &request, self.conversation.page());
+                self.answered = self.answered.saturating_add(1);
+                self.progress = Progress::new();
+                self.send()
+            }
+            Ok(None) => {
+                self.progress.missed(self.conversation.waiting());
+                Next::Goes
+            }
+            Err(_) => Next::Ended,
+        }
+    }
+
+    /// Reads what came, as far as there is room for it.
+    fn gather(&mut self, room: &mut [u8]) -> Next {
+        if self.drained && !self.closed {
+            return Next::Waits;
+        }
+        let most = self.room_left().min(room.len());
+        if most == 0 {
+            return Next::Wants;
+        }
+        let mut stream = &self.stream;
+        match self.conversation.gather(&mut stream, &mut room[..most]) {
+            Ok(0) => Next::Ended,
+            Ok(n) => {
+                self.drained = n < most;
+                Next::Goes
+            }
+            Err(error) => after(&error),
+        }
+    }
+
+    /// How many bytes more it may hold.
+    fn room_left(&self) -> usize {
+        let most = if self.has_ticket {
+            LONGEST_REQUEST
+        } else {
+            SHARE
+        };
+        most.saturating_sub(self.conversation.waiting().len())
+    }
+
+    /// Reads on for a while after the last page, so that it isn't lost where the peer still sends (RFC 9112, section 9.6).
+    fn linger(&mut self, room: &mut [u8]) -> Next {
+        let Some(left) = self.lingers else {
+            return match self.stream.shutdown(Shutdown::Write) {
+                Ok(()) => {
+                    self.lingers = Some(MOST_LINGERING);
+                    Next::Goes
+                }
+                Err(_) => Next::Ended,
+            };
+        };
+        let mut stream = &self.stream;
+        match stream.read(room) {
+            Ok(0) => Next::Ended,
+            Ok(n) => {
+                self.lingers = Some(left.saturating_sub(n));
+                if n < left { Next::Goes } else { Next::Ended }
+            }
+            Err(error) => after(&error),
+        }
+    }
+
+    /// Whether it holds no byte of an unfinished request.
+    pub(crate) fn is_empty(&self) -> bool {
+        self.conversation.waiting().is_empty()
+    }
+
+    /// Whether the request that needed a ticket was answered.
+    pub(crate) fn is_small(&self) -> bool {
+        self.conversation.waiting().len() < SHARE
+    }
+
+    /// What it waits for now. Its time begins anew where that is something else than before.
+    pub(crate) fn rest(&mut self, now: u64, idle: u64) {
+        let phase = self.phase_now();
+        if phase == self.phase && self.answered == self.since {
+            return;
+        }
+        self.phase = phase;
+        self.since = self.answered;
+        self.deadline = match phase {
+            Phase::Idle => now.saturating_add(idle),
+            Phase::Receiving | Phase::Sending => now.saturating_add(PATIENCE),
+            Phase::Lingering => now.saturating_add(LINGER),
+            Phase::Held => u64::MAX,
+        };
+    }
+
+    fn phase_now(&self) -> Phase {
+        if self.held != Held::Free {
+            Phase::Held
+        } else if self.lingers.is_some() {
+            Phase::Lingering
+        } else if !self.conversation.is_sent() {
+            Phase::Sending
+        } else if self.is_empty() {
+            Phase::Idle
+        } else {
+            Phase::Receiving
+        }
+    }
+}
+
+/// What comes after a read or a write that gave this error.
+fn after(error: &Error) -> Next {
+    match error.kind() {
+        ErrorKind::WouldBlock => Next::Waits,
+        ErrorKind::Interrupted => Next::Goes,
+        _ => Next::Ended,
+    }
+}

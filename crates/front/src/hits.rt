@@ -1,0 +1,96 @@
+//! The page of a search's hits: one text, into which each hit is written.
+ghost use Rattle.std.specs.Prelude.{◌≡◌, ◌++◌, IfOk, OnOk, string_bytes};
+ghost use Rattle.front.specs.Page as spec;
+
+use crate::json_text::push_quoted;
+use crate::reply::Hit;
+use std::alloc::{AllocError, Global};
+
+/// The body of the page of a search's hits.
+#[tactic(auto, unfolding(crate::specs::Page::hits_body))]
+pub(crate) fn hits_body(
+    alloc: Global,
+    index: &str,
+    total: u64,
+    hits: &[Hit],
+) -> Result<String, AllocError>
+    ensures { IfOk result (λ t. string_bytes t ≡ spec.hits_body index.now total hits.now) }
+{
+    let middle = hit_middle(alloc, index)?;
+    let middle = middle.as_str();
+    let mut body = String::with_capacity(alloc, room_of(middle, hits))?;
+    body.push_str(
+        "{\"_shards\":{\"failed\":0,\"skipped\":0,\"successful\":1,\"total\":1},\"hits\":{\"hits\":[",
+    )?;
+    push_hits(alloc, &mut body, middle, hits)?;
+    write!(
+        body,
+        "],\"max_score\":null,\"total\":{{\"relation\":\"eq\",\"value\":{total}}}}},\"timed_out\":false,\"took\":0}}"
+    )?;
+    Ok(body)
+}
+
+/// What stands between a hit's id and its source, and is the same in each hit.
+#[tactic(auto, unfolding(crate::specs::Page::hit_middle))]
+fn hit_middle(alloc: Global, index: &str) -> Result<String, AllocError>
+    ensures { IfOk result (λ t. string_bytes t ≡ spec.hit_middle index.now) }
+{
+    let room = index.len().saturating_add(64);
+    let mut middle = String::with_capacity(alloc, room)?;
+    middle.push_str(",\"_index\":")?;
+    push_quoted(alloc, &mut middle, index)?;
+    middle.push_str(",\"_score\":null,\"_source\":")?;
+    Ok(middle)
+}
+
+/// Room for the body of a page, unless an id is escaped.
+fn room_of(middle: &str, hits: &[Hit]) -> usize {
+    let mut room: usize = 256;
+    for hit in hits {
+        room = room.saturating_add(room_of_hit(middle, hit));
+    }
+    room
+}
+
+fn room_of_hit(middle: &str, hit: &Hit) -> usize {
+    let texts = hit.id.as_str().len() + hit.source.as_str().len();
+    middle.len().saturating_add(texts + 16)
+}
+
+fn push_hits(alloc: Global, body: &mut String, middle: &str, hits: &[Hit]) -> Result<(), AllocError>
+    ensures { OnOk result (string_bytes body.new ≡ string_bytes body.old ++ spec.hits_text middle.now hits.now) }
+{
+    match hits {
+        [] => Ok(()),
+        [hit, others @ ..] => {
+            push_hit(alloc, body, middle, hit)?;
+            push_more_hits(alloc, body, middle, others)
+        }
+    }
+}
+
+fn push_more_hits(
+    alloc: Global,
+    body: &mut String,
+    middle: &str,
+    hits: &[Hit],
+) -> Result<(), AllocError>
+    ensures { OnOk result (string_bytes body.new ≡ string_bytes body.old ++ spec.more_hits middle.now hits.now) }
+{
+    for hit in hits {
+        body.push_str(",")?;
+        push_hit(alloc, body, middle, hit)?;
+    }
+    Ok(())
+}
+
+#[tactic(auto, unfolding(crate::specs::Page::hit_text))]
+fn push_hit(alloc: Global, body: &mut String, middle: &str, hit: &Hit) -> Result<(), AllocError>
+    ensures { OnOk result (string_bytes body.new ≡ string_bytes body.old ++ spec.hit_text middle.now hit.now) }
+{
+    body.push_str("{\"_id\":")?;
+    push_quoted(alloc, body, hit.id.as_str())?;
+    body.push_str(middle)?;
+    body.push_str(hit.source.as_str())?;
+    body.push_str("}")
+}

@@ -1,0 +1,288 @@
+//! An index of several copies, each on a thread of its own.
+ghost use Rattle.std.specs.Prelude.{◌≡◌, ◌<◌, IfOk};
+ghost use Rattle.query.specs.View.{query_view};
+ghost use Rattle.engine.specs.Shown.{hits_view};
+ghost use Rattle.front.specs.CommandView.{command_view};
+ghost use Rattle.front.specs.ReplyView.{reply_view};
+ghost use Rattle.shard.specs.Answering as spec;
+ghost use Rattle.group.specs.Group.{counted_in, told_by, IsCounted, IsDone, IsFound, IsGot, IsRefreshed, IsWritten};
+
+use crate::promoting::{is_promotion, promote, refusal_to};
+use cluster::{Client, ClusterFault, Confirmed};
+use doc::{DocId, Mapping};
+use engine::Hits;
+use front::Service;
+use front::command::{Command, Write};
+use front::reply::{Refusal, Reply};
+use node::Receipt;
+use published::{SearchFault, Searcher, Unnamed};
+use query::{Page, Query, SearchBody};
+use replica::{CopyFault, Output};
+use shard::answering::{hits_of, refusal_of, reply_in, write_of};
+use std::alloc::{AllocError, Global};
+use std::sync::{Mutex, Wait};
+use translog::LogDevice;
+
+/// A searcher of a copy.
+#[derive(Drop)]
+struct Seat {
+    copy: u32,
+    searcher: Searcher<Unnamed>,
+}
+
+/// A place for a searcher. A copy has eight seats, so where there are more threads some share a place, and one of them waits for the search of another
+/// there, and for no write.
+#[derive(Drop)]
+pub struct Chair {
+    seat: Mutex<Option<Seat>>,
+}
+
+impl Chair {
+    /// A place with a searcher of the primary where that can be had; else the first search there asks for it.
+    pub fn new<R: Wait, D: LogDevice>(rt: &R, client: &Client<D>) -> Chair {
+        Chair {
+            seat: Mutex::new(seat_of(rt, client).ok()),
+        }
+    }
+}
+
+/// A searcher of the primary.
+fn seat_of<R: Wait, D: LogDevice>(rt: &R, client: &Client<D>) -> Result<Seat, ClusterFault> {
+    let copy = client.primary(rt);
+    let searcher = client.searcher(rt, copy)?;
+    Ok(Seat { copy, searcher })
+}
+
+/// An index of several copies, as one thread has it. Writes and gets are the primary's; searches are of what the primary has published, by a
+/// searcher that waits for no copy; a refresh is of each copy.
+#[derive(Drop)]
+pub struct Group<'a, R: Wait, D: LogDevice> {
+    pub rt: &'a R,
+    pub alloc: Global,
+    pub name: &'a str,
+    pub mapping: &'a Mapping,
+    pub client: &'a Client<D>,
+    /// Where the searcher of the last search is kept.
+    pub chair: &'a Chair,
+}
+
+impl<'a, R: Wait, D: LogDevice> Service for Group<'a, R, D> {
+    ghost use Rattle.group.specs.Group.{IsGroupReply};
+
+    ghost name = { λ g. g.name.now };
+
+    ghost fields = { λ g. g.mapping.now };
+
+    ghost answers = { λ g c r h. IsGroupReply c r };
+
+    fn index(&self) -> &str {
+        self.name
+    }
+
+    fn mapping(&self) -> &Mapping {
+        self.mapping
+    }
+
+    fn call(&mut self, command: Command) -> Reply {
+        let promotes = is_promotion(&command);
+        match self.answer(command) {
+            Ok(reply) => reply,
+            Err(fault) => Reply::Refused(refusal_to(promotes, &fault)),
+        }
+    }
+}
+
+impl<'a, R: Wait, D: LogDevice> Group<'a, R, D> {
+    /// Has the copies do a command.
+    fn answer(&self, command: Command) -> Result<Reply, ClusterFault>
+        ensures { IfOk result (λ r. IsDone (command_view command) (reply_view r)) }
+    {
+        match command {
+            Command::Write(write) => self.write(write),
+            Command::Get(id) => self.get(id),
+            Command::Search(body) => self.search(&body),
+            Command::Count(query) => self.count(&query),
+            Command::Refresh => self.refresh(),
+            Command::Promote(copy) => promote(self.rt, self.client, copy),
+        }
+    }
+
+    /// Has the primary do a write, and waits until each member has it; then come the refreshes that are wanted.
+    fn write(&self, write: Write) -> Result<Reply, ClusterFault>
+        ensures { IfOk result (λ r. IsWritten write (reply_view r)) }
+    {
+        let refresh = write.refresh;
+        let confirmed = self.client.write(self.rt, write_of(write))?;
+        if refresh {
+            self.refresh_copies()?;
+        }
+        Ok(told(confirmed))
+    }
+
+    fn get(&self, id: DocId) -> Result<Reply, ClusterFault>
+        ensures { IfOk result (λ r. IsGot id (reply_view r)) }
+    {
+        let primary = self.client.primary(self.rt);
+        let answer = self.client.get(self.rt, primary, id)?;
+        Ok(reply_in(answer, 0))
+    }
+
+    fn search(&self, body: &SearchBody) -> Result<Reply, ClusterFault>
+        ensures { IfOk result (λ r. IsFound (query_view body.now.query) body.now.page (reply_view r)) }
+    {
+        let mut held = self.chair.seat.lock(self.rt);
+        let mut seat = self.seated(held.take())?;
+        let reply = hits_in(self.alloc, &mut seat.searcher, &body.query, body.page);
+        if reply.is_ok() {
+            *held = Some(seat);
+        }
+        reply
+    }
+
+    fn count(&self, query: &Query) -> Result<Reply, ClusterFault>
+        ensures { IfOk result (λ r. IsCounted (query_view query.now) (reply_view r)) }
+    {
+        let mut held = self.chair.seat.lock(self.rt);
+        let mut seat = self.seated(held.take())?;
+        let reply = count_in(self.alloc, &mut seat.searcher, query);
+        if reply.is_ok() {
+            *held = Some(seat);
+        }
+        reply
+    }
+
+    /// A searcher of the primary: the one of before, or where another copy leads now a new one.
+    fn seated(&self, before: Option<Seat>) -> Result<Seat, ClusterFault> {
+        if let Some(seat) = before {
+            if seat.copy == self.client.primary(self.rt) {
+                return Ok(seat);
+            }
+        }
+        seat_of(self.rt, self.client)
+    }
+
+    fn refresh(&self) -> Result<Reply, ClusterFault>
+        ensures { IfOk result (λ r. IsRefreshed (reply_view r)) }
+    {
+        let copies = self.refresh_copies()?;
+        Ok(Reply::Refreshed(copies))
+    }
+
+    /// Refreshes the copies, and tells how many are. Where each was passed over, nothing was refreshed, and that is refused.
+    fn refresh_copies(&self) -> Result<u64, ClusterFault>
+        ensures { IfOk result (λ copies. 0 < copies) }
+    {
+        let copies = self.client.refresh(self.rt)?;
+        if copies == 0 {
+            return Err(ClusterFault::Copy(CopyFault::Closed));
+        }
+        Ok(copies)
+    }
+}
+
+/// The reply that tells a write that is confirmed.
+fn told(confirmed: Confirmed) -> Reply
+    ensures { reply_view result ≡ told_by confirmed.write.deed.answer (counted_in confirmed.acknowledgement.deed.answer) }
+{
+    let Confirmed {
+        write,
+        acknowledgement,
+    } = confirmed;
+    let copies = counted_in(&acknowledgement);
+    drop(acknowledgement);
+    told_in(write, copies)
+}
+
+/// How many copies an entry counts.
+fn counted_in(receipt: &Receipt) -> u64
+    ensures { result ≡ counted_in receipt.now.deed.answer }
+{
+    match &receipt.deed.answer {
+        Ok(output) => output.members as u64,
+        Err(_) => 0,
+    }
+}
+
+/// The reply that tells an entry, of so many copies.
+fn told_in(receipt: Receipt, copies: u64) -> Reply
+    ensures { reply_view result ≡ told_by receipt.deed.answer copies }
+{
+    reply_to(receipt.deed.answer, copies)
+}
+
+/// The reply that tells what a copy answered, of so many copies.
+#[tactic(auto, unfolding(crate::specs::Group::told_by))]
+fn reply_to(answer: Result<Output, CopyFault>, copies: u64) -> Reply
+    ensures { reply_view result ≡ told_by answer copies }
+{
+    match answer {
+        Ok(output) => reply_in(output.answer, copies),
+        Err(fault) => Reply::Refused(refusal_of(&fault)),
+    }
+}
+
+/// The hits of a page.
+#[tactic(auto, using(crate::proofs::Found::found_in))]
+fn hits_in(
+    alloc: Global,
+    searcher: &mut Searcher<Unnamed>,
+    query: &Query,
+    page: Page,
+) -> Result<Reply, ClusterFault>
+    ensures { IfOk result (λ r. IsFound (query_view query.now) page (reply_view r)) }
+{
+    match searcher.search(alloc, query, page) {
+        Ok(found) => Ok(reply_with(alloc, found)?),
+        Err(fault) => Err(unsearched(fault)),
+    }
+}
+
+/// The reply that tells the hits.
+#[tactic(auto, using(crate::proofs::Found::each_in_turn))]
+fn reply_with(alloc: Global, found: Hits) -> Result<Reply, AllocError>
+    ensures { IfOk result (λ r. reply_view r ≡ spec.hits_of (hits_view found)) }
+{
+    let Hits { total, hits } = found;
+    let hits = hits_of(alloc, hits)?;
+    Ok(Reply::Hits(total, hits))
+}
+
+/// How many documents a query means.
+#[tactic(auto, using(crate::proofs::Found::counted_in))]
+fn count_in(
+    alloc: Global,
+    searcher: &mut Searcher<Unnamed>,
+    query: &Query,
+) -> Result<Reply, ClusterFault>
+    ensures { IfOk result (λ r. IsCounted (query_view query.now) (reply_view r)) }
+{
+    let Ok(page) = Page::new(0, 0) else {
+        return Err(ClusterFault::NoMemory);
+    };
+    match searcher.search(alloc, query, page) {
+        Ok(found) => Ok(Reply::Counted(found.total)),
+        Err(fault) => Err(unsearched(fault)),
+    }
+}
+
+/// Why a search has no hits. A searcher is let in no more once its copy has ended.
+fn unsearched(fault: SearchFault) -> ClusterFault {
+    match fault {
+        SearchFault::NoMemory => ClusterFault::NoMemory,
+        SearchFault::Ended => ClusterFault::Copy(CopyFault::Closed),
+    }
+}
+
+/// The refusal that tells why copies give no answer. A write that nobody acknowledges may be kept.
+pub(crate) fn refusal_by(fault: &ClusterFault) -> Refusal {
+    match fault {
+        ClusterFault::NoPrimary(_)
+        | ClusterFault::Lost(_, _)
+        | ClusterFault::Unconfirmed(_)
+        | ClusterFault::Master(_) => Refusal::NotPrimary,
+        ClusterFault::NoMemory | ClusterFault::NoSeat => Refusal::NoMemory,
+        ClusterFault::Copy(fault) => refusal_of(fault),
+        ClusterFault::Stray(_) => Refusal::Mismatch,
+        ClusterFault::Running | ClusterFault::Unopened(_) => Refusal::Closed,
+    }
+}

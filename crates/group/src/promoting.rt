@@ -1,0 +1,58 @@
+//! Promotions of copies that a caller asks for.
+ghost use Rattle.std.specs.Prelude.{◌≡◌, IfOk};
+ghost use Rattle.front.specs.ReplyView.{reply_view};
+ghost use Rattle.group.specs.Group.{master_refusal, IsMadePrimary};
+
+use crate::group::refusal_by;
+use cluster::{Client, ClusterFault};
+use front::command::Command;
+use front::reply::{Refusal, Reply};
+use master::MasterFault;
+use std::sync::Wait;
+use translog::LogDevice;
+
+/// Has the master make a copy the primary. Each promotion has a message, by which the copy is told its term.
+pub(crate) fn promote<R: Wait, D: LogDevice>(
+    rt: &R,
+    client: &Client<D>,
+    copy: u32,
+) -> Result<Reply, ClusterFault>
+    ensures { IfOk result (λ r. IsMadePrimary copy (reply_view r)) }
+{
+    let decision = client.promote(rt, copy)?;
+    match &decision.sent {
+        Some(message) => Ok(Reply::Promoted(copy, message.term)),
+        None => Err(ClusterFault::Stray(0)),
+    }
+}
+
+/// Whether a command is a promotion.
+pub(crate) fn is_promotion(command: &Command) -> bool {
+    matches!(command, Command::Promote(_))
+}
+
+/// The refusal that tells why a command has no answer. Where the master was asked, its refusals have their own names.
+pub(crate) fn refusal_to(promotes: bool, fault: &ClusterFault) -> Refusal {
+    match fault {
+        ClusterFault::Master(named) => if promotes {
+            refusal_of_master(named)
+        } else {
+            refusal_by(fault)
+        },
+        _ => refusal_by(fault),
+    }
+}
+
+fn refusal_of_master(fault: &MasterFault) -> Refusal
+    ensures { result ≡ master_refusal fault.now }
+{
+    match fault {
+        MasterFault::OldTerm => Refusal::OldTerm,
+        MasterFault::NotInSync => Refusal::NotInSync,
+        MasterFault::IsPrimary => Refusal::IsPrimary,
+        MasterFault::Gone => Refusal::Gone,
+        MasterFault::Log(_) => Refusal::Log,
+        MasterFault::NoMemory => Refusal::NoMemory,
+        MasterFault::Full => Refusal::Full,
+    }
+}

@@ -1,0 +1,93 @@
+//! What `--help` says behind the options.
+
+/// What stands behind the options in `--help`.
+pub(crate) const LINES: &str =
+    "Lines of a script (words parted by one space; JSON is the rest of the line):
+  open N MAPPING                  begins an index of N copies, 1 to 5; prints nothing
+  put C ID JSON                   wrote SEQ TERM VERSION RESULT
+  create C ID JSON                the same, for a document that isn't there
+  del C ID                        the same with deleted or not_found
+  putif C SEQ TERM ID JSON        the same, if the last change has both numbers
+  delif C SEQ TERM ID             the same, if the last change has both numbers
+  get C ID                        found SEQ TERM VERSION SOURCE, or missing
+  refresh C                       point N: searches show the first N writes
+  restart C                       point N: the copy is opened again
+  merge C                         merging: a merge of what searches look through
+  swap C                          merged: that merge is put in place, if it can be
+  search C JSON                   hits TOTAL ID ..
+  deliver K                       taken, stale or repeated: message K arrives
+  promote C                       C is to be the primary of a new term
+  allocate                        copy R: a new copy that joins
+  fail R                          the primary reports R, which is to leave
+  torn K 0, torn K 1              torn, point N: K arrives, and its append is cut
+  tornput C 0 ID JSON             torn, point N: a put whose append is cut (0:
+                                  its record is lost; 1: it is kept)
+C is a copy: 1 takes the writes at first. Behind what a line prints stand the
+messages that it sends, msg K KIND FROM TO (0 is the master), and the writes
+that it confirms, ack SEQ TERM: with one copy at once, with more copies when
+each has it.
+Empty lines and lines that begin with # are passed over. A line that can't be
+done prints refused NAME and changes nothing.
+
+Example:
+  printf 'open 1 {}\\nput 1 a {\"n\":1}\\nget 1 a\\n' | ./indexd replay -
+
+Exit status: 0; 1 where the script can't be read, the output can't be written
+or memory is wanting; 2 for a bad command line.
+README.md beside the program says more, and what is proved.";
+
+/// What stands behind the options of `serve` in `--help`.
+pub(crate) const KEPT: &str =
+    "With --data DIR each write is on the disk before it is confirmed, and a start finds all
+that was confirmed: after the end of the server, a kill, a full disk. DIR is made
+where it is missing, and holds mapping.json, master.log and copy-1.rsx, with one more
+file for each further copy. One server at a time has it.
+
+With --copies N a write is confirmed when each copy in sync has it. A folder keeps the
+copies that it has where --copies isn't given, and gets new ones where it says more.
+
+Connections that wait take no thread; a request that has come whole takes one while it is
+answered. One that isn't whole 30 seconds after its first byte ends its connection.
+
+Example:
+  ./indexd serve --port 9200 --index books --mapping books.json --data books.data
+
+Exit status: 0; 1 where the index can't be begun or opened, or the port can't be
+had; 2 for a bad command line.";
+
+/// What stands behind the options of `dump` in `--help`.
+pub(crate) const MOVED: &str =
+    "Each document is two lines, as _bulk of Elasticsearch takes them: its id, and its source
+on one line. So an index moves to another folder, or to Elasticsearch:
+  ./indexd dump --data books.data --mapping >books.json
+  ./indexd dump --data books.data --bytes 1000000 --to books.parts
+  for part in books.parts/*; do
+    curl -X POST localhost:9201/books/_bulk --data-binary @$part
+  done
+The parts are part-000001.ndjson and so on, and a document's two lines are in one of
+them. serve takes a body of 1,048,576 bytes at most.
+
+Exit status: 0; 1 where the folder can't be read, another process serves it, or
+the output can't be written; 2 for a bad command line.";
+
+/// What stands behind the options of `inspect` in `--help`.
+pub(crate) const INSPECTED: &str =
+    "Prints a line for each file: `records N`; the same with `torn at byte B` where its end is
+torn, as a crash leaves it, and is cut when the copy is opened; and where it is no log
+of a copy, or a record of it is damaged, that.
+
+Example:
+  ./indexd inspect books.data/copy-1.rsx
+
+Exit status: 0; 1 where a file can't be read, or is no log, or is damaged; 2 for a bad
+command line.";
+
+/// What stands behind the options of `audit` in `--help`.
+pub(crate) const JUDGED: &str =
+    "Prints `audit ok`; or `audit failed`, with `Differs` for an entry that the node wouldn't
+have answered or `Uncaused` for one that nothing causes, the node (0 is the master) and
+the place of the entry, from 0 on. Standard error has it in words, and where it is a
+terminal the entry itself, and what the model answers there.
+
+Exit status: 0; 1 where the journals are those of no run, or can't be read; 2 for a
+bad command line.";
