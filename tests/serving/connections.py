@@ -73,7 +73,7 @@ def run_failing(shim, given, name, number):
             got = after = None
             if server.listens:
                 # A server that has no memory for its threads ends, where it listens already.
-                with contextlib.suppress(ConnectionRefusedError):
+                with contextlib.suppress(ConnectionRefusedError, ConnectionResetError):
                     got = server.ask(given)
                     after = server.ask(b"GET /books/_count HTTP/1.1\r\n\r\n")
             if after is None:

@@ -76,13 +76,14 @@ def beside_over(copies, shim, folder):
     with Told() as told, Server(
             "--copies", copies, "--data", f"{folder}/{copies}", env=told.settings(shim, SYNC_GATE=gate), pass_fds=[told.writes]) as server:
         server.ask(PUT.replace(b"_doc/1 ", b"_doc/1?refresh=true "))
-        # Each of the four threads that serve connections asks for its searcher once.
         with contextlib.ExitStack() as open_ones:
             readers = [open_ones.enter_context(server.connect()) for _ in range(4)]
             for it in readers:
                 it.sendall(search)
             seen = [bool(it.recv(65536)) for it in readers]
         check(f"{copies} copies: four searches at once", "" if all(seen) else repr(seen))
+        # The writer's is the one connection that is open, until the search comes.
+        time.sleep(0.2)
         gate.touch()
         with server.connect() as writer:
             writer.sendall(PUT.replace(b"_doc/1 ", b"_doc/2 "))

@@ -32,11 +32,10 @@ class Soak:
         try:
             with server.connect() as connection:
                 connection.setsockopt(socket.IPPROTO_TCP, socket.TCP_NODELAY, 1)
-                # Four are served at once, the others after them.
                 connection.settimeout(SECONDS + self.seconds)
                 pages = connection.makefile("rb")
                 asked(connection, pages, get_of(b"0"))
-                end = time.monotonic() + self.seconds / 2
+                end = time.monotonic() + self.seconds
                 while time.monotonic() < end:
                     self.done[client] += 1
                     if copy := self.next_due():

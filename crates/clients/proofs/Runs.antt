@@ -1,12 +1,11 @@
 -- What the steps of a conversation keep.
-use Rattle.std.proofs.Common.{◌≡◌, ℕ, Bool, true, false, List, [], ◌∷◌, ◌++◌, if◌then◌else◌, refl, sym, ap, ◌∙◌, append_assoc, append-nil}
+use Rattle.std.proofs.Common.{◌≡◌, ℕ, Bool, List, [], ◌∷◌, ◌++◌, if◌then◌else◌, refl, sym, ap, ◌∙◌, append_assoc, append-nil}
 use Rattle.doc.specs.Mapping.{MappingData}
-use Rattle.wire.specs.Framing.{first}
 use Rattle.wire.specs.Requests.{Standing, requests}
 use Rattle.front.specs.Command.{Command}
 use Rattle.front.specs.Reply.{Reply}
 use Rattle.clients.specs.Talk.{Talk, begun}
-use Rattle.clients.specs.Steps.{Receives, Sends, AnsweredBy, Answers, IsNext, standing}
+use Rattle.clients.specs.Steps.{Receives, Sends, AnsweredBy, Answers, standing}
 use Rattle.clients.specs.Conversation.{Run, begins, receives, answers_one, sends, Told, Kept, IsKept}
 use Rattle.clients.proofs.Later.{next_later}
 

@@ -2,7 +2,7 @@
 
 use crate::connection::{Connection, Next};
 use crate::limits::{Limits, ROOM, SWEEP};
-use crate::noting::Noting;
+use crate::noting::{Notes, Noting};
 use crate::poller::{LISTENER, Poller};
 use crate::table::{Job, Table};
 use crate::watcher::Watcher;
@@ -23,6 +23,14 @@ const TICK: u64 = 50;
 /// How many connections are accepted before others are looked at.
 const MOST_ACCEPTED: u64 = 256;
 
+/// The next connection that is ready, whether no other is open, and whether others are ready.
+#[derive(Drop)]
+struct NextJob {
+    job: Job,
+    alone: bool,
+    others: bool,
+}
+
 /// The connections of a listener.
 #[derive(Drop)]
 pub struct Clients<'w, W: Watcher> {
@@ -35,7 +43,7 @@ pub struct Clients<'w, W: Watcher> {
     waker: Waker,
     all_begun: AtomicBool,
     ended: AtomicBool,
-    written: AtomicBool,
+    notes: Notes,
 }
 
 impl<'w, W: Watcher> Clients<'w, W> {
@@ -59,7 +67,7 @@ impl<'w, W: Watcher> Clients<'w, W> {
             waker,
             all_begun: AtomicBool::new(limits.connections == Some(0)),
             ended: AtomicBool::new(limits.connections == Some(0)),
-            written: AtomicBool::new(false),
+            notes: Notes::new(),
         })
     }
 
@@ -77,7 +85,9 @@ impl<'w, W: Watcher> Clients<'w, W> {
     ) -> io::Result<()> {
         let mut service = Noting {
             service,
-            written: &self.written,
+            notes: &self.notes,
+            lead: None,
+            alone: false,
         };
         if lane >= self.limits.working() {
             self.refresh_in_turn(rt, &mut service);
@@ -89,7 +99,11 @@ impl<'w, W: Watcher> Clients<'w, W> {
     }
 
     /// Works on what is ready, and where nothing is waits until something is.
-    fn serve<R: Wait + Clock, S: Service>(&self, rt: &R, service: &mut S) -> io::Result<()> {
+    fn serve<'a, R: Wait + Clock, S: Service>(
+        &'a self,
+        rt: &R,
+        service: &mut Noting<'a, S>,
+    ) -> io::Result<()> {
         let mut room = Vec::from_elem(self.alloc, 0u8, ROOM)?;
         for _ in rt.forever() {
             if self.ended.load(Ordering::SeqCst) {
@@ -150,11 +164,12 @@ impl<'w, W: Watcher> Clients<'w, W> {
         let _ = self.waker.wake();
     }
 
-    /// Waits for all connections, while no other thread does. As long as only one is open this thread works on it itself: nobody else is held up.
-    fn lead<R: Wait + Clock, S: Service>(
-        &self,
+    /// Waits for all connections, while no other thread does: it has the lead. Where one alone is ready this thread works on it itself, and gives the
+    /// lead up only before a command that would hold up the others: handing it on costs more than a get.
+    fn lead<'a, R: Wait + Clock, S: Service>(
+        &'a self,
         rt: &R,
-        service: &mut S,
+        service: &mut Noting<'a, S>,
         room: &mut [u8],
     ) -> io::Result<()> {
         let mut poller = self.poller.lock(rt);
@@ -163,24 +178,33 @@ impl<'w, W: Watcher> Clients<'w, W> {
                 return Ok(());
             }
             self.look(rt, &mut poller)?;
-            let Some((job, open)) = self.next_of(rt) else {
+            let Some(NextJob { job, alone, others }) = self.next_of(rt) else {
                 continue;
             };
-            if open > 1 {
+            if others {
                 drop(poller);
                 self.work(rt, job, service, room);
                 return Ok(());
             }
+            service.alone = alone;
+            service.lead = Some(poller);
             self.work(rt, job, service, room);
+            match service.lead.take() {
+                Some(held) => poller = held,
+                None => return Ok(()),
+            }
         }
         unreachable!()
     }
 
-    /// The next connection that is ready, and how many are open.
-    fn next_of<R: Wait>(&self, rt: &R) -> Option<(Job, usize)> {
+    fn next_of<R: Wait>(&self, rt: &R) -> Option<NextJob> {
         let mut table = self.table.lock(rt);
         let job = table.next()?;
-        Some((job, table.open()))
+        Some(NextJob {
+            job,
+            alone: table.open() == 1,
+            others: table.is_ready(),
+        })
     }
 
     fn is_ready<R: Wait>(&self, rt: &R) -> bool {
@@ -339,11 +363,14 @@ impl<'w, W: Watcher> Clients<'w, W> {
 
     /// Refreshes the index where something was written. What is refused is tried again the next time.
     fn refresh_once<S: Service>(&self, service: &mut S) {
-        if !self.written.swap(false, Ordering::SeqCst) {
+        if !self.notes.written.swap(false, Ordering::SeqCst) {
             return;
         }
-        if let Reply::Refused(_) = service.call(Command::Refresh) {
-            self.written.store(true, Ordering::SeqCst);
+        self.notes.refreshing.store(true, Ordering::SeqCst);
+        let reply = service.call(Command::Refresh);
+        self.notes.refreshing.store(false, Ordering::SeqCst);
+        if let Reply::Refused(_) = reply {
+            self.notes.written.store(true, Ordering::SeqCst);
         }
     }
 }

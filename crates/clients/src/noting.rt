@@ -1,17 +1,59 @@
-//! Whether something was written since the last refresh.
+//! What the threads of a server have to know of the commands that are asked.
 ghost use Rattle.std.specs.Prelude.{◌≡◌};
 
+use crate::poller::Poller;
 use doc::Mapping;
 use front::Service;
 use front::command::Command;
 use front::reply::Reply;
+use std::sync::MutexGuard;
 use std::sync::atomic::{AtomicBool, Ordering};
 
-/// A service, and whether a write was asked of it. It answers as the service does.
+/// What is noted of the commands of all threads.
+#[derive(Drop)]
+pub(crate) struct Notes {
+    /// Whether something was written since the last refresh.
+    pub(crate) written: AtomicBool,
+    /// Whether the index is being refreshed.
+    pub(crate) refreshing: AtomicBool,
+}
+
+impl Notes {
+    pub(crate) fn new() -> Notes {
+        Notes {
+            written: AtomicBool::new(false),
+            refreshing: AtomicBool::new(false),
+        }
+    }
+
+    /// Whether a command may wait for a disk, for another copy or for a refresh.
+    fn may_wait(&self, command: &Command) -> bool {
+        match command {
+            Command::Search(_) | Command::Count(_) => false,
+            Command::Get(_) => self.refreshing.load(Ordering::SeqCst),
+            Command::Write(_) | Command::Refresh | Command::Promote(_) => true,
+        }
+    }
+}
+
+/// A service, with what is noted of its commands. It answers as the service does. Where its thread has the lead, it gives that up before a command that
+/// may wait, or where other connections are open that may take long, so that another thread goes on.
 #[derive(Drop)]
 pub(crate) struct Noting<'a, S: Service> {
     pub(crate) service: S,
-    pub(crate) written: &'a AtomicBool,
+    pub(crate) notes: &'a Notes,
+    /// What the thread holds that has the lead.
+    pub(crate) lead: Option<MutexGuard<'a, Poller>>,
+    /// Whether no other connection is open.
+    pub(crate) alone: bool,
+}
+
+impl<'a, S: Service> Noting<'a, S> {
+    /// Whether another thread is to go on while a command is done.
+    fn holds_up(&self, command: &Command) -> bool {
+        let is_long = matches!(command, Command::Search(_) | Command::Count(_));
+        is_long && !self.alone || self.notes.may_wait(command)
+    }
 }
 
 impl<'a, S: Service> Service for Noting<'a, S> {
@@ -30,11 +72,14 @@ impl<'a, S: Service> Service for Noting<'a, S> {
     }
 
     fn call(&mut self, command: Command) -> Reply {
+        if self.lead.is_some() && self.holds_up(&command) {
+            self.lead = None;
+        }
         let writes = matches!(&command, Command::Write(_));
         let reply = self.service.call(command);
         // Behind the write, so that a refresh that takes the note back shows it.
         if writes {
-            self.written.store(true, Ordering::SeqCst);
+            self.notes.written.store(true, Ordering::SeqCst);
         }
         reply
     }

@@ -9,6 +9,9 @@ use Rattle.segment.proofs.Joins.{length-zip}
 use Rattle.segment.proofs.Steps.{places-below}
 use Rattle.doc.specs.Id.{Id}
 use Rattle.segment.specs.Merged.{chosen}
+use Rattle.query.specs.Query.{match_all}
+use Rattle.doc.specs.Mapping.{MappingData}
+use Rattle.engine.specs.Answer.{is_found}
 use Rattle.engine.specs.Parts.{PartData, documents_of_parts, is_among, without, woven}
 use Rattle.engine.proofs.PartLaws.{Item, drop-take}
 use Rattle.engine.proofs.ChosenLaws.{chosen-places, chosen-counted, chosen-filter, copied}
@@ -55,6 +58,11 @@ module _ (g : Item → Bool) where
     pub share-first : {A : Type 0} (view : A → Item) (n : ℕ) (hs : List A) → map (λ h. Some (view h)) hs ≡ map (λ p. slice_get docs p) (take n (places (λ (b : Bool). b) marks)) → map view hs ≡ take n (filter g (chosen docs live))
     share-first view n hs is = each-some view hs (take n (filter g (chosen docs live)))
         (is ∙ sym (take-map (λ p. slice_get docs p) n (places (λ (b : Bool). b) marks)) ∙ ap (take n) share-places ∙ take-map (λ y. Some y) n (filter g (chosen docs live)))
+
+-- a query for all documents means each
+pub all-meant : (m : MappingData) (docs : List Item) → filter (is_found m match_all) docs ≡ docs
+all-meant m [] = refl
+all-meant m (d ∷ ds) = ap (λ es. d ∷ es) (all-meant m ds)
 
 -- all that are live
 pub live-within : (docs : List Item) (live : List Bool) → length live ≡ length docs → All (λ p. p < length docs) (places (λ (b : Bool). b) live)

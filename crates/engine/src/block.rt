@@ -165,6 +165,18 @@ impl Block {
         Ok(all)
     }
 
+    /// The first documents, no more than wanted.
+    pub(crate) fn first_shown<'a>(
+        &'a self,
+        alloc: Global,
+        wanted: usize,
+    ) -> Result<Vec<&'a Shown>, AllocError>
+        ensures { IfOk result (λ v. map (λ r. shown_view r.now) v.items ≡ take wanted self.now.documents) }
+    {
+        let count = self.documents.len().min(wanted);
+        shown_in(alloc, &self.documents[..count])
+    }
+
     /// Whether a document has one of the ids.
     pub(crate) fn has_any(&self, ids: &[DocId]) -> bool
         ensures { result ≡ false → map (λ d. is_among ids.now d.0) self.now.documents ≡ map (λ d. is_among [] d.0) self.now.documents }
@@ -259,6 +271,17 @@ pub(crate) fn entry_of(shown: &Shown) -> Entry<'_>
         version: shown.version,
         source: &shown.source,
     }
+}
+
+/// Documents where they stand.
+fn shown_in<'a>(alloc: Global, documents: &'a [Shown]) -> Result<Vec<&'a Shown>, AllocError>
+    ensures { IfOk result (λ v. map (λ r. shown_view r.now) v.items ≡ map shown_view documents.now) }
+{
+    let mut all = Vec::with_capacity(alloc, documents.len())?;
+    for shown in documents {
+        all.push(shown)?;
+    }
+    Ok(all)
 }
 
 /// The documents of entries.

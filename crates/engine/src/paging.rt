@@ -96,7 +96,7 @@ fn entries_of<'a>(alloc: Global, list: &[&'a Shown]) -> Result<Vec<Entry<'a>>, A
     Ok(entries)
 }
 
-/// An id before which no more documents stand than are passed over: the furthest that is found by halving each list.
+/// An id before which no more documents stand than are passed over: the furthest that is found by halving each list, from the one that was found before on.
 pub(crate) fn find_pivot<'a>(lists: &[Vec<&'a Shown>], from: usize) -> Option<Pivot<'a>>
     requires { AllInOrder (seen_all lists.now) }
     ensures { IfSome result (λ p. IsPivot (seen_all lists.entry.now) from p) }
@@ -116,12 +116,12 @@ fn pivot_in<'a>(
     found: Option<Pivot<'a>>,
 ) -> Option<Pivot<'a>>
     requires order { AllInOrder (seen_all lists.now) }
+    requires sorted { is_sorted id_cmp (seen list.now) ≡ true }
     requires found { IfSome found (λ p. IsPivot (seen_all lists.now) from p) }
     ensures { IfSome result (λ p. IsPivot (seen_all lists.entry.now) from p) }
 {
     let mut best = found;
-    let mut low = 0;
-    let mut high = list.len();
+    let (mut low, mut high) = places_behind(list, from, found);
     while low < high {
         let middle = low + (high - low) / 2;
         match pivot_at(lists, list[middle], from) {
@@ -133,6 +133,20 @@ fn pivot_in<'a>(
         }
     }
     best
+}
+
+/// Between which places of a list a pivot can stand further on than the one that was found, before which so many documents already stand.
+fn places_behind(list: &[&Shown], from: usize, found: Option<Pivot<'_>>) -> (usize, usize)
+    requires { is_sorted id_cmp (seen list.now) ≡ true }
+    ensures order { result.0 ≤ result.1 }
+    ensures within { result.1 ≤ length list.now }
+{
+    let Some(pivot) = found else {
+        return (0, list.len());
+    };
+    let low = count_before(list, pivot.id);
+    let more = from.saturating_sub(pivot.rank).saturating_add(1);
+    (low, low.saturating_add(more).min(list.len()))
 }
 
 /// The id of a document, if no more documents stand before it than are passed over.

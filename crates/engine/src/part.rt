@@ -3,6 +3,7 @@ ghost use Rattle.std.specs.Prelude.{◌≡◌, ◌↔◌, ◌<◌, IsTrue, ◌+�
 ghost use Rattle.std.specs.Arc.{arc_value};
 ghost use Rattle.std.specs.FinMap.Entries.{is_sorted};
 ghost use Rattle.doc.specs.Id.{id_cmp};
+ghost use Rattle.query.specs.Query.{match_all};
 ghost use Rattle.query.specs.View.{query_view};
 ghost use Rattle.marks.specs.Lists.{zip_with, places};
 ghost use Rattle.engine.specs.Answer.{is_found};
@@ -194,6 +195,23 @@ impl Part {
         ensures few { IfOk result (λ h. h.total < 2 ^ 32) }
         ensures first { IfOk result (λ h. seen h.first.items ≡ take wanted (filter (is_found self.now.mapping (query_view query.now)) self.now.documents)) }
     {
+        if self.all_live && is_match_all(query) {
+            return first_of(alloc, &self.block, wanted);
+        }
+        self.chosen_hits(alloc, query, wanted)
+    }
+
+    /// The same by the places of those that the query means.
+    fn chosen_hits(
+        &self,
+        alloc: Global,
+        query: &Query,
+        wanted: usize,
+    ) -> Result<PartHits<'_>, AllocError>
+        ensures total { IfOk result (λ h. h.total ≡ length (filter (is_found self.now.mapping (query_view query.now)) self.now.documents)) }
+        ensures few { IfOk result (λ h. h.total < 2 ^ 32) }
+        ensures first { IfOk result (λ h. seen h.first.items ≡ take wanted (filter (is_found self.now.mapping (query_view query.now)) self.now.documents)) }
+    {
         let _few = self.block.len();
         let found = find_places(alloc, &self.block, &self.live, self.all_live, query, wanted)?;
         let first = self.block.shown_at(alloc, &found.first)?;
@@ -234,6 +252,25 @@ impl Part {
             all_live,
         })
     }
+}
+
+/// How many documents a block has, and the first of them, no more than wanted.
+fn first_of(alloc: Global, block: &Block, wanted: usize) -> Result<PartHits<'_>, AllocError>
+    ensures total { IfOk result (λ h. h.total ≡ length block.now.documents) }
+    ensures few { IfOk result (λ h. h.total < 2 ^ 32) }
+    ensures first { IfOk result (λ h. seen h.first.items ≡ take wanted block.now.documents) }
+{
+    let first = block.first_shown(alloc, wanted)?;
+    Ok(PartHits {
+        total: block.len() as u64,
+        first,
+    })
+}
+
+fn is_match_all(query: &Query) -> bool
+    ensures { IsTrue result → query_view query.now ≡ match_all }
+{
+    matches!(query, Query::MatchAll)
 }
 
 /// How many live documents of a block the query means, and the places of the first of them, no more than wanted.

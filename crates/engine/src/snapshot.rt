@@ -73,7 +73,7 @@ impl Snapshot {
 fn hits_of(alloc: Global, entries: &[Entry<'_>]) -> Result<Vec<Hit>, AllocError>
     ensures { IfOk result (λ v. map hit_view v.items ≡ map hit (map entry_view entries.entry.now)) }
 {
-    let mut hits = Vec::new(alloc);
+    let mut hits = Vec::with_capacity(alloc, entries.len())?;
     for entry in entries {
         hits.push(Hit {
             id: entry.id.copy(alloc)?,

@@ -1,11 +1,11 @@
 -- Query strings that are turned, the heads of pages, and what was begun.
-use Rattle.std.proofs.Common.{◌≡◌, ◌≢◌, ◌<◌, ◌≤◌, ℕ, zero, suc, ◌==◌, Bool, true, false, List, [], ◌∷◌, ◌++◌, length, take, drop, map, bytes_eq, codes, Option, Some, None, if◌then◌else◌, refl, sym, ap, ◌∙◌, arith, rules, append_assoc, append-nil, take-append-drop}
+use Rattle.std.proofs.Common.{◌≡◌, ◌≢◌, ◌<◌, ◌≤◌, ℕ, zero, suc, ◌==◌, Bool, true, false, List, [], ◌∷◌, ◌++◌, length, take, drop, map, bytes_eq, codes, Some, None, if◌then◌else◌, refl, sym, ap, ◌∙◌, arith, append-nil, take-append-drop}
 use Rattle.std.specs.List.{slice_split, join_with_byte}
 use Rattle.std.specs.Str.Pattern.{LacksTextAt}
 use Rattle.std.proofs.lemmas.Slice.Eq.{bytes_eq-Decides}
 use Rattle.std.proofs.lemmas.List.Splits.{length-slice_split}
 use Rattle.wire.specs.Pieces.{cut_at}
-use Rattle.wire.proofs.Cuts.{parts_from, split_at}
+use Rattle.wire.proofs.Cuts.{split_at}
 use Rattle.front.specs.Command.{Command}
 use Rattle.front.specs.Reply.{Reply}
 use Rattle.front.specs.Serving.{Answered, Begun}

@@ -1,9 +1,7 @@
 -- What the target of a request names: its path and its parameters.
-use Rattle.std.specs.Prelude.{ℕ, ◌^◌, ◌==◌, ◌&&◌, ◌||◌, Bool, true, false, bytes_eq, codes, map, nat_lt, nat_le, length, take, drop, List, [], ◌∷◌, Option, Some, None, Result, Ok, Err, ⊤, if◌then◌else◌}
+use Rattle.std.specs.Prelude.{ℕ, ◌==◌, ◌&&◌, ◌||◌, Bool, true, false, bytes_eq, codes, map, nat_le, length, take, drop, List, [], ◌∷◌, Option, Some, None, Result, Ok, Err, ⊤, if◌then◌else◌}
 use Rattle.std.specs.List.{slice_split, position_or_len}
-use Rattle.std.specs.Str.{all_ascii_digits}
 use Rattle.std.specs.Str.Lossy.{utf8_lossy}
-use Rattle.std.specs.Str.Parse.{digits_value}
 use Rattle.percent_encoding.specs.Percent.{percent_decode}
 use Rattle.form_urlencoded.specs.Form.{raw_pairs, decode}
 use Rattle.doc.specs.Outcome.{◌>>=◌}

@@ -1,4 +1,4 @@
-use Rattle.std.proofs.Common.{◌≡◌, ◌∙◌, sym, drop}
+use Rattle.std.proofs.Common.{◌∙◌, sym, drop}
 use Rattle.front.proofs.Greetings.{before_at, before_none}
 use Rattle.front.proofs.greeting.before_empty.Goals as goal
 

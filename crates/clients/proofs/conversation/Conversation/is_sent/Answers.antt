@@ -1,4 +1,4 @@
-use Rattle.std.proofs.Common.{◌≡◌, [], length, drop, string_bytes, IsTrue, ap, arith, length-drop}
+use Rattle.std.proofs.Common.{length, string_bytes, ap, arith, length-drop}
 use Rattle.std.proofs.lemmas.Bool.Decides.{nat_tests}
 use Rattle.clients.proofs.Answering.{drop_past}
 use Rattle.clients.proofs.conversation.Conversation.is_sent.Goals as goal

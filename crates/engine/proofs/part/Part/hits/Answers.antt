@@ -1,50 +1,30 @@
-use Rattle.std.proofs.Common.{◌<◌, ◌∙◌, ap, arith, length, take, filter}
-use Rattle.std.proofs.lemmas.List.Elements.{All-take}
+use Rattle.std.proofs.Common.{◌≡◌, ◌∙◌, IfOk, ap, filter, length, subst, sym, take}
 use Rattle.std.specs.Arc.{arc_value}
-use Rattle.query.specs.View.{query_view}
-use denote.Ref.{Bor}
-use Rattle.engine.specs.Answer.{is_found}
-use Rattle.engine.specs.Shown.{shown_view}
-use Rattle.engine.specs.declared.block.Shown.{Shown}
-use Rattle.engine.proofs.ShareLaws.{share-total, share-few, share-within, share-first}
-use Rattle.engine.proofs.part.Part.hits.Goals as goal
+use Rattle.op.specs.Documents.{Documents}
+use Rattle.query.specs.Query.{Query}
+use Rattle.segment.specs.Merged.{chosen}
+use Rattle.engine.specs.Answer.{SnapshotData, is_found}
 use Rattle.engine.specs.Parts.{PartData}
+use Rattle.engine.specs.Shown.{seen}
+use Rattle.engine.proofs.ChosenLaws.{chosen-all}
+use Rattle.engine.proofs.ShareLaws.{all-meant}
+use Rattle.engine.proofs.part.Part.hits.Goals as goal
 
--- the marks are those of the block
-pub find_places-requires : goal.find_places-requires
-find_places-requires c = rw (c.deref-2.ensures, c.deref-3.ensures) c.self.invariant
+-- all documents of the block are live, and each is meant
+pub returns-then-is_match_all-clause-total : goal.returns-then-is_match_all-clause-total
+returns-then-is_match_all-clause-total c =
+    let s = c.args.self.now in
+    let docs = (arc_value c.self.inside.block).documents in
+    let live = ap (λ bs. chosen docs bs) (c.self.invariant.full c.if-self.true) ∙ chosen-all docs in
+    let meant = ap (λ (q : Query). filter (is_found s.mapping q) s.documents) (c.is_match_all.ensures c.if-is_match_all.true) ∙ all-meant s.mapping s.documents in
+    subst (λ (ds : Documents). IfOk c.first_of.result (λ h. h.total ≡ length ds))
+    (ap (λ (b : SnapshotData). b.documents) c.deref.ensures ∙ sym live ∙ ap (λ (p : PartData). p.documents) c.self.view_is ∙ sym meant) c.first_of.ensures.total
 
--- the places are those of documents
-pub shown_at-requires : goal.shown_at-requires
-shown_at-requires c =
-    let block = arc_value c.self.inside.block in
-    let g = is_found block.mapping (query_view c.args.query.now) in
-    let found = rw (c.deref-2.ensures, c.deref-3.ensures) at c.in_ok-found.ensures.first in
-    rw (c.deref-5.ensures.value, c.deref-4.ensures, found)
-    (All-take (λ p. p < length block.documents) c.args.wanted _ (share-within g block.documents (arc_value c.self.inside.live) c.self.invariant.whole))
-
-pub returns-clause-total : goal.returns-clause-total
-returns-clause-total c =
-    let block = arc_value c.self.inside.block in
-    let q = query_view c.args.query.now in
-    let found = rw (c.deref-2.ensures, c.deref-3.ensures) at c.in_ok-found.ensures.total in
-    found
-    ∙ share-total (is_found block.mapping q) block.documents (arc_value c.self.inside.live) c.self.invariant.whole
-    ∙ ap (λ (s : PartData). length (filter (is_found s.mapping q) s.documents)) c.self.view_is
-
-pub returns-clause-few : goal.returns-clause-few
-returns-clause-few c =
-    let block = arc_value c.self.inside.block in
-    let g = is_found block.mapping (query_view c.args.query.now) in
-    let found = rw (c.deref-2.ensures, c.deref-3.ensures) at c.in_ok-found.ensures.total in
-    let len = rw c.deref.ensures at c.len-few.ensures.is in
-    omega (arith, found, len, c.len-few.ensures.few, share-few g block.documents (arc_value c.self.inside.live) c.self.invariant.whole)
-
-pub returns-clause-first : goal.returns-clause-first
-returns-clause-first c =
-    let block = arc_value c.self.inside.block in
-    let q = query_view c.args.query.now in
-    let found = rw (c.deref-2.ensures, c.deref-3.ensures) at c.in_ok-found.ensures.first in
-    share-first (is_found block.mapping q) block.documents (arc_value c.self.inside.live) c.self.invariant.whole (λ (r : Bor Shown). shown_view r.now) c.args.wanted c.in_ok-first.first.items
-    (rw (c.deref-5.ensures.value, c.deref-4.ensures, found) at c.in_ok-first.ensures)
-    ∙ ap (λ (s : PartData). take c.args.wanted (filter (is_found s.mapping q) s.documents)) c.self.view_is
+pub returns-then-is_match_all-clause-first : goal.returns-then-is_match_all-clause-first
+returns-then-is_match_all-clause-first c =
+    let s = c.args.self.now in
+    let docs = (arc_value c.self.inside.block).documents in
+    let live = ap (λ bs. chosen docs bs) (c.self.invariant.full c.if-self.true) ∙ chosen-all docs in
+    let meant = ap (λ (q : Query). filter (is_found s.mapping q) s.documents) (c.is_match_all.ensures c.if-is_match_all.true) ∙ all-meant s.mapping s.documents in
+    subst (λ (ds : Documents). IfOk c.first_of.result (λ h. seen h.first.items ≡ take c.args.wanted ds))
+    (ap (λ (b : SnapshotData). b.documents) c.deref.ensures ∙ sym live ∙ ap (λ (p : PartData). p.documents) c.self.view_is ∙ sym meant) c.first_of.ensures.first
