@@ -1,8 +1,11 @@
 //! A copy with its journal, and what it publishes.
-ghost use Rattle.std.specs.Prelude.{◌≡◌, ◌∷◌, [], length, false, IfOk, IfErr, IfSome, IsOk, OnOk, OnErr};
+ghost use Rattle.std.specs.Prelude.{◌≡◌, ◌∷◌, [], length, true, false, IfOk, IfErr, IfSome, IsOk, OnOk, OnErr};
 ghost use Rattle.journal.specs.Journal.{IsLegal, open_at};
 ghost use Rattle.journal.specs.declared.journal.Journal.TheVariants.{OfCopy};
 ghost use Rattle.replica.specs.Logged.{is_refresh};
+ghost use Rattle.translog.specs.declared.fault.LogFault.TheVariants.{Device};
+ghost use Rattle.replica.specs.declared.fault.CopyFault.TheVariants.{Log};
+ghost use Rattle.node.specs.declared.fault.NodeFault.TheVariants.{Copy as Refused};
 ghost use Rattle.node.specs.Held.{IsCall};
 ghost use Rattle.cell.specs.Publishing.{IsBegun, IsKept, IsPublished, IsRefusedCall, IsShownAfter, IsShownBy, IsStepped, IsAllShown};
 ghost use Rattle.cell.specs.Refreshing.{IsRefreshed, IsUnnoted, IsUnrefreshed, IsWriteRefreshed};
@@ -12,7 +15,7 @@ ghost use Rattle.node.specs.Stands.{LastStands};
 
 use doc::DocId;
 use journal::Journal;
-use node::{Got, Held, NodeFault, Pass, Receipt};
+use node::{Got, Held, NodeFault, OnDisk, Pass, Receipt};
 use published::{Name, Note, Publisher, Searcher, Showing, ShownRecords};
 use replica::{Copy, Input, Write};
 use std::alloc::{AllocError, Global};
@@ -102,6 +105,24 @@ impl<D: LogDevice> CopyCell<D> {
         ensures refused { IfErr result (IsUngot self.old.journal) }
     {
         self.held.get(alloc, id)
+    }
+
+    /// Waits until the steps of all entries are there after a crash too, as `Held::sync` does; it makes no entry.
+    #[tactic(auto, using(crate::proofs::Refusing::same_published))]
+    pub fn sync(&mut self) -> Result<OnDisk, NodeFault>
+        ensures same { self.new ≡ self.old }
+        ensures all { IfOk result (λ o. o ≡ length self.new.journal.deeds) }
+        ensures refused { IfErr result (λ e. e ≡ Refused (Log Device)) }
+        ensures in_memory { D.in_memory ≡ true → IsOk result }
+    {
+        self.held.sync()
+    }
+
+    /// Whether they are there after a crash too.
+    pub fn is_synced(&self) -> bool
+        ensures { D.in_memory ≡ true → result ≡ true }
+    {
+        self.held.is_synced()
     }
 
     /// One call of the copy, as `Held::call` makes it. After a refresh or a restart searches show all records of the copy; where memory is wanting for

@@ -1,7 +1,10 @@
 //! A copy with its journal.
-ghost use Rattle.std.specs.Prelude.{◌≡◌, [], false, IfOk, IfErr, IfSome, IfNone, IsOk};
+ghost use Rattle.std.specs.Prelude.{◌≡◌, [], true, false, length, IfOk, IfErr, IfSome, IfNone, IsOk};
 ghost use Rattle.journal.specs.Journal.{IsLegal, open_at};
 ghost use Rattle.journal.specs.declared.journal.Journal.TheVariants.{OfCopy};
+ghost use Rattle.translog.specs.declared.fault.LogFault.TheVariants.{Device};
+ghost use Rattle.replica.specs.declared.fault.CopyFault.TheVariants.{Log};
+ghost use Rattle.node.specs.declared.fault.NodeFault.TheVariants.{Copy as Refused};
 ghost use Rattle.node.specs.Reading.{IsGotFrom, IsUngot};
 ghost use Rattle.node.specs.Stands.{IsDenied, IsStray, LastStands};
 ghost use Rattle.node.specs.Held.{IsCall, IsHeld, IsLastOf, IsRefusal};
@@ -9,9 +12,11 @@ ghost use Rattle.node.specs.Held.{IsCall, IsHeld, IsLastOf, IsRefusal};
 use crate::both::both;
 use crate::fault::NodeFault;
 use crate::got::Got;
+use crate::on_disk::OnDisk;
 use crate::pass::{Pass, Receipt};
 use crate::reading::read;
 use crate::standing::stands_at;
+use crate::syncing::synced;
 use crate::telling::{Inputs, Spot, tell};
 use doc::DocId;
 use journal::{Deed, Deeds, Journal, Opening};
@@ -147,6 +152,26 @@ impl<D: LogDevice> Held<D> {
             id,
             answer,
         })
+    }
+
+    /// Waits until the steps of all entries are there after a crash too; it makes no entry. One that failed isn't tried again: the copy keeps no record
+    /// then until it restarts.
+    pub fn sync(&mut self) -> Result<OnDisk, NodeFault>
+        ensures same { self.new ≡ self.old }
+        ensures all { IfOk result (λ o. o ≡ length self.new.deeds) }
+        ensures refused { IfErr result (λ e. e ≡ Refused (Log Device)) }
+        ensures in_memory { D.in_memory ≡ true → IsOk result }
+    {
+        let entries = self.deeds.len() as u64;
+        let log = synced(&mut self.copy)?;
+        Ok(OnDisk::of(log, entries))
+    }
+
+    /// Whether they are there after a crash too.
+    pub fn is_synced(&self) -> bool
+        ensures { D.in_memory ≡ true → result ≡ true }
+    {
+        self.copy.is_synced()
     }
 
     /// The journal, for which the copy is given up.

@@ -7,13 +7,16 @@ pub mod fault;
 pub mod gathering;
 pub mod got;
 pub mod held;
+pub mod on_disk;
 pub mod pass;
 mod reading;
 mod standing;
+mod syncing;
 mod telling;
 
 pub use fault::NodeFault;
 pub use gathering::{Stray, gathered, stands_in};
 pub use got::Got;
 pub use held::Held;
+pub use on_disk::OnDisk;
 pub use pass::{Pass, Receipt};

@@ -167,11 +167,17 @@ id_is text id e = (two_tests (length text == 0) (ltb 512 (length text)) doc.id_e
 source_is : (text source : List ℕ) → source_of text ≡ Ok source → text ≡ source
 source_is text source e = (two_tests (ltb 65536 (length text)) (ltb (length text) 2) doc.too_large doc.not_object text source e).1
 
+pub id_at_most : (id : List ℕ) → id_of id ≡ Ok id → length id ≤ 512
+id_at_most id e = ltb-false _ _ (two_tests (length id == 0) (ltb 512 (length id)) doc.id_empty doc.id_too_long id id e).0
+
 id_short : (id : List ℕ) → id_of id ≡ Ok id → length id < 2 ^ 16
-id_short id e = let le : length id ≤ 512 = ltb-false _ _ (two_tests (length id == 0) (ltb 512 (length id)) doc.id_empty doc.id_too_long id id e).0 in omega arith
+id_short id e = let le = id_at_most id e in omega arith
+
+pub source_at_most : (source : List ℕ) → source_of source ≡ Ok source → length source ≤ 65536
+source_at_most source e = ltb-false _ _ (first_test (ltb 65536 (length source)) (ltb (length source) 2) doc.too_large doc.not_object source source e)
 
 source_short : (source : List ℕ) → source_of source ≡ Ok source → length source < 2 ^ 32
-source_short source e = let le : length source ≤ 65536 = ltb-false _ _ (first_test (ltb 65536 (length source)) (ltb (length source) 2) doc.too_large doc.not_object source source e) in omega arith
+source_short source e = let le = source_at_most source e in omega arith
 
 pub id_takes : (bytes id rest : List ℕ) → AreBytes bytes → id_at bytes ≡ Ok (id, rest) → Takes bytes (id_bytes id) rest × IsIdText id
 unfolding id_at

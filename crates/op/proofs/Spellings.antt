@@ -12,7 +12,7 @@ use Rattle.op.specs.declared.record.Record.{Record}
 use Rattle.op.specs.declared.record.Record.TheVariants.{Op as Kept, Resync, Recover}
 use Rattle.op.specs.FormatFault.{malformed}
 use Rattle.op.specs.Rules.{is_record}
-use Rattle.op.specs.Format.{AreBytes, number, signed, id_bytes, source_bytes, body_bytes, operation_bytes, operations_bytes, spelling, HasTexts, IsTyped}
+use Rattle.op.specs.Format.{AreBytes, number, signed, id_bytes, source_bytes, body_bytes, operation_bytes, operations_bytes, kept_fields, spelling, HasTexts, IsTyped}
 use Rattle.op.specs.Reading.{number_at, signed_at, id_at, source_at, body_at, operation_at, so_many_at, operations_at, kept_at, resync_at, recover_at, record_at, content_of, record_of}
 use Rattle.op.specs.Records.{IsOperation, IsUpTo, IsRecord}
 use Rattle.op.proofs.Lengths.{operations_count}
@@ -119,16 +119,21 @@ operations_again os rest few fits =
 
 -- ---- records
 
-kept_takes : (bytes : List ℕ) (x : Record × List ℕ) → AreBytes bytes → kept_at bytes ≡ Ok x → Takes (1 ∷ bytes) (spelling x.0) x.1 × IsTyped x.0
+pub fields_take : (bytes : List ℕ) (x : Record × List ℕ) → AreBytes bytes → kept_at bytes ≡ Ok x → Takes bytes (kept_fields x.0) x.1 × IsTyped x.0 × (spelling x.0 ≡ 1 ∷ kept_fields x.0)
 unfolding kept_at
-kept_takes bytes x fits e =
+fields_take bytes x fits e =
     let a = bind_ok (signed_at bytes) (λ g. operation_at g.1 >>= λ o. Ok (Kept g.0 o.0, o.1)) x e in
     let b = bind_ok (operation_at a.0.1) (λ o. Ok (Kept a.0.0 o.0, o.1)) x a.2 in
     let t0 = signed_takes bytes a.0.0 a.0.1 fits a.1 in
     let t1 = operation_takes a.0.1 b.0 t0.0.rest_fits b.1 in
     let both = Takes-then bytes (signed a.0.0) a.0.1 (operation_bytes b.0.0) b.0.1 t0.0 t1.0 in
     let made : Record × List ℕ = (Kept a.0.0 b.0.0, b.0.1) in
-    subst (λ (y : Record × List ℕ). Takes (1 ∷ bytes) (spelling y.0) y.1 × IsTyped y.0) (ok_is made x b.2) (record { parts = ap (λ (l : List ℕ). 1 ∷ l) both.parts; rest_fits = both.rest_fits }, (t0.1, t1.1))
+    subst (λ (y : Record × List ℕ). Takes bytes (kept_fields y.0) y.1 × IsTyped y.0 × (spelling y.0 ≡ 1 ∷ kept_fields y.0)) (ok_is made x b.2) (both, (t0.1, t1.1), refl)
+
+kept_takes : (bytes : List ℕ) (x : Record × List ℕ) → AreBytes bytes → kept_at bytes ≡ Ok x → Takes (1 ∷ bytes) (spelling x.0) x.1 × IsTyped x.0
+kept_takes bytes x fits e =
+    let t = fields_take bytes x fits e in
+    (record { parts = ap (λ (l : List ℕ). 1 ∷ l) t.0.parts ∙ ap (λ (l : List ℕ). l ++ x.1) (sym t.2); rest_fits = t.0.rest_fits }, t.1)
 
 resync_takes : (bytes : List ℕ) (x : Record × List ℕ) → AreBytes bytes → resync_at bytes ≡ Ok x → Takes (2 ∷ bytes) (spelling x.0) x.1 × IsTyped x.0
 unfolding resync_at
@@ -170,7 +175,7 @@ guard_ended true false x y e = absurd cc
 guard_ended false c x y e = absurd cc
 
 -- a content that fits a frame
-fits_frame : (b : Bool) (x y : List ℕ) → cond b (Err malformed) (Ok x) ≡ Ok y → (b ≡ false) × (x ≡ y)
+pub fits_frame : (b : Bool) (x y : List ℕ) → cond b (Err malformed) (Ok x) ≡ Ok y → (b ≡ false) × (x ≡ y)
 fits_frame true x y e = absurd cc
 fits_frame false x y e = (refl, cc)
 
@@ -188,7 +193,7 @@ record_spelt bytes r fits e =
     let whole : spelling a.0.0 ≡ bytes = sym (t.0.parts ∙ ap (λ (l : List ℕ). spelling a.0.0 ++ l) nothing ∙ append-nil (spelling a.0.0)) in
     subst (λ (y : Record). (spelling y ≡ bytes) × (is_record y ≡ true) × IsTyped y × (length bytes < 2 ^ 32)) g.2 (whole, g.1, t.1, omega arith)
 
-words_of : (o : Op) → IsOperation o → HasTexts o.body → HasWords o
+pub words_of : (o : Op) → IsOperation o → HasTexts o.body → HasWords o
 words_of o h texts = record { seq = omega arith; term = omega arith; version = omega arith; texts = texts }
 
 all_words : (term : ℕ) (os : List Op) → AllByRecursion (IsUpTo term) os → AllByRecursion (λ o. HasTexts o.body) os → AllByRecursion HasWords os

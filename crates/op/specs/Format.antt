@@ -11,7 +11,7 @@ use Rattle.op.specs.declared.operation.Body.TheVariants.{Index, Delete, NoOp}
 use Rattle.op.specs.declared.record.Record.{Record}
 use Rattle.op.specs.declared.record.Record.TheVariants.{Op as Kept, Resync, Recover}
 use Rattle.op.specs.FormatFault.{Fault, malformed, too_large}
-use Rattle.op.specs.Rules.{is_record}
+use Rattle.op.specs.Rules.{is_record, is_group}
 
 -- the length of each spelling
 abbrev pub body_length : Body → ℕ
@@ -66,6 +66,22 @@ spelling (Kept g o) = 1 ∷ (signed g ++ operation_bytes o)
 spelling (Resync term g os) = 2 ∷ (number term ++ (signed g ++ operations_bytes os))
 spelling (Recover term os) = 3 ∷ (number term ++ operations_bytes os)
 
+-- the fields of an operation's record, without the tag; a group has no other records
+abbrev pub kept_fields : Record → List ℕ
+kept_fields (Kept g o) = signed g ++ operation_bytes o
+kept_fields (Resync term g os) = []
+kept_fields (Recover term os) = []
+
+-- a group: its tag, four bytes of count, and the fields of each record
+abbrev pub group_spelling : List Record → List ℕ
+group_spelling rs = 4 ∷ (to_le_bytes w32 (length rs) ++ flat_map kept_fields rs)
+
+-- the records of one frame: one alone has its own spelling
+abbrev pub frame_spelling : List Record → List ℕ
+frame_spelling [] = group_spelling []
+frame_spelling (r ∷ []) = spelling r
+frame_spelling (r ∷ s ∷ rs) = group_spelling (r ∷ s ∷ rs)
+
 -- a text that is an id, and one that is a source
 abbrev pub IsIdText : List ℕ → Type 0
 IsIdText id = IsUtf8 id × (id_of id ≡ Ok id)
@@ -95,3 +111,9 @@ length_or n = if nat_lt 4294967295 n then Err too_large else Ok n
 -- the spelling that a record is written by, or why it has none: it breaks a rule, or is too large
 abbrev pub encoded : Record → Result (List ℕ) Fault
 encoded r = if is_record r then (if is_too_large r then Err too_large else Ok (spelling r)) else Err malformed
+
+-- the spelling that the records of one frame are written by, or why they have none: they are no group, or the one breaks a rule or is too large
+abbrev pub frame_encoded : List Record → Result (List ℕ) Fault
+frame_encoded [] = Err malformed
+frame_encoded (r ∷ []) = encoded r
+frame_encoded (r ∷ s ∷ rs) = if is_group (r ∷ s ∷ rs) then Ok (group_spelling (r ∷ s ∷ rs)) else Err malformed

@@ -1,5 +1,6 @@
 -- Reading a record from left to right. A field is a value and the bytes after it.
-use Rattle.std.specs.Prelude.{ℕ, ℤ, zero, suc, List, [], ◌∷◌, length, take, drop, Bool, ◌==◌, nat_lt, Result, Ok, Err, if◌then◌else◌}
+use Rattle.std.specs.Prelude.{ℕ, ℤ, zero, suc, List, [], ◌∷◌, length, take, drop, Bool, false, ◌==◌, nat_lt, Result, Ok, Err, if◌then◌else◌}
+use Rattle.std.specs.List.{list_all}
 use Rattle.std.specs.Str.{is_utf8}
 use Rattle.std.specs.Int.{Width, w16, w32, w64, byte_len, from_le_bytes, cast_signed}
 use Rattle.doc.specs.Outcome.{◌>>=◌}
@@ -12,7 +13,7 @@ use Rattle.op.specs.declared.operation.Body.TheVariants.{Index, Delete, NoOp}
 use Rattle.op.specs.declared.record.Record.{Record}
 use Rattle.op.specs.declared.record.Record.TheVariants.{Op as Kept, Resync, Recover}
 use Rattle.op.specs.FormatFault.{Fault, malformed}
-use Rattle.op.specs.Rules.{is_record}
+use Rattle.op.specs.Rules.{is_record, is_of_group, is_group_count}
 
 abbrev pub number_at : Width → List ℕ → Result (ℕ × List ℕ) Fault
 number_at w bytes = if nat_lt (length bytes) (byte_len w) then Err malformed else Ok (from_le_bytes w (take (byte_len w) bytes), drop (byte_len w) bytes)
@@ -119,3 +120,37 @@ record_of bytes = do
   content ← content_of bytes
   r ← record_at content
   if length r.1 == 0 then (if is_record r.0 then Ok r.0 else Err malformed) else Err malformed
+
+-- the fields of so many operations' records
+unfoldable pub so_many_kept_at : ℕ → List ℕ → Result (List Record × List ℕ) Fault
+so_many_kept_at zero bytes = Ok ([], bytes)
+so_many_kept_at (suc n) bytes = do
+  first ← kept_at bytes
+  others ← so_many_kept_at n first.1
+  Ok (first.0 ∷ others.0, others.1)
+
+-- a count of 2 to 1,024, and the fields of so many records
+unfoldable pub group_at : List ℕ → Result (List Record × List ℕ) Fault
+group_at bytes = do
+  count ← number_at w32 bytes
+  if is_group_count count.0 then so_many_kept_at count.0 count.1 else Err malformed
+
+-- the group that some bytes are behind its tag: they are all read, and each record keeps the rules
+unfoldable pub group_of : List ℕ → Result (List Record) Fault
+group_of bytes = do
+  rs ← group_at bytes
+  if length rs.1 == 0 then (if list_all is_of_group rs.0 then Ok rs.0 else Err malformed) else Err malformed
+
+abbrev pub has_tag : ℕ → List ℕ → Bool
+has_tag tag [] = false
+has_tag tag (b ∷ rest) = b == tag
+
+-- one record
+unfoldable pub alone_of : List ℕ → Result (List Record) Fault
+alone_of bytes = do
+  r ← record_of bytes
+  Ok (r ∷ [])
+
+-- the records that the content of a frame is: a group, or one record
+unfoldable pub records_of : List ℕ → Result (List Record) Fault
+records_of bytes = if has_tag 4 bytes then group_of (drop 1 bytes) else alone_of bytes

@@ -1,5 +1,5 @@
 -- Records, and the operations that a list of them leaves.
-use Rattle.std.specs.Prelude.{◌≡◌, ℕ, negsuc, suc, ◌<◌, ◌≤◌, ◌^◌, ◌≤ℤ◌, List, [], ◌∷◌, ◌++◌, fold, take}
+use Rattle.std.specs.Prelude.{◌≡◌, ℕ, negsuc, suc, ◌<◌, ◌≤◌, ◌^◌, ◌≤ℤ◌, List, [], ◌∷◌, ◌++◌, length, fold, take}
 use Rattle.std.specs.List.{AllByRecursion}
 use Rattle.op.specs.declared.operation.Op.{Op}
 use Rattle.op.specs.declared.operation.Body.{Body}
@@ -54,6 +54,24 @@ abbrev pub IsRecord : Record → Type 0
 IsRecord (Kept g o) = (negsuc 0 ≤ℤ g) × IsOperation o × IsWrite o.body
 IsRecord (Resync term g tail) = (negsuc 0 ≤ℤ g) × IsTerm term × IsHistory term (known g) tail
 IsRecord (Recover term all) = IsTerm term × IsHistory term 0 all
+
+-- a record of a group: an operation
+abbrev pub IsOfGroup : Record → Type 0
+IsOfGroup (Kept g o) = IsRecord (Kept g o)
+IsOfGroup (Resync term g tail) = ⊥
+IsOfGroup (Recover term all) = ⊥
+
+-- records that are kept together or not at all: 2 to 1,024 operations
+pub record IsGroup (rs : List Record) : Type 0 where
+  pub several : 2 ≤ length rs
+  pub few : length rs ≤ 1024
+  pub each : AllByRecursion IsOfGroup rs
+
+-- the records that one frame has: one of any kind, or a group
+abbrev pub AreOfOneFrame : List Record → Type 0
+AreOfOneFrame [] = ⊥
+AreOfOneFrame (r ∷ []) = IsRecord r
+AreOfOneFrame (r ∷ s ∷ rs) = IsGroup (r ∷ s ∷ rs)
 
 -- the operations after one more record: an operation is added where its number is free, a resync keeps what its checkpoint counts
 -- and adds its tail, a recovery replaces all

@@ -1,5 +1,6 @@
 -- The rules of records as tests.
-use Rattle.std.specs.Prelude.{ℕ, ℤ, negsuc, suc, ◌^◌, Bool, true, false, ◌&&◌, ◌==◌, nat_lt, nat_le, int_le, List, [], ◌∷◌}
+use Rattle.std.specs.Prelude.{ℕ, ℤ, negsuc, suc, ◌^◌, Bool, true, false, ◌&&◌, ◌==◌, nat_lt, nat_le, int_le, List, [], ◌∷◌, length}
+use Rattle.std.specs.List.{list_all}
 use Rattle.op.specs.declared.operation.Op.{Op}
 use Rattle.op.specs.declared.operation.Body.{Body}
 use Rattle.op.specs.declared.operation.Body.TheVariants.{Index, Delete, NoOp}
@@ -55,3 +56,16 @@ abbrev pub is_record : Record → Bool
 is_record (Kept g o) = is_op_record g o
 is_record (Resync term g os) = is_resync_record term g os
 is_record (Recover term os) = is_recover_record term os
+
+-- a record of a group is an operation
+abbrev pub is_of_group : Record → Bool
+is_of_group (Kept g o) = is_op_record g o
+is_of_group (Resync term g os) = false
+is_of_group (Recover term os) = false
+
+-- how many records a group has: 2 to 1,024
+abbrev pub is_group_count : ℕ → Bool
+is_group_count n = nat_le 2 n && nat_le n 1024
+
+abbrev pub is_group : List Record → Bool
+is_group rs = is_group_count (length rs) && list_all is_of_group rs

@@ -2,15 +2,16 @@
 
 ghost use Rattle.std.specs.Prelude.{◌≡◌, ◌≢◌, ℕ, ◌<◌, Bool, true, not, ◌&&◌, ◌↔◌, ◌^◌, List, None, Ok, length, is_some, IsTrue, if◌then◌else◌};
 ghost use Rattle.std.specs.FinMap.Entries.{is_sorted};
+ghost use Rattle.std.specs.List.{AllByRecursion};
 ghost use Rattle.doc.specs.Id.{Id, id_cmp};
 ghost use Rattle.op.specs.declared.operation.Op.{Op};
 ghost use Rattle.op.specs.declared.record.Record.{Record};
 ghost use Rattle.op.specs.Operations.{IsAscending, op_at, add, is_on, is_newer, last_on, local_count};
 ghost use Rattle.op.specs.Documents.{document_at, document_of, documents, left_by};
-ghost use Rattle.op.specs.Records.{IsRecord};
+ghost use Rattle.op.specs.Records.{AreOfOneFrame, IsGroup, IsRecord};
 ghost use Rattle.op.specs.Rules.{is_record};
-ghost use Rattle.op.specs.Format.{AreBytes, spelling, record_length, IsTyped};
-ghost use Rattle.op.specs.Reading.{record_of};
+ghost use Rattle.op.specs.Format.{AreBytes, frame_spelling, group_spelling, spelling, record_length, IsTyped};
+ghost use Rattle.op.specs.Reading.{record_of, records_of};
 
 /// The document at an id is what the last operation on it leaves.
 pub fn last_operation_decides()
@@ -57,4 +58,19 @@ pub fn spelt_is_read()
 /// The length of a record's spelling.
 pub fn length_of_a_spelling()
     ensures { (r : Record) → length (spelling r) ≡ record_length r }
+{}
+
+/// What is read of a frame is spelt so, each byte of it: one record that keeps the rules, or a group of them.
+pub fn read_frame_is_spelt()
+    ensures { (bytes : List ℕ) (rs : List Record) → AreBytes bytes → records_of bytes ≡ Ok rs → (frame_spelling rs ≡ bytes) × AreOfOneFrame rs × AllByRecursion IsTyped rs × (length bytes < 2 ^ 32) }
+{}
+
+/// What is spelt in one frame is read as the records that it was, where those keep the rules.
+pub fn spelt_frame_is_read()
+    ensures { (rs : List Record) → AreOfOneFrame rs → AllByRecursion IsTyped rs → length (frame_spelling rs) < 2 ^ 32 → records_of (frame_spelling rs) ≡ Ok rs }
+{}
+
+/// A group is never too large.
+pub fn group_is_small()
+    ensures { (rs : List Record) → IsGroup rs → AllByRecursion IsTyped rs → length (group_spelling rs) < 2 ^ 32 }
 {}

@@ -7,15 +7,15 @@ ghost use Rattle.doc.specs.Outcome.{Gives};
 ghost use Rattle.doc.specs.Id.{id_of};
 ghost use Rattle.doc.specs.Source.{source_of};
 ghost use Rattle.op.specs.FormatFault.{fault_of, malformed};
-ghost use Rattle.op.specs.Format.{spelling};
+ghost use Rattle.op.specs.Format.{frame_spelling, spelling};
 ghost use Rattle.op.specs.Reading as spec;
-ghost use Rattle.op.specs.Records.{IsRecord};
+ghost use Rattle.op.specs.Records.{AreOfOneFrame, IsRecord};
 
 use crate::fault::OpFault;
 use crate::operation::{Body, Op};
 use crate::operations::Operations;
 use crate::record::Record;
-use crate::rules::is_record;
+use crate::rules::{are_of_group, is_group_count, is_record};
 use crate::writing::MAX_SPELLING;
 use doc::{DocFault, DocId, Source};
 use std::alloc::Global;
@@ -41,6 +41,49 @@ fn whole_record(alloc: Global, bytes: &[u8]) -> Result<Record, OpFault>
         return Err(OpFault::Malformed);
     }
     if !is_record(&found) {
+        return Err(OpFault::Malformed);
+    }
+    Ok(found)
+}
+
+/// The records that the content of a frame spells, all of it: a group, or one record. `Malformed` where `decode` is, and where a group
+/// has fewer than 2 or more than 1,024 records, or one that isn't an operation with the rules kept.
+pub fn decode_frame(alloc: Global, bytes: &[u8]) -> Result<Vec<Record>, OpFault>
+    ensures exact { Gives fault_of (λ rs. rs.items) result (spec.records_of bytes.now) }
+    ensures spelt { IfOk result (λ rs. (frame_spelling rs.items ≡ bytes.now) × AreOfOneFrame rs.items) }
+{
+    whole_frame(alloc, bytes)
+}
+
+#[tactic(auto, unfolding(crate::specs::Reading::records_of))]
+fn whole_frame(alloc: Global, bytes: &[u8]) -> Result<Vec<Record>, OpFault>
+    ensures { Gives fault_of (λ rs. rs.items) result (spec.records_of bytes.now) }
+{
+    match bytes {
+        [4, rest @ ..] => whole_group(alloc, rest),
+        _ => alone(alloc, bytes),
+    }
+}
+
+#[tactic(auto, unfolding(crate::specs::Reading::alone_of))]
+fn alone(alloc: Global, bytes: &[u8]) -> Result<Vec<Record>, OpFault>
+    ensures { Gives fault_of (λ rs. rs.items) result (spec.alone_of bytes.now) }
+{
+    let found = whole_record(alloc, bytes)?;
+    let mut records = Vec::new(alloc);
+    records.push(found)?;
+    Ok(records)
+}
+
+#[tactic(auto, unfolding(crate::specs::Reading::group_of))]
+fn whole_group(alloc: Global, bytes: &[u8]) -> Result<Vec<Record>, OpFault>
+    ensures { Gives fault_of (λ rs. rs.items) result (spec.group_of bytes.now) }
+{
+    let (found, after) = group_at(alloc, bytes)?;
+    if !after.is_empty() {
+        return Err(OpFault::Malformed);
+    }
+    if !are_of_group(found.as_slice()) {
         return Err(OpFault::Malformed);
     }
     Ok(found)
@@ -266,4 +309,30 @@ fn recover_at(alloc: Global, bytes: &[u8]) -> Result<(Record, &[u8]), OpFault>
     let (term, rest) = u64_at(bytes)?;
     let (all, rest) = operations_at(alloc, rest)?;
     Ok((Record::Recover(term, all), rest))
+}
+
+// ---- groups
+
+#[tactic(auto, unfolding(crate::specs::Reading::group_at))]
+fn group_at(alloc: Global, bytes: &[u8]) -> Result<(Vec<Record>, &[u8]), OpFault>
+    ensures { Gives fault_of (λ x. (x.0.items, x.1.now)) result (spec.group_at bytes.now) }
+{
+    let (count, rest) = u32_at(bytes)?;
+    if !is_group_count(count as usize) {
+        return Err(OpFault::Malformed);
+    }
+    so_many_kept_at(alloc, count, rest)
+}
+
+fn so_many_kept_at(alloc: Global, count: u32, bytes: &[u8]) -> Result<(Vec<Record>, &[u8]), OpFault>
+    ensures { Gives fault_of (λ x. (x.0.items, x.1.now)) result (spec.so_many_kept_at count bytes.now) }
+{
+    let mut found = Vec::new(alloc);
+    let mut rest = bytes;
+    for _ in 0..count {
+        let (kept, after) = kept_at(alloc, rest)?;
+        found.push(kept)?;
+        rest = after;
+    }
+    Ok((found, rest))
 }

@@ -1,5 +1,6 @@
 //! The rules of records.
 ghost use Rattle.std.specs.Prelude.{◌≡◌};
+ghost use Rattle.std.specs.List.{list_all};
 ghost use Rattle.op.specs.Rules as spec;
 
 use crate::checkpoint::count;
@@ -8,6 +9,9 @@ use crate::record::Record;
 
 /// The greatest sequence number, term and version.
 const MAX_NUMBER: u64 = 9_223_372_036_854_775_807;
+
+/// The greatest number of records in a group.
+const MAX_GROUP: usize = 1_024;
 
 /// Whether a record keeps the rules of the translog's format.
 pub fn is_record(found: &Record) -> bool
@@ -39,6 +43,34 @@ pub fn is_recover_record(term: u64, all: &[Op]) -> bool
     ensures { result ≡ spec.is_recover_record term all.now }
 {
     is_term(term) && is_history(term, 0, all)
+}
+
+/// Whether so many records may make a group.
+pub(crate) fn is_group_count(count: usize) -> bool
+    ensures { result ≡ spec.is_group_count count }
+{
+    count >= 2 && count <= MAX_GROUP
+}
+
+/// Whether each record may stand in a group.
+pub(crate) fn are_of_group(found: &[Record]) -> bool
+    ensures { result ≡ list_all spec.is_of_group found.now }
+{
+    for one in found {
+        if !is_of_group(one) {
+            return false;
+        }
+    }
+    true
+}
+
+fn is_of_group(found: &Record) -> bool
+    ensures { result ≡ spec.is_of_group found.now }
+{
+    match found {
+        Record::Op(known, op) => is_op_record(*known, op),
+        _ => false,
+    }
 }
 
 /// Whether a number is a checkpoint: at least -1.

@@ -1,16 +1,17 @@
 //! Records as bytes.
-ghost use Rattle.std.specs.Prelude.{◌≡◌, ◌≤◌, ◌++◌, length, Ok, IfOk, IfErr, OnOk};
-ghost use Rattle.std.specs.List.{flat_map, AllByRecursion};
+ghost use Rattle.std.specs.Prelude.{◌≡◌, ◌≢◌, ◌≤◌, ◌++◌, ◌*◌, true, false, length, Ok, IfOk, IfErr, OnErr, OnOk};
+ghost use Rattle.std.specs.List.{flat_map, list_all, AllByRecursion};
 ghost use Rattle.doc.specs.Outcome.{Gives};
 ghost use Rattle.op.specs.declared.record.Record.TheVariants.{Op as Kept, Resync, Recover};
 ghost use Rattle.op.specs.FormatFault.{fault_of};
 ghost use Rattle.op.specs.Format as spec;
-ghost use Rattle.op.specs.Reading.{record_of};
+ghost use Rattle.op.specs.Reading.{record_of, records_of};
+ghost use Rattle.op.specs.Rules.{is_of_group, is_op_record};
 
 use crate::fault::OpFault;
 use crate::operation::{Body, Op};
 use crate::record::Record;
-use crate::rules::is_record;
+use crate::rules::{is_group_count, is_op_record, is_record};
 use doc::{DocId, Source};
 use std::alloc::{AllocError, Global};
 
@@ -29,6 +30,34 @@ pub fn encode(alloc: Global, found: &Record) -> Result<Vec<u8>, OpFault>
     let len = record_len(found)?;
     let mut out = Vec::with_capacity(alloc, len)?;
     put_record(&mut out, found)?;
+    Ok(out)
+}
+
+/// The one spelling of the records of one frame: of one record as `encode`, of 2 to 1,024 operations their group. `Malformed` where there
+/// are none or more, where a record of several isn't an operation, or where one breaks a rule.
+#[tactic(auto, using(crate::proofs::Groups::only_one, crate::proofs::Groups::alone_read))]
+pub fn encode_group(alloc: Global, group: &[Record]) -> Result<Vec<u8>, OpFault>
+    ensures exact { Gives fault_of (λ v. v.items) result (spec.frame_encoded group.now) }
+    ensures reads { IfOk result (λ v. records_of v.items ≡ Ok group.now) }
+{
+    if group.len() == 1 {
+        return encode(alloc, &group[0]);
+    }
+    encode_several(alloc, group)
+}
+
+#[tactic(auto, using(crate::proofs::Groups::several_encoded, crate::proofs::Groups::several_read))]
+fn encode_several(alloc: Global, group: &[Record]) -> Result<Vec<u8>, OpFault>
+    requires { length group.now ≢ 1 }
+    ensures exact { Gives fault_of (λ v. v.items) result (spec.frame_encoded group.now) }
+    ensures reads { IfOk result (λ v. records_of v.items ≡ Ok group.now) }
+{
+    if !is_group_count(group.len()) {
+        return Err(OpFault::Malformed);
+    }
+    let len = fields_len(group)?;
+    let mut out = Vec::with_capacity(alloc, 5 + len)?;
+    put_group(&mut out, group)?;
     Ok(out)
 }
 
@@ -116,6 +145,42 @@ fn record_len(found: &Record) -> Result<usize, OpFault>
             checked_len(21 + operations_len(tail.as_slice())?)
         }
         Record::Recover(_, all) => checked_len(13 + operations_len(all.as_slice())?),
+    }
+}
+
+/// How many bytes the fields of these records have, each being an operation with its rules kept.
+fn fields_len(group: &[Record]) -> Result<usize, OpFault>
+    requires { length group.now ≤ 1024 }
+    ensures len { IfOk result (λ n. n ≡ length (flat_map spec.kept_fields group.now)) }
+    ensures rules { OnOk result (list_all is_of_group group.now ≡ true) }
+    ensures typed { OnOk result (AllByRecursion spec.IsTyped group.now) }
+    ensures refused { OnErr result (list_all is_of_group group.now ≡ false) }
+    ensures cause { IfErr result (λ e. e ≡ OpFault.Malformed) }
+    ensures bounded { IfOk result (λ n. n ≤ 1024 * 66087) }
+{
+    let mut len = 0;
+    for found in group {
+        len += kept_len(found)?;
+    }
+    Ok(len)
+}
+
+fn kept_len(found: &Record) -> Result<usize, OpFault>
+    ensures len { IfOk result (λ n. n ≡ length (spec.kept_fields found.now)) }
+    ensures rules { OnOk result (is_of_group found.now ≡ true) }
+    ensures typed { OnOk result (spec.IsTyped found.now) }
+    ensures refused { OnErr result (is_of_group found.now ≡ false) }
+    ensures cause { IfErr result (λ e. e ≡ OpFault.Malformed) }
+    ensures bounded { IfOk result (λ n. n ≤ 66087) }
+{
+    match found {
+        Record::Op(known, op) => {
+            if !is_op_record(*known, op) {
+                return Err(OpFault::Malformed);
+            }
+            Ok(8 + operation_len(op))
+        }
+        _ => Err(OpFault::Malformed),
     }
 }
 
@@ -223,4 +288,28 @@ fn put_record(out: &mut Vec<u8>, found: &Record) -> Result<(), AllocError>
         Record::Resync(term, known, tail) => put_resync(out, *term, known, tail.as_slice()),
         Record::Recover(term, all) => put_recover(out, *term, all.as_slice()),
     }
+}
+
+fn put_fields(out: &mut Vec<u8>, found: &Record) -> Result<(), AllocError>
+    ensures { OnOk result (out.new.items ≡ out.old.items ++ spec.kept_fields found.now) }
+{
+    match found {
+        Record::Op(known, op) => {
+            put_signed(out, known)?;
+            put_operation(out, op)
+        }
+        _ => Ok(()),
+    }
+}
+
+fn put_group(out: &mut Vec<u8>, group: &[Record]) -> Result<(), AllocError>
+    requires { length group.now ≤ 4294967295 }
+    ensures { OnOk result (out.new.items ≡ out.old.items ++ spec.group_spelling group.now) }
+{
+    out.push(4)?;
+    out.extend_from_slice(&(group.len() as u32).to_le_bytes())?;
+    for found in group {
+        put_fields(out, found)?;
+    }
+    Ok(())
 }

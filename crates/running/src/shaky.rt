@@ -1,5 +1,5 @@
 //! Devices in memory, one of which fails once.
-ghost use Rattle.std.specs.Prelude.{◌-◌, vec_len, vec_capacity, false};
+ghost use Rattle.std.specs.Prelude.{◌-◌, vec_len, vec_capacity, length, false};
 
 use cluster::Devices;
 use std::alloc::{AllocError, Global};
@@ -19,6 +19,10 @@ pub(crate) struct Shaky {
 
 impl LogDevice for Shaky {
     ghost bytes = { λ d. d.bytes.items };
+
+    ghost synced = { λ d. length d.bytes.items };
+
+    ghost is_doubtful = { λ _. false };
 
     ghost room = { λ d. vec_capacity d.bytes - vec_len d.bytes };
 
@@ -43,6 +47,14 @@ impl LogDevice for Shaky {
             return Err(Failed);
         }
         Ok(())
+    }
+
+    fn sync(&mut self) -> Result<usize, Failed> {
+        Ok(self.bytes.len())
+    }
+
+    fn is_synced(&self) -> bool {
+        true
     }
 
     fn read_all(&mut self, alloc: Global) -> Result<Vec<u8>, DeviceFault> {

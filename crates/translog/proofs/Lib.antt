@@ -1,2 +1,5 @@
 pub mod FramesLaws
 pub mod RecordsLaws
+pub mod PiecesLaws
+pub mod PieceReading
+pub mod PieceWriting

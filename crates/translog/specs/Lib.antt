@@ -3,3 +3,4 @@ pub mod Memory
 pub mod Fault
 pub mod Frames
 pub mod Kept
+pub mod Pieces

@@ -1,5 +1,5 @@
 //! A device in a file.
-ghost use Rattle.std.specs.Prelude.{◌≡◌, false, length, IfOk, IfSome};
+ghost use Rattle.std.specs.Prelude.{◌≡◌, ◌≤◌, true, false, length, IfOk, IfSome, OnOk};
 ghost use Rattle.translog.specs.Memory.{room_in};
 
 use crate::device::{DeviceFault, Failed, LogDevice};
@@ -9,31 +9,49 @@ use std::io;
 use std::io::{Read, Write};
 
 /// A file that was opened to be read and appended to. What it holds is kept in memory too, for no contract can say what a disk gives back:
-/// what a log is opened with is what was read at first, and what was written and synced since. Nobody else may change the file.
+/// what a log is opened with is what was read at first, and what was written since. Nobody else may change the file.
+///
+/// A device that syncs when it is told writes then, too: all that was appended since in one piece, so that what a crash leaves of it is a front.
+///
+/// After a sync that failed the disk may have neither what was written nor tell so again: that sync isn't tried again, and until `read_all` has
+/// written those bytes anew the device takes nothing.
 #[derive(Drop)]
 pub struct FileDevice<F: Read + Write + OpenFile + Drop> {
     file: F,
     bytes: Vec<u8>,
+    /// How many of these bytes are on the disk for sure.
+    synced: usize,
     failures: u64,
+    /// Whether it writes and syncs when it is told alone, and not in `append`.
+    is_lazy: bool,
     /// Whether the file may hold more than these bytes: a front of a piece whose append failed.
     overhangs: bool,
+    /// Whether a sync has failed, or what was to mend that.
+    is_doubtful: bool,
+    ghost within: { synced ≤ length bytes.items },
 }
 
 impl<F: Read + Write + OpenFile + Drop> FileDevice<F> {
-    /// Reads a file from where it stands to its end.
+    /// Reads a file from where it stands to its end, and syncs what it found. The device syncs in `append`.
     pub fn open(alloc: Global, file: F) -> io::Result<FileDevice<F>>
         ensures bytes { IfOk result (λ d. IfSome (F.remaining file) (λ bytes. d.bytes.items ≡ bytes)) }
+        ensures synced { IfOk result (λ d. d.synced ≡ length d.bytes.items) }
+        ensures sure { IfOk result (λ d. d.is_doubtful ≡ false) }
         ensures failures { IfOk result (λ d. d.failures ≡ 0) }
+        ensures kind { IfOk result (λ d. d.is_lazy ≡ false) }
     {
-        let mut file = file;
-        let mut bytes = Vec::new(alloc);
-        file.read_to_end(&mut bytes)?;
-        Ok(FileDevice {
-            file,
-            bytes,
-            failures: 0,
-            overhangs: false,
-        })
+        opened(alloc, file, false)
+    }
+
+    /// The same, but that the device writes and syncs when it is told alone.
+    pub fn lazily(alloc: Global, file: F) -> io::Result<FileDevice<F>>
+        ensures bytes { IfOk result (λ d. IfSome (F.remaining file) (λ bytes. d.bytes.items ≡ bytes)) }
+        ensures synced { IfOk result (λ d. d.synced ≡ length d.bytes.items) }
+        ensures sure { IfOk result (λ d. d.is_doubtful ≡ false) }
+        ensures failures { IfOk result (λ d. d.failures ≡ 0) }
+        ensures kind { IfOk result (λ d. d.is_lazy ≡ true) }
+    {
+        opened(alloc, file, true)
     }
 
     /// How many bytes it holds.
@@ -42,6 +60,75 @@ impl<F: Read + Write + OpenFile + Drop> FileDevice<F> {
     {
         self.bytes.len()
     }
+
+    /// Has the file hold these bytes alone, and waits until they are on the disk. Those that aren't there for sure are written anew.
+    fn settle(&mut self) -> io::Result<()>
+        ensures bytes { self.new.bytes ≡ self.old.bytes }
+        ensures synced { OnOk result (self.new.synced ≡ length self.new.bytes.items) }
+        ensures stays { self.old.synced ≤ self.new.synced }
+        ensures sure { OnOk result (self.new.is_doubtful ≡ false) }
+        ensures failures { self.new.failures ≡ self.old.failures }
+    {
+        if !self.is_doubtful && !self.overhangs && self.synced == self.bytes.len() {
+            return Ok(());
+        }
+        self.rewrite()
+    }
+
+    /// Writes those anew that aren't on the disk for sure, and waits until they are.
+    fn rewrite(&mut self) -> io::Result<()>
+        ensures bytes { self.new.bytes ≡ self.old.bytes }
+        ensures synced { OnOk result (self.new.synced ≡ length self.new.bytes.items) }
+        ensures stays { self.old.synced ≤ self.new.synced }
+        ensures sure { OnOk result (self.new.is_doubtful ≡ false) }
+        ensures failures { self.new.failures ≡ self.old.failures }
+    {
+        self.file.set_len(self.synced as u64)?;
+        self.file.write_all(&self.bytes[self.synced..])?;
+        self.file.sync_all()?;
+        self.synced = self.bytes.len();
+        self.overhangs = false;
+        self.is_doubtful = false;
+        Ok(())
+    }
+}
+
+/// The device of a file that was just opened. What a device that synced when it was told has left there may not be on the disk.
+fn opened<F: Read + Write + OpenFile + Drop>(
+    alloc: Global,
+    file: F,
+    is_lazy: bool,
+) -> io::Result<FileDevice<F>>
+    ensures bytes { IfOk result (λ d. IfSome (F.remaining file) (λ bytes. d.bytes.items ≡ bytes)) }
+    ensures synced { IfOk result (λ d. d.synced ≡ length d.bytes.items) }
+    ensures sure { IfOk result (λ d. d.is_doubtful ≡ false) }
+    ensures failures { IfOk result (λ d. d.failures ≡ 0) }
+    ensures kind { IfOk result (λ d. d.is_lazy ≡ is_lazy) }
+{
+    let mut file = file;
+    let mut bytes = Vec::new(alloc);
+    file.read_to_end(&mut bytes)?;
+    if !bytes.is_empty() {
+        file.sync_data()?;
+    }
+    let synced = bytes.len();
+    Ok(FileDevice {
+        file,
+        bytes,
+        synced,
+        failures: 0,
+        is_lazy,
+        overhangs: false,
+        is_doubtful: false,
+    })
+}
+
+/// Adds a piece to a file and waits until it is on the disk, unless that is left for a sync.
+fn add<F: Write + OpenFile>(file: &mut F, piece: &[u8], is_lazy: bool) -> io::Result<()> {
+    if is_lazy {
+        return Ok(());
+    }
+    write(file, piece)
 }
 
 /// Adds a piece to a file, and waits until it is on the disk.
@@ -52,6 +139,10 @@ fn write<F: Write + OpenFile>(file: &mut F, piece: &[u8]) -> io::Result<()> {
 
 impl<F: Read + Write + OpenFile + Drop> LogDevice for FileDevice<F> {
     ghost bytes = { λ d. d.bytes.items };
+
+    ghost synced = { λ d. d.synced };
+
+    ghost is_doubtful = { λ d. d.is_doubtful };
 
     ghost room = { λ d. room_in d.bytes };
 
@@ -64,27 +155,42 @@ impl<F: Read + Write + OpenFile + Drop> LogDevice for FileDevice<F> {
     }
 
     fn append(&mut self, piece: &[u8]) -> Result<(), Failed> {
-        if self.overhangs
+        if self.is_doubtful
+            || self.overhangs
             || self.bytes.reserve(piece.len()).is_err()
-            || write(&mut self.file, piece).is_err()
+            || add(&mut self.file, piece, self.is_lazy).is_err()
             || self.bytes.extend_from_slice(piece).is_err()
         {
             self.overhangs = true;
             self.failures = self.failures.saturating_add(1);
             return Err(Failed);
         }
+        if !self.is_lazy {
+            self.synced = self.bytes.len();
+        }
         Ok(())
     }
 
+    fn sync(&mut self) -> Result<usize, Failed> {
+        let rest = &self.bytes[self.synced..];
+        if self.is_doubtful || !rest.is_empty() && write(&mut self.file, rest).is_err() {
+            self.is_doubtful = true;
+            self.failures = self.failures.saturating_add(1);
+            return Err(Failed);
+        }
+        self.synced = self.bytes.len();
+        Ok(self.synced)
+    }
+
+    fn is_synced(&self) -> bool {
+        !self.is_doubtful && self.synced == self.bytes.len()
+    }
+
     fn read_all(&mut self, alloc: Global) -> Result<Vec<u8>, DeviceFault> {
-        if self.overhangs {
-            if self.file.set_len(self.bytes.len() as u64).is_err()
-                || self.file.sync_all().is_err()
-            {
-                self.failures = self.failures.saturating_add(1);
-                return Err(DeviceFault::Failed);
-            }
-            self.overhangs = false;
+        if self.settle().is_err() {
+            self.is_doubtful = true;
+            self.failures = self.failures.saturating_add(1);
+            return Err(DeviceFault::Failed);
         }
         Ok(self.bytes.to_vec(alloc)?)
     }
@@ -95,13 +201,19 @@ impl<F: Read + Write + OpenFile + Drop> LogDevice for FileDevice<F> {
         } else {
             self.bytes.len()
         };
-        if self.file.set_len(left as u64).is_err() {
+        let front = if left < self.synced {
+            left
+        } else {
+            self.synced
+        };
+        if self.is_doubtful || self.file.set_len(front as u64).is_err() {
             self.failures = self.failures.saturating_add(1);
             return Err(Failed);
         }
+        self.synced = front;
         self.bytes.truncate(left);
-        self.overhangs = false;
-        if self.file.sync_all().is_err() {
+        if self.rewrite().is_err() {
+            self.is_doubtful = true;
             self.failures = self.failures.saturating_add(1);
             return Err(Failed);
         }

@@ -1,10 +1,10 @@
 //! Logs of frames.
-ghost use Rattle.std.specs.Prelude.{◌≡◌, ◌≤◌, ◌<◌, ◌^◌, ◌++◌, ◌+◌, ◌-◌, true, false, None, List, ℕ, take, option_map, IfSome, map, length, is_err, IfOk, IsOk, IfErr, OnOk, OnErr};
+ghost use Rattle.std.specs.Prelude.{◌≡◌, ◌≤◌, ◌<◌, ◌^◌, ◌++◌, ◌+◌, ◌-◌, true, false, None, List, ℕ, take, option_map, nat_lt, Err, Ok, if◌then◌else◌, IfSome, map, length, is_err, IfOk, IsOk, IfErr, OnOk, OnErr};
 ghost use Rattle.doc.specs.Outcome.{Gives};
 ghost use Rattle.translog.specs.declared.fault.LogFault.TheVariants.{Device};
 ghost use Rattle.translog.specs.declared.frames.Torn.TheVariants.{Nothing, End};
 ghost use Rattle.translog.specs.Device.{AddsFront, count_after};
-ghost use Rattle.translog.specs.Fault.{errs_with, fault_of, is_device};
+ghost use Rattle.translog.specs.Fault.{errs_with, fault_of, is_device, too_large};
 ghost use Rattle.std.specs.List.{flat_map};
 ghost use Rattle.std.specs.Str.{bytes_eq};
 ghost use Rattle.translog.specs.Frames.{contents_in, first_frame, frame_of, framed, mended, AreContents, IsLog, IsOpened, IsTorn, IsUnopened};
@@ -12,6 +12,7 @@ ghost use Rattle.translog.specs.Frames.{contents_in, first_frame, frame_of, fram
 use crate::device::LogDevice;
 use crate::fault::LogFault;
 use crate::refused::Refused;
+use crate::synced::Synced;
 use std::alloc::{AllocError, Global};
 use std::marker::Model;
 
@@ -40,7 +41,7 @@ impl Model for Frame {
 
 impl Frame {
     /// The frame of a content.
-    fn of(alloc: Global, content: &[u8]) -> Result<Frame, LogFault>
+    pub(crate) fn of(alloc: Global, content: &[u8]) -> Result<Frame, LogFault>
         ensures frame { Gives fault_of (λ f. f) result (frame_of content.now) }
         ensures no_failure { IfErr result (λ e. is_device e ≡ false) }
     {
@@ -52,6 +53,37 @@ impl Frame {
         bytes.extend_from_slice(content)?;
         Ok(Frame { bytes })
     }
+
+    /// The frames of two contents, one behind the other, for one append.
+    pub(crate) fn behind(alloc: Global, front: &[u8], content: &[u8]) -> Result<Frame, LogFault>
+        requires { length front.now < 2 ^ 32 }
+        ensures frame { Gives fault_of (λ f. f) result (if nat_lt 4294967295 (length content.now) then Err too_large else Ok (framed front.now ++ framed content.now)) }
+        ensures no_failure { IfErr result (λ e. is_device e ≡ false) }
+    {
+        if content.len() > MAX_CONTENT {
+            return Err(LogFault::TooLarge);
+        }
+        let mut bytes = Vec::with_capacity(alloc, content.len().saturating_add(2 * LENGTH + 1))?;
+        put_frame(&mut bytes, front)?;
+        put_frame(&mut bytes, content)?;
+        Ok(Frame { bytes })
+    }
+
+    /// Its bytes.
+    pub(crate) fn as_slice(&self) -> &[u8]
+        ensures { result.now ≡ self.now }
+    {
+        &self.bytes
+    }
+}
+
+/// Adds the frame of a content to some bytes.
+fn put_frame(bytes: &mut Vec<u8>, content: &[u8]) -> Result<(), AllocError>
+    requires { length content.now < 2 ^ 32 }
+    ensures { OnOk result (bytes.new.items ≡ bytes.old.items ++ framed content.now) }
+{
+    bytes.extend_from_slice(&(content.len() as u32).to_le_bytes())?;
+    bytes.extend_from_slice(content)
 }
 
 /// What is torn of a log, as a crash leaves it.
@@ -180,6 +212,32 @@ impl<D: LogDevice> Frames<D> {
         Ok(())
     }
 
+    /// Waits until the whole log is there after a crash too. One that failed isn't tried again: until the log is opened again, or read, it is refused,
+    /// and so is an append.
+    pub fn sync(&mut self) -> Result<Synced, LogFault>
+        ensures held { D.bytes self.new.device ≡ D.bytes self.old.device }
+        ensures room { D.room self.new.device ≡ D.room self.old.device }
+        ensures all { IfOk result (λ s. s ≡ length (D.bytes self.new.device)) }
+        ensures synced { OnOk result (D.synced self.new.device ≡ length (D.bytes self.new.device)) }
+        ensures doubt { OnErr result (D.is_doubtful self.new.device ≡ true) }
+        ensures refused { D.is_doubtful self.old.device ≡ true → is_err result ≡ true }
+        ensures cause { IfErr result (λ e. e ≡ Device) }
+        ensures counts { D.failures self.new.device ≡ count_after (is_err result) (D.failures self.old.device) }
+        ensures in_memory { D.in_memory ≡ true → IsOk result }
+        ensures header { self.new.header ≡ self.old.header }
+    {
+        let bytes = self.device.sync()?;
+        Ok(Synced::of(bytes))
+    }
+
+    /// Whether the whole log is there after a crash too.
+    pub fn is_synced(&self) -> bool
+        ensures synced { result ≡ true → D.synced self.now.device ≡ length (D.bytes self.now.device) }
+        ensures in_memory { D.in_memory ≡ true → result ≡ true }
+    {
+        self.device.is_synced()
+    }
+
     /// The device.
     pub fn device(&self) -> &D
         ensures { result.now ≡ self.now.device }
@@ -216,7 +274,7 @@ fn scanned<D: LogDevice>(
 }
 
 /// All the bytes of a device.
-fn read<D: LogDevice>(alloc: Global, device: &mut D) -> Result<Vec<u8>, LogFault>
+pub(crate) fn read<D: LogDevice>(alloc: Global, device: &mut D) -> Result<Vec<u8>, LogFault>
     ensures bytes { IfOk result (λ bytes. bytes.items ≡ D.bytes device.old) }
     ensures held { D.bytes device.new ≡ D.bytes device.old }
     ensures cause { IfErr result (λ e. fault_of e ≡ None) }
@@ -230,7 +288,11 @@ fn read<D: LogDevice>(alloc: Global, device: &mut D) -> Result<Vec<u8>, LogFault
 }
 
 /// The contents that some bytes hold, and what is torn beside them.
-fn found(alloc: Global, header: &[u8; 4], held: &[u8]) -> Result<(Vec<Vec<u8>>, Torn), LogFault>
+pub(crate) fn found(
+    alloc: Global,
+    header: &[u8; 4],
+    held: &[u8],
+) -> Result<(Vec<Vec<u8>>, Torn), LogFault>
     ensures found { Gives fault_of (λ x. map (λ c. c.items) x.0.items) result (contents_in header.now held.now) }
     ensures torn { IfOk result (λ x. IsTorn header.now held.now (map (λ c. c.items) x.0.items) x.1) }
     ensures offsets { IfOk result (λ x. 4 + length (flat_map framed (map (λ c. c.items) x.0.items)) < 2 ^ 64) }
@@ -326,7 +388,7 @@ fn mend<D: LogDevice>(header: &[u8; 4], device: &mut D, torn: Torn) -> Result<()
 }
 
 /// Writes the header of a log that has none, or a part of it.
-fn write_header<D: LogDevice>(header: &[u8; 4], device: &mut D) -> Result<(), LogFault>
+pub(crate) fn write_header<D: LogDevice>(header: &[u8; 4], device: &mut D) -> Result<(), LogFault>
     requires { (m : ℕ) × (m < 4) × (D.bytes device.old ≡ take m header.now) }
     ensures ok { OnOk result (D.bytes device.new ≡ header.now) }
     ensures counts { OnOk result (D.failures device.new ≡ D.failures device.old) }

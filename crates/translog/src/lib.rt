@@ -8,7 +8,9 @@ pub mod frames;
 pub mod laws;
 pub mod log;
 pub mod memory;
+pub mod pieces;
 pub mod refused;
+pub mod synced;
 
 pub use device::{DeviceFault, Failed, LogDevice};
 pub use fault::LogFault;
@@ -16,4 +18,6 @@ pub use file::FileDevice;
 pub use frames::{Frame, Frames, Torn};
 pub use log::Translog;
 pub use memory::MemDevice;
+pub use pieces::PieceLog;
 pub use refused::Refused;
+pub use synced::Synced;

@@ -16,6 +16,7 @@ use crate::device::LogDevice;
 use crate::fault::LogFault;
 use crate::frames::{Frame, Frames, Torn};
 use crate::refused::Refused;
+use crate::synced::Synced;
 use op::laws::rules_are_tested;
 use op::{OpFault, Record, decode, encode};
 use std::alloc::Global;
@@ -139,6 +140,30 @@ impl<D: LogDevice> Translog<D> {
         ensures in_memory { D.in_memory ≡ true → length frame ≤ D.room self.old → IsOk result }
     {
         self.frames.append(frame)
+    }
+
+    /// Waits until the whole translog is there after a crash too. One that failed isn't tried again: until the translog is opened again, or read, it is
+    /// refused, and so is an append.
+    pub fn sync(&mut self) -> Result<Synced, LogFault>
+        ensures held { D.bytes self.new ≡ D.bytes self.old }
+        ensures room { D.room self.new ≡ D.room self.old }
+        ensures all { IfOk result (λ s. s ≡ length (D.bytes self.new)) }
+        ensures synced { OnOk result (D.synced self.new ≡ length (D.bytes self.new)) }
+        ensures doubt { OnErr result (D.is_doubtful self.new ≡ true) }
+        ensures refused { D.is_doubtful self.old ≡ true → is_err result ≡ true }
+        ensures cause { IfErr result (λ e. e ≡ Device) }
+        ensures counts { D.failures self.new ≡ count_after (is_err result) (D.failures self.old) }
+        ensures in_memory { D.in_memory ≡ true → IsOk result }
+    {
+        self.frames.sync()
+    }
+
+    /// Whether the whole translog is there after a crash too.
+    pub fn is_synced(&self) -> bool
+        ensures synced { result ≡ true → D.synced self.now ≡ length (D.bytes self.now) }
+        ensures in_memory { D.in_memory ≡ true → result ≡ true }
+    {
+        self.frames.is_synced()
     }
 
     /// The device.

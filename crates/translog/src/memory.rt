@@ -1,5 +1,5 @@
 //! A device in memory.
-ghost use Rattle.std.specs.Prelude.{◌≡◌, [], true};
+ghost use Rattle.std.specs.Prelude.{◌≡◌, [], true, false, length};
 ghost use Rattle.translog.specs.Memory.{spare};
 
 use crate::device::{DeviceFault, Failed, LogDevice};
@@ -32,6 +32,10 @@ impl MemDevice {
 impl LogDevice for MemDevice {
     ghost bytes = { λ m. m.bytes.items };
 
+    ghost synced = { λ m. length m.bytes.items };
+
+    ghost is_doubtful = { λ _. false };
+
     ghost room = { λ m. spare m };
 
     ghost failures = { λ m. m.failures };
@@ -50,6 +54,14 @@ impl LogDevice for MemDevice {
                 Err(Failed)
             }
         }
+    }
+
+    fn sync(&mut self) -> Result<usize, Failed> {
+        Ok(self.bytes.len())
+    }
+
+    fn is_synced(&self) -> bool {
+        true
     }
 
     fn read_all(&mut self, alloc: Global) -> Result<Vec<u8>, DeviceFault> {

@@ -1,16 +1,16 @@
 use Rattle.std.proofs.lemmas.Result.{err_from_is_err_and}
 use Rattle.op.specs.FormatFault.{fault_of}
-use Rattle.op.specs.Reading.{so_many_at}
-use Rattle.op.proofs.Loop.{goes_on, ends, is_done}
+use Rattle.op.specs.Reading.{operation_at, so_many_at}
+use Rattle.op.proofs.Loop.{operations_repeat, goes_on, ends, is_done}
 use Rattle.op.proofs.reading.so_many_at.Goals as goal
 
 pub returns-in_err-op : goal.returns-in_err-op
 returns-in_err-op c =
     let p = err_from_is_err_and c.from_residual.result c.from_residual.ensures.1 in
-    rw (p.1, p.2) (ends fault_of c.in_err-op.field-0.0 c.loop.found.items c.args.count c.loop.counter c.loop.rest.now (so_many_at c.args.count c.args.bytes.now) c.loop-test.true c.in_err-op.ensures c.loop.invariant)
+    rw (p.1, p.2) (ends operation_at so_many_at operations_repeat fault_of c.in_err-op.field-0.0 c.loop.found.items c.args.count c.loop.counter c.loop.rest.now (so_many_at c.args.count c.args.bytes.now) c.loop-test.true c.in_err-op.ensures c.loop.invariant)
 
 pub loop-preserved : goal.loop-preserved
-loop-preserved c = rw c.in_ok-push.ensures.items (goes_on c.loop.found.items c.args.count c.loop.counter c.loop.rest.now c.in_ok-op.op c.in_ok-op.after.now (so_many_at c.args.count c.args.bytes.now) c.loop-test.true c.in_ok-op.ensures c.loop.invariant)
+loop-preserved c = rw c.in_ok-push.ensures.items (goes_on operation_at so_many_at operations_repeat c.loop.found.items c.args.count c.loop.counter c.loop.rest.now c.in_ok-op.op c.in_ok-op.after.now (so_many_at c.args.count c.args.bytes.now) c.loop-test.true c.in_ok-op.ensures c.loop.invariant)
 
 pub returns : goal.returns
-returns c = is_done c.loop.found.items c.args.count c.loop.counter c.loop.rest.now (so_many_at c.args.count c.args.bytes.now) c.loop-test.false c.loop.invariant
+returns c = is_done operation_at so_many_at operations_repeat c.loop.found.items c.args.count c.loop.counter c.loop.rest.now (so_many_at c.args.count c.args.bytes.now) c.loop-test.false c.loop.invariant

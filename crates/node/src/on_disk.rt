@@ -1,0 +1,42 @@
+//! What a sync of a copy's log has shown.
+ghost use Rattle.std.specs.Prelude.{◌≡◌, nat_le};
+
+use std::marker::Model;
+use translog::Synced;
+
+/// The steps of so many entries of a copy's journal, from the first on, are on the disk for sure. Only a sync of the copy gives one.
+#[derive(Drop)]
+pub struct OnDisk {
+    log: Synced,
+    entries: u64,
+}
+
+impl Model for OnDisk {
+    ghost use Rattle.std.specs.Prelude.{ℕ};
+
+    ghost Value = { ℕ };
+
+    ghost view = { λ o. o.entries };
+}
+
+impl OnDisk {
+    pub(crate) fn of(log: Synced, entries: u64) -> OnDisk
+        ensures { result ≡ entries }
+    {
+        OnDisk { log, entries }
+    }
+
+    /// How many entries they are.
+    pub fn entries(&self) -> u64
+        ensures { result ≡ self.now }
+    {
+        self.entries
+    }
+
+    /// Whether these are all entries of a journal that has so many.
+    pub fn covers(&self, entries: u64) -> bool
+        ensures { result ≡ nat_le entries self.now }
+    {
+        entries <= self.entries
+    }
+}
