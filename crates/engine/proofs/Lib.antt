@@ -12,3 +12,5 @@ pub mod SnapshotLaws
 pub mod PageLaws
 pub mod SwapLaws
 pub mod PublishedLaws
+pub mod AheadLaws
+pub mod ChoosingLaws

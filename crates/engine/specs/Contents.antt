@@ -2,7 +2,7 @@
 use Rattle.std.specs.Prelude.{◌≡◌, ◌≤◌, ℕ, List, length}
 use Rattle.doc.specs.Mapping.{MappingData}
 use Rattle.op.specs.declared.record.Record.{Record}
-use Rattle.op.specs.Documents.{documents}
+use Rattle.op.specs.Documents.{Documents, documents}
 use Rattle.op.specs.Records.{shown}
 use Rattle.engine.specs.Answer.{SnapshotData}
 use Rattle.engine.specs.Published.{Published, Segments}
@@ -13,12 +13,13 @@ pub record Contents : Type 0 where
   pub records : List Record
   pub point : ℕ
 
--- an engine: its contents, the segments that searches look through, the newest first, and the number of the next one
+-- an engine: its contents, the segments that searches look through, the newest first, what is live in each, and the number of the next one
 pub record EngineData : Type 0 where
   pub mapping : MappingData
   pub records : List Record
   pub point : ℕ
   pub published : List Published
+  pub live : List Documents
   pub next : ℕ
 
 -- its contents
@@ -29,10 +30,11 @@ contents_of e = record { mapping = e.mapping; records = e.records; point = e.poi
 abbrev pub segments_of : EngineData → Segments
 segments_of e = record { mapping = e.mapping; published = e.published; next = e.next }
 
--- what searches show, the segments that they look through, and the number of the next one
+-- what searches show, the segments that they look through, what is live in each, and the number of the next one
 pub record ShowingData : Type 0 where
   pub snapshot : SnapshotData
   pub published : List Published
+  pub live : List Documents
   pub next : ℕ
 
 -- the segments that they look through

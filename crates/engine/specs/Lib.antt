@@ -5,6 +5,7 @@ pub mod Found
 pub mod Entry
 pub mod Answer
 pub mod Published
+pub mod Live
 pub mod Parts
 pub mod Shown
 pub mod Contents

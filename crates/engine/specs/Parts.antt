@@ -1,19 +1,15 @@
 -- Documents that stand in several parts.
 -- For proofs alone: no public contract rests on it.
-use Rattle.std.specs.Prelude.{◌≡◌, ℕ, ◌≤◌, ◌+◌, ◌++◌, Bool, true, not, Contains, Option, List, [], ◌∷◌, ◌<◌, drop, fold, is_some, if◌then◌else◌, length, map, replicate}
+use Rattle.std.specs.Prelude.{◌≡◌, ℕ, ◌≤◌, ◌+◌, ◌++◌, Bool, true, not, Contains, Option, List, [], ◌∷◌, ◌<◌, drop, is_some, if◌then◌else◌, length, map, replicate}
 use Rattle.doc.specs.Mapping.{MappingData}
 use Rattle.engine.specs.Answer.{SnapshotData}
+pub use Rattle.engine.specs.Live.{merged, woven}
 use Rattle.engine.specs.Published.{Published, MergeData, are_taken, taken_of, AreBelow}
 use Rattle.std.specs.Option.{ForSome}
 use Rattle.std.specs.List.{AllByRecursion, list_any}
-use Rattle.std.specs.FinMap.Entries.{put, where_key, is_sorted}
+use Rattle.std.specs.FinMap.Entries.{where_key, is_sorted}
 use Rattle.doc.specs.Id.{Id, id_cmp, is_id}
 use Rattle.op.specs.Documents.{Document, Documents, document_at}
-
--- the documents of both; where both have an id, that of the first
-abbrev pub merged : Documents → Documents → Documents
-merged [] es = es
-merged (d ∷ ds) es = put id_cmp d.0 d.1 (merged ds es)
 
 -- the first document of both, and how many of each it stands for
 pub record IsNext (ds es : Documents) (d : Id × Document) (i j : ℕ) : Type 0 where
@@ -21,10 +17,6 @@ pub record IsNext (ds es : Documents) (d : Id × Document) (i j : ℕ) : Type 0 
   pub within_first : i ≤ length ds
   pub within_second : j ≤ length es
   pub goes_on : 0 < i + j
-
--- the documents of all parts
-abbrev pub woven : List Documents → Documents
-woven ps = fold merged [] ps
 
 -- whether one of the documents has the id
 abbrev pub has_id : Id → Documents → Bool
@@ -59,11 +51,12 @@ published_of p = record { number = p.number; mapping = p.mapping; documents = p.
 abbrev pub all_published : List PartData → List Published
 all_published ps = map published_of ps
 
--- a list of parts: the documents that are live in them, and the segments that they are
+-- a list of parts: the documents that are live in them, the segments that they are, and what is live in each
 pub record PartListData : Type 0 where
   pub mapping : MappingData
   pub documents : Documents
   pub published : List Published
+  pub live : List Documents
 
 -- what searches show through parts
 abbrev pub shown_through : PartListData → SnapshotData

@@ -1,6 +1,6 @@
 -- The segments that searches look through, and merges of them.
-use Rattle.std.specs.Prelude.{◌≡◌, ◌<◌, ◌≤◌, ◌+◌, ◌++◌, ◌&&◌, ℕ, Bool, List, [], ◌∷◌, All, Contains, drop, min, length, nat_le, nat_lt, if◌then◌else◌}
-use Rattle.std.specs.List.{list_all}
+use Rattle.std.specs.Prelude.{◌≡◌, ◌<◌, ◌≤◌, ◌+◌, ◌++◌, ◌&&◌, ℕ, Bool, List, [], ◌∷◌, All, Contains, drop, min, length, nat_le, nat_lt, filter, ◌==◌, if◌then◌else◌}
+use Rattle.std.specs.List.{list_all, list_any}
 use Rattle.doc.specs.Mapping.{MappingData}
 use Rattle.op.specs.Documents.{Documents}
 
@@ -30,7 +30,15 @@ are_taken ss = nat_le 2 (length ss) && list_all (λ s. nat_lt s.number greatest)
 abbrev pub taken_of : List Published → List Published
 taken_of ss = if are_taken ss then ss else []
 
--- a merge: the segments that it takes, and what searches showed when it was begun
+-- whether a segment bears one of these numbers
+abbrev pub is_numbered : List ℕ → Published → Bool
+is_numbered ns s = list_any (λ n. n == s.number) ns
+
+-- the segments that bear them
+abbrev pub numbered : List ℕ → List Published → List Published
+numbered ns ss = filter (is_numbered ns) ss
+
+-- a merge: the segments that it takes, and the documents that were live in them when it was begun
 pub record MergeData : Type 0 where
   pub taken : List Published
   pub mapping : MappingData

@@ -1,16 +1,18 @@
 -- A change that makes a new snapshot, in two halves: made ready, then made.
 use Rattle.std.specs.Prelude.{ℕ, List, Option, Some, None}
 use Rattle.op.specs.declared.record.Record.{Record}
+use Rattle.op.specs.Documents.{Documents}
 use Rattle.engine.specs.Answer.{SnapshotData}
 use Rattle.engine.specs.Contents.{Contents, EngineData, Shows}
 use Rattle.engine.specs.Published.{Published}
 
--- new records if there are any, what searches show, of how many records, through which segments, and the number of the next one
+-- new records if there are any, what searches show, of how many records, through which segments, what is live in each, and the number of the next one
 pub record StagedData : Type 0 where
   pub records : Option (List Record)
   pub snapshot : SnapshotData
   pub point : ℕ
   pub published : List Published
+  pub live : List Documents
   pub next : ℕ
 
 abbrev pub records_of : List Record → Option (List Record) → List Record
@@ -19,7 +21,7 @@ records_of rs (Some new) = new
 
 -- the engine after the change
 abbrev pub put_in : EngineData → StagedData → EngineData
-put_in e s = record e { records = records_of e.records s.records; point = s.point; published = s.published; next = s.next }
+put_in e s = record e { records = records_of e.records s.records; point = s.point; published = s.published; live = s.live; next = s.next }
 
 -- the snapshot is that of these contents after the change
 abbrev pub IsStagedFrom : Contents → StagedData → Type 0

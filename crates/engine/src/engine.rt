@@ -1,5 +1,5 @@
 //! The documents of one copy.
-ghost use Rattle.std.specs.Prelude.{◌≡◌, ◌↔◌, ◌∷◌, ◌<◌, ◌≤◌, ◌^◌, [], true, false, All, length, None, IsTrue, IfOk, OnOk, OnErr};
+ghost use Rattle.std.specs.Prelude.{◌≡◌, ◌↔◌, ◌++◌, ◌∷◌, ◌<◌, ◌≤◌, ◌^◌, [], true, false, All, length, None, IsTrue, IfOk, IfSome, OnOk, OnErr};
 ghost use Rattle.std.specs.Option.{option_copied, option_map};
 ghost use Rattle.std.specs.Arc.{arc_value};
 ghost use Rattle.op.specs.Checkpoint.{checkpoint_of, known};
@@ -10,10 +10,12 @@ ghost use Rattle.engine.specs.Applied.{applied_of, records_after};
 ghost use Rattle.engine.specs.Found.{found_document};
 ghost use Rattle.engine.specs.Last.{last_of};
 ghost use Rattle.engine.specs.Contents.{contents_of, segments_of};
-ghost use Rattle.engine.specs.Published.{next_after, taken_of, AreAmong, AreBelow, IsFronted, IsSwapped};
+ghost use Rattle.engine.specs.Live.{live_of, woven};
+ghost use Rattle.engine.specs.Published.{next_after, numbered, taken_of, AreAmong, AreBelow, IsFronted, IsSwapped};
 ghost use Rattle.engine.specs.SnapshotChange.{changed, ArePublished, IsNumbered, IsSnapshotChange, OnlyOps};
 ghost use Rattle.engine.specs.Staged.{IsStagedFrom, put_in};
 
+use crate::ahead::Ahead;
 use crate::documents::documents_at;
 use crate::history::{Applied, Found, History};
 use crate::listed::Listed;
@@ -57,6 +59,7 @@ impl Model for Engine {
       records = e.history;
       point = e.point;
       published = e.showing.published;
+      live = e.showing.live;
       next = e.showing.next;
     } };
 
@@ -72,6 +75,7 @@ impl Engine {
           records = records.items;
           point = length records.items;
           published = (record { number = 0; mapping = mapping; documents = documents (operations records.items) }) ∷ [];
+          live = documents (operations records.items) ∷ [];
           next = 1;
         }) }
     {
@@ -226,6 +230,36 @@ impl Engine {
         self.showing.begin_merge()
     }
 
+    /// Begins a merge of the segments that bear these numbers, or of none where there is only one, or where one bears the greatest number.
+    /// It changes nothing.
+    pub fn begin_merge_of(&self, alloc: Global, numbers: &[u64]) -> Result<Merging, AllocError>
+        ensures { IfOk result (λ m. m ≡ record {
+          taken = taken_of (numbered numbers.now self.now.published);
+          mapping = self.now.mapping;
+          documents = woven (live_of numbers.now self.now.published self.now.live);
+        }) }
+    {
+        self.showing.begin_merge_of(alloc, numbers)
+    }
+
+    /// The numbers of segments that go well into one, where searches look through many: of the smallest size of which there are two.
+    pub fn to_merge(&self, alloc: Global) -> Result<Option<Vec<u64>>, AllocError>
+        ensures none { IfOk result (λ o. o ≡ None → length self.now.published ≤ 8) }
+        ensures some { IfOk result (λ o. IfSome o (λ v. 8 < length self.now.published)) }
+        ensures there { IfOk result (λ o. IfSome o (λ v. 2 ≤ length (numbered v.items self.now.published))) }
+        ensures few { IfOk result (λ o. IfSome o (λ v. length v.items ≤ 10)) }
+    {
+        self.showing.to_merge(alloc)
+    }
+
+    /// How many segments searches look through.
+    pub fn segments(&self) -> usize
+        ensures is { result ≡ length self.now.published }
+        ensures live { woven self.now.live ≡ documents (shown self.now.records self.now.point) }
+    {
+        self.showing.segments()
+    }
+
     /// Puts a merged segment in place of those that it is made of: documents that aren't live in them any more aren't live in it. Where one of
     /// them isn't there any more, as after a restart, it is `false` and all stay. What the engine has and what searches show stays in any case.
     pub fn swap_merged(&mut self, alloc: Global, merged: Merged) -> Result<bool, AllocError>
@@ -281,13 +315,18 @@ impl Engine {
         ensures { result ≡ option_map last_of (last_on (operations self.now.records) id.now) }
     {
         match self.history.last(id) {
-            Some(op) => Some(Last {
-                seq: op.seq,
-                term: op.term,
-                version: op.version,
-                live: matches!(&op.body, Body::Index(_, _)),
-            }),
+            Some(op) => Some(last_of(op)),
             None => None,
+        }
+    }
+
+    /// The last operation on the id, once the engine has these, too.
+    pub fn last_with(&self, ahead: &Ahead, id: &DocId) -> Option<Last>
+        ensures { result ≡ option_map last_of (last_on (operations self.now.records ++ ahead.now) id.now) }
+    {
+        match ahead.last_on(id) {
+            Some(op) => Some(last_of(op)),
+            None => self.last(id),
         }
     }
 
@@ -349,5 +388,17 @@ impl Engine {
         ensures { result.now ≡ self.now.mapping }
     {
         &self.mapping
+    }
+}
+
+/// What is told of an operation.
+fn last_of(op: &Op) -> Last
+    ensures { result ≡ last_of op.now }
+{
+    Last {
+        seq: op.seq,
+        term: op.term,
+        version: op.version,
+        live: matches!(&op.body, Body::Index(_, _)),
     }
 }

@@ -1,7 +1,9 @@
 //! The documents of one copy: its records, what they make, and what searches show.
 #![tactic(auto)]
 
+pub mod ahead;
 mod block;
+mod choosing;
 mod documents;
 pub mod engine;
 mod history;
@@ -17,6 +19,7 @@ pub mod snapshot;
 pub mod staged;
 pub mod swapping;
 
+pub use ahead::Ahead;
 pub use engine::{Engine, Last};
 pub use history::{Applied, Found};
 pub use listed::Listed;

@@ -175,7 +175,7 @@ impl OperationIndex {
     }
 
     /// Adds the operation, where its number is free.
-    fn add(&mut self, alloc: Global, op: &Op) -> Result<(), AllocError>
+    pub(crate) fn add(&mut self, alloc: Global, op: &Op) -> Result<(), AllocError>
         ensures ok { OnOk result (self.new ≡ add self.old op.now) }
         ensures err { OnErr result (self.new ≡ self.old) }
     {

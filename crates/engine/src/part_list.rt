@@ -8,11 +8,13 @@ ghost use Rattle.op.specs.Documents.{documents};
 ghost use Rattle.engine.specs.Answer.{is_found};
 ghost use Rattle.engine.specs.Entry.{entry_view};
 ghost use Rattle.engine.specs.Parts.{all_published, documents_of_parts, has_id, is_among, merged, without, woven, AllInOrder, AreParts};
-ghost use Rattle.engine.specs.Published.{AreAmong, IsFronted, IsReplaced};
+ghost use Rattle.engine.specs.Live.{live_of};
+ghost use Rattle.engine.specs.Published.{numbered, AreAmong, IsFronted, IsReplaced};
 ghost use Rattle.engine.specs.Before.{first_of_each};
 ghost use Rattle.engine.specs.Shown.{seen_all};
 
 use crate::block::Shown;
+use crate::choosing::{FEW_SEGMENTS, parts_numbered, smallest_numbers};
 use crate::documents::{Entry, documents_of};
 use crate::merging::{merge, merge_owned};
 use crate::paging::{behind, find_pivot, page_behind};
@@ -58,6 +60,7 @@ impl Model for PartList {
       mapping = arc_value l.mapping;
       documents = woven (documents_of_parts l.parts.items);
       published = all_published l.parts.items;
+      live = documents_of_parts l.parts.items;
     } };
 
     ghost invariant = { λ l. AreParts (arc_value l.mapping) l.parts.items };
@@ -77,6 +80,7 @@ impl PartList {
           mapping = arc_value mapping;
           documents = documents operations.now;
           published = (record { number = number; mapping = arc_value mapping; documents = documents operations.now }) ∷ [];
+          live = documents operations.now ∷ [];
         }) }
     {
         let entries = documents_of(alloc, operations)?;
@@ -90,6 +94,40 @@ impl PartList {
         ensures { all_published result.now ≡ self.now.published }
     {
         &self.parts
+    }
+
+    /// How many parts there are.
+    pub(crate) fn len(&self) -> usize
+        ensures is { result ≡ length self.now.published }
+        ensures none { result ≡ 0 → self.now.documents ≡ [] }
+        ensures live { woven self.now.live ≡ self.now.documents }
+    {
+        self.parts.len()
+    }
+
+    /// The parts that bear these numbers.
+    pub(crate) fn numbered(&self, alloc: Global, numbers: &[u64]) -> Result<PartList, AllocError>
+        ensures mapping { IfOk result (λ l. l.mapping ≡ self.now.mapping) }
+        ensures published { IfOk result (λ l. l.published ≡ numbered numbers.now self.now.published) }
+        ensures documents { IfOk result (λ l. l.documents ≡ woven (live_of numbers.now self.now.published self.now.live)) }
+    {
+        let parts = parts_numbered(alloc, &self.parts, numbers)?;
+        let mapping = Arc::try_clone(&self.mapping)?;
+        Ok(PartList { mapping, parts })
+    }
+
+    /// The numbers of parts that go well into one, where there are many.
+    pub(crate) fn to_merge(&self, alloc: Global) -> Result<Option<Vec<u64>>, AllocError>
+        ensures none { IfOk result (λ o. o ≡ None → length self.now.published ≤ 8) }
+        ensures some { IfOk result (λ o. IfSome o (λ v. 8 < length self.now.published)) }
+        ensures there { IfOk result (λ o. IfSome o (λ v. 2 ≤ length (numbered v.items self.now.published))) }
+        ensures few { IfOk result (λ o. IfSome o (λ v. length v.items ≤ 10)) }
+    {
+        if self.len() <= FEW_SEGMENTS {
+            return Ok(None);
+        }
+        let numbers = smallest_numbers(alloc, &self.parts)?;
+        Ok(Some(numbers))
     }
 
     /// What there is for a query: how many documents, and as many of them as the size says behind the first so many.

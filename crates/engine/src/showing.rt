@@ -1,5 +1,5 @@
 //! What searches show, with the segments that they look through.
-ghost use Rattle.std.specs.Prelude.{◌≡◌, ◌∷◌, ◌<◌, ◌≤◌, [], true, false, All, None, map, IfOk, IfSome};
+ghost use Rattle.std.specs.Prelude.{◌≡◌, ◌∷◌, ◌<◌, ◌≤◌, [], true, false, All, None, length, map, IfOk, IfSome};
 ghost use Rattle.std.specs.Arc.{arc_value};
 ghost use Rattle.std.specs.FinMap.Entries.{is_sorted};
 ghost use Rattle.doc.specs.Id.{Id, id_cmp};
@@ -7,7 +7,8 @@ ghost use Rattle.op.specs.Documents.{documents};
 ghost use Rattle.engine.specs.Contents.{segments_shown};
 ghost use Rattle.engine.specs.Entry.{entry_view};
 ghost use Rattle.engine.specs.Parts.{has_id, is_among, merged, shown_through, without, IsMade};
-ghost use Rattle.engine.specs.Published.{are_taken, next_after, taken_of, AreAmong, AreBelow, IsFronted, IsSwapped};
+ghost use Rattle.engine.specs.Live.{live_of, woven};
+ghost use Rattle.engine.specs.Published.{are_taken, next_after, numbered, taken_of, AreAmong, AreBelow, IsFronted, IsSwapped};
 
 use crate::documents::Entry;
 use crate::part::Part;
@@ -35,7 +36,7 @@ impl Model for Showing {
 
     ghost Value = { ShowingData };
 
-    ghost view = { λ s. record { snapshot = arc_value s.snapshot; published = (arc_value s.parts).published; next = s.next } };
+    ghost view = { λ s. record { snapshot = arc_value s.snapshot; published = (arc_value s.parts).published; live = (arc_value s.parts).live; next = s.next } };
 
     ghost invariant = { λ s. IsShowing (arc_value s.parts) (arc_value s.snapshot) s.next };
 }
@@ -51,6 +52,7 @@ impl Showing {
         ensures { IfOk result (λ s. s ≡ record {
           snapshot = record { mapping = arc_value mapping.now; documents = documents operations.now };
           published = (record { number = number; mapping = arc_value mapping.now; documents = documents operations.now }) ∷ [];
+          live = documents operations.now ∷ [];
           next = next_after number;
         }) }
     {
@@ -114,6 +116,42 @@ impl Showing {
         Ok(Merging { parts })
     }
 
+    /// Begins a merge of the parts that bear these numbers.
+    pub(crate) fn begin_merge_of(
+        &self,
+        alloc: Global,
+        numbers: &[u64],
+    ) -> Result<Merging, AllocError>
+        ensures { IfOk result (λ m. m ≡ record {
+          taken = taken_of (numbered numbers.now self.now.published);
+          mapping = self.now.snapshot.mapping;
+          documents = woven (live_of numbers.now self.now.published self.now.live);
+        }) }
+    {
+        let parts = self.parts.numbered(alloc, numbers)?;
+        let parts = Arc::new(alloc, parts)?;
+        Ok(Merging { parts })
+    }
+
+    /// The numbers of parts that go well into one, where there are many.
+    pub(crate) fn to_merge(&self, alloc: Global) -> Result<Option<Vec<u64>>, AllocError>
+        ensures none { IfOk result (λ o. o ≡ None → length self.now.published ≤ 8) }
+        ensures some { IfOk result (λ o. IfSome o (λ v. 8 < length self.now.published)) }
+        ensures there { IfOk result (λ o. IfSome o (λ v. 2 ≤ length (numbered v.items self.now.published))) }
+        ensures few { IfOk result (λ o. IfSome o (λ v. length v.items ≤ 10)) }
+    {
+        let numbers = self.parts.to_merge(alloc)?;
+        Ok(numbers)
+    }
+
+    /// How many parts there are.
+    pub(crate) fn segments(&self) -> usize
+        ensures is { result ≡ length self.now.published }
+        ensures live { woven self.now.live ≡ self.now.snapshot.documents }
+    {
+        self.parts.len()
+    }
+
     /// The same with a merged part in place of those that it is made of, where these are all there. A merge of none leaves all as it is.
     pub(crate) fn swapped(
         &self,
@@ -158,7 +196,7 @@ impl Showing {
 /// What searches show through these parts.
 fn shown(alloc: Global, parts: PartList, next: u64) -> Result<Showing, AllocError>
     requires { AreBelow next parts.published }
-    ensures { IfOk result (λ s. s ≡ record { snapshot = shown_through parts; published = parts.published; next = next }) }
+    ensures { IfOk result (λ s. s ≡ record { snapshot = shown_through parts; published = parts.published; live = parts.live; next = next }) }
 {
     let parts = Arc::new(alloc, parts)?;
     let snapshot = Snapshot::of(Arc::try_clone(&parts)?);

@@ -1,5 +1,5 @@
 //! What searches show.
-ghost use Rattle.std.specs.Prelude.{◌≡◌, map, IfOk};
+ghost use Rattle.std.specs.Prelude.{◌≡◌, [], map, IfOk};
 ghost use Rattle.query.specs.View.{query_view};
 ghost use Rattle.engine.specs.Answer.{answer_of, hit};
 ghost use Rattle.engine.specs.Entry.{entry_view};
@@ -52,6 +52,13 @@ impl Snapshot {
         ensures { result ≡ shown_through (arc_value parts) }
     {
         Snapshot { parts }
+    }
+
+    /// How many segments searches look through.
+    pub fn segments(&self) -> usize
+        ensures { result ≡ 0 → self.now.documents ≡ [] }
+    {
+        self.parts.len()
     }
 
     /// The documents that the query means, their number and those of the page.

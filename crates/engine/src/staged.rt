@@ -40,6 +40,7 @@ impl Model for Staged {
       snapshot = s.showing.snapshot;
       point = s.point;
       published = s.showing.published;
+      live = s.showing.live;
       next = s.showing.next;
     } };
 }
