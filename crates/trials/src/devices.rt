@@ -1,5 +1,5 @@
 //! A device that fails where a test wants it.
-ghost use Rattle.std.specs.Prelude.{◌-◌, vec_len, vec_capacity, false};
+ghost use Rattle.std.specs.Prelude.{◌-◌, vec_len, vec_capacity, length, false};
 
 use std::alloc::{AllocError, Global};
 use translog::{DeviceFault, Failed, LogDevice};
@@ -36,6 +36,10 @@ fn is_bad(calls: &mut usize, bad: (usize, usize)) -> bool {
 impl LogDevice for Faulty {
     ghost bytes = { λ d. d.bytes.items };
 
+    ghost synced = { λ d. length d.bytes.items };
+
+    ghost is_doubtful = { λ _. false };
+
     ghost room = { λ d. vec_capacity d.bytes - vec_len d.bytes };
 
     ghost failures = { λ d. d.failures };
@@ -59,6 +63,14 @@ impl LogDevice for Faulty {
             return Err(Failed);
         }
         Ok(())
+    }
+
+    fn sync(&mut self) -> Result<usize, Failed> {
+        Ok(self.bytes.len())
+    }
+
+    fn is_synced(&self) -> bool {
+        true
     }
 
     fn read_all(&mut self, alloc: Global) -> Result<Vec<u8>, DeviceFault> {

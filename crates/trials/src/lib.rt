@@ -6,15 +6,23 @@ mod copies;
 #[cfg(test)]
 mod devices;
 #[cfg(test)]
+mod disks;
+#[cfg(test)]
 mod documents;
 #[cfg(test)]
 mod engines;
+#[cfg(test)]
+mod groups;
 #[cfg(test)]
 mod masters;
 #[cfg(test)]
 mod merges;
 #[cfg(test)]
+mod pieces;
+#[cfg(test)]
 mod records;
+#[cfg(test)]
+mod syncs;
 #[cfg(test)]
 mod trackers;
 #[cfg(test)]

@@ -166,3 +166,59 @@ fn small_segments_go_into_one(rt: HostRuntime) -> Result<(), Fail> {
     assert!(rt; is_so?);
     Ok(())
 }
+
+/// Writes documents with the numbers from the first on, each in a segment of its own.
+fn write_apart(alloc: Global, engine: &mut Engine, first: u8, end: u8) -> Result<(), Fail> {
+    for seq in first..end {
+        write(alloc, engine, seq)?;
+        let _point = engine.refresh(alloc)?;
+    }
+    Ok(())
+}
+
+/// Whether four of ten segments go into one, beside a delete in one of them, and searches find what they found.
+fn merges_some(alloc: Global, engine: &mut Engine) -> Result<bool, Fail> {
+    write_apart(alloc, engine, 10, 19)?;
+    let merged = engine.begin_merge_of(alloc, &[2, 4, 5, 7])?.build(alloc)?;
+    let deleted = delete(alloc, engine, 19, "d13");
+    let is_merged = swap(alloc, engine, merged, deleted)?;
+    let segments = engine.segments() == 7 && engine.snapshot().segments() == 7;
+    Ok(is_merged && segments && finds(alloc, engine, 8, 3, "d14")?)
+}
+
+#[test]
+fn some_segments_go_into_one(rt: HostRuntime) -> Result<(), Fail> {
+    let alloc = rt.alloc();
+    let mut engine = empty(alloc)?;
+    let is_so = merges_some(alloc, &mut engine);
+    drop(engine);
+    assert!(rt; is_so?);
+    Ok(())
+}
+
+/// How many segments are to be merged, if any.
+fn to_merge(alloc: Global, engine: &Engine) -> Result<Option<usize>, Fail> {
+    match engine.to_merge(alloc)? {
+        Some(numbers) => Ok(Some(numbers.len())),
+        None => Ok(None),
+    }
+}
+
+/// Whether eight segments stay side by side, and of eleven small ones ten are to be merged.
+fn merges_many(alloc: Global, engine: &mut Engine) -> Result<bool, Fail> {
+    write_apart(alloc, engine, 10, 17)?;
+    let few = to_merge(alloc, engine)?;
+    write_apart(alloc, engine, 17, 20)?;
+    let many = to_merge(alloc, engine)?;
+    Ok(few.is_none() && many == Some(10))
+}
+
+#[test]
+fn many_segments_are_to_be_merged(rt: HostRuntime) -> Result<(), Fail> {
+    let alloc = rt.alloc();
+    let mut engine = empty(alloc)?;
+    let is_so = merges_many(alloc, &mut engine);
+    drop(engine);
+    assert!(rt; is_so?);
+    Ok(())
+}
