@@ -2,4 +2,5 @@ pub mod Confirmed
 pub mod Faults
 pub mod Ruled
 pub mod Journals
+pub mod Leaving
 pub mod Opening

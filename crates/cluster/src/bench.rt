@@ -77,7 +77,7 @@ fn serve<R: Wait, D: LogDevice, G: Gate>(
         let Ok(post) = inbox.recv(rt) else {
             break;
         };
-        if !worker.serve(rt, post) {
+        if !worker.serve_waiting(rt, inbox, post) {
             break;
         }
     }

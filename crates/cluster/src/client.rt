@@ -78,7 +78,7 @@ impl<D: LogDevice> Client<D> {
         let (to, answers) = bounded(self.alloc, 1)?;
         self.send(rt, copy, Post::Get(asked, to))?;
         match answers.recv(rt) {
-            Ok(Ok(got)) => answer_in(got, copy, &id),
+            Ok(Ok(got)) => answer_in(got.into_inner(), copy, &id),
             Ok(Err(fault)) => Err(ClusterFault::from(fault)),
             Err(_) => Err(ClusterFault::NoMemory),
         }
@@ -192,7 +192,7 @@ fn received<R: Wait>(rt: &R, answers: &Receiver<Answered, Global>) -> Result<Rec
     ensures { IfErr result IsBare }
 {
     match answers.recv(rt) {
-        Ok(Ok(receipt)) => Ok(receipt),
+        Ok(Ok(entry)) => Ok(entry.into_inner()),
         Ok(Err(fault)) => Err(ClusterFault::from(fault)),
         Err(_) => Err(ClusterFault::NoMemory),
     }
@@ -263,7 +263,8 @@ fn ended(receipt: Receipt, written: Written, ending: Ending) -> Result<Confirmed
     ensures lost { IfErr result (IsEndOf receipt) }
 {
     match ending {
-        Ending::Acknowledged(last) => {
+        Ending::Acknowledged(entry) => {
+            let last = entry.into_inner();
             if acknowledges(&last, written) {
                 Ok(Confirmed {
                     write: receipt,
@@ -273,6 +274,6 @@ fn ended(receipt: Receipt, written: Written, ending: Ending) -> Result<Confirmed
                 Err(ClusterFault::Stray(last.place))
             }
         }
-        Ending::Lost(last) => Err(ClusterFault::Lost(receipt, last)),
+        Ending::Lost(entry) => Err(ClusterFault::Lost(receipt, entry.into_inner())),
     }
 }

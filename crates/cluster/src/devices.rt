@@ -37,16 +37,27 @@ impl Devices<MemDevice> for InMemory {
     }
 }
 
-/// Gives the files of a folder that is there: `master.log`, and `copy-ID.rsx` for each copy. Nobody else may use them meanwhile.
+/// When the log of a copy in a folder is synced.
+#[derive(Clone, Copy, PartialEq, Eq)]
+pub enum Syncing {
+    /// In each append.
+    Each,
+    /// When what waits for it is to leave the copy's worker: once for all that was done until then.
+    Together,
+}
+
+/// Gives the files of a folder that is there: `master.log`, and `copy-ID.rsx` for each copy. Nobody else may use them meanwhile. The master's log is
+/// synced in each append.
 #[derive(Drop)]
 pub struct InFolder<R> {
     rt: R,
     path: String,
+    syncing: Syncing,
 }
 
 impl<R: Files<File = File> + AllocGlobal + Drop> InFolder<R> {
-    pub fn new(rt: R, path: String) -> InFolder<R> {
-        InFolder { rt, path }
+    pub fn new(rt: R, path: String, syncing: Syncing) -> InFolder<R> {
+        InFolder { rt, path, syncing }
     }
 
     /// The path of a node's file.
@@ -59,14 +70,18 @@ impl<R: Files<File = File> + AllocGlobal + Drop> InFolder<R> {
         }
     }
 
-    /// Opens a file, which is made where it is missing; then its name is on the disk too.
-    fn open(&self, path: &str) -> io::Result<FileDevice<File>> {
+    /// Opens the file of a node, which is made where it is missing; then its name is on the disk too.
+    fn open(&self, node: u32, path: &str) -> io::Result<FileDevice<File>> {
         let file = OpenOptions::new()
             .read(true)
             .append(true)
             .create(true)
             .open(&self.rt, path)?;
-        let device = FileDevice::open(self.rt.alloc(), file)?;
+        let device = if node > 0 && self.syncing == Syncing::Together {
+            FileDevice::lazily(self.rt.alloc(), file)?
+        } else {
+            FileDevice::open(self.rt.alloc(), file)?
+        };
         fs::open(&self.rt, self.path.as_str())?.sync_all()?;
         Ok(device)
     }
@@ -75,13 +90,13 @@ impl<R: Files<File = File> + AllocGlobal + Drop> InFolder<R> {
 impl<R: Files<File = File> + AllocGlobal + Drop> Devices<FileDevice<File>> for InFolder<R> {
     fn device(&mut self, node: u32) -> Result<FileDevice<File>, LogFault> {
         let path = self.path_of(node)?;
-        self.open(path.as_str()).map_err(refused)
+        self.open(node, path.as_str()).map_err(refused)
     }
 
     fn kept(&mut self, node: u32) -> Result<Option<FileDevice<File>>, LogFault> {
         let path = self.path_of(node)?;
         match fs::exists(&self.rt, path.as_str()) {
-            Ok(true) => match self.open(path.as_str()) {
+            Ok(true) => match self.open(node, path.as_str()) {
                 Ok(device) => Ok(Some(device)),
                 Err(error) => Err(refused(error)),
             },

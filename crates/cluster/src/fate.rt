@@ -1,7 +1,6 @@
 //! What becomes of a message that was handed to a copy.
 
-use crate::post::Answered;
-use node::NodeFault;
+use node::{NodeFault, Receipt};
 use op::{Content, Msg};
 use replica::CopyFault;
 
@@ -19,8 +18,8 @@ pub(crate) enum Fate {
     Impossible,
 }
 
-pub(crate) fn fate_of(answer: &Answered) -> Fate {
-    match answer {
+pub(crate) fn fate_of(made: &Result<Receipt, NodeFault>) -> Fate {
+    match made {
         Ok(receipt) => match &receipt.deed.answer {
             Ok(_) => Fate::Settled,
             Err(fault) => fate_by(fault),

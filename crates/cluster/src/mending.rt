@@ -27,16 +27,21 @@ impl<D: LogDevice, G: Gate> Worker<D, G> {
     /// cluster whose last copy is closed takes writes again as soon as that opens.
     pub(crate) fn mend<R: Wait>(&mut self, rt: &R) {
         if !self.is_open() {
-            if !self.restart(rt) {
-                self.give_up(rt);
-                return;
-            }
-            self.given_up = false;
-            self.is_to_lead = true;
-        }
-        if self.is_to_lead {
+            self.reopen(rt);
+        } else if self.is_to_lead {
             self.lead(rt);
         }
+    }
+
+    /// Opens the copy again, and has it lead where the master's primary is this copy; one that doesn't open is given up.
+    pub(crate) fn reopen<R: Wait>(&mut self, rt: &R) {
+        if !self.restart(rt) {
+            self.give_up(rt);
+            return;
+        }
+        self.given_up = false;
+        self.is_to_lead = true;
+        self.lead(rt);
     }
 
     /// Opens the copy again where its log has failed since.
@@ -49,8 +54,8 @@ impl<D: LogDevice, G: Gate> Worker<D, G> {
     fn restart<R: Wait>(&mut self, rt: &R) -> bool {
         let tries = if self.given_up { 1 } else { RESTARTS };
         for _ in 0..tries {
-            let _ = self.call(rt, Input::Restart);
-            if self.is_open() {
+            let was_open = self.is_open();
+            if self.call(rt, Input::Restart) || !was_open && self.is_open() {
                 return true;
             }
         }
@@ -65,13 +70,13 @@ impl<D: LogDevice, G: Gate> Worker<D, G> {
             return;
         }
         if let Some(message) = self.shared.promotion(rt, self.alloc, self.number, id) {
-            let _ = self.call(rt, Input::Take(message));
+            self.call(rt, Input::Take(message));
         }
         self.is_to_lead = !self.leads();
     }
 
     /// Has the primary report this copy; or where it is the primary itself, has another one promoted.
-    fn give_up<R: Wait>(&mut self, rt: &R) {
+    pub(crate) fn give_up<R: Wait>(&mut self, rt: &R) {
         if self.given_up {
             return;
         }

@@ -1,5 +1,6 @@
 //! What a worker is sent.
 
+use crate::durable::Durable;
 use crossbeam_channel::Sender;
 use doc::DocId;
 use node::{Got, NodeFault, Receipt};
@@ -9,7 +10,7 @@ use replica::{Input, Write};
 use std::alloc::Global;
 
 /// The entry that a call made, also where the copy refused it; or why there is none.
-pub(crate) type Answered = Result<Receipt, NodeFault>;
+pub(crate) type Answered = Result<Durable<Receipt>, NodeFault>;
 
 /// A searcher, or why there is none.
 pub(crate) type Seated = Result<Searcher<Unnamed>, NodeFault>;
@@ -18,9 +19,9 @@ pub(crate) type Seated = Result<Searcher<Unnamed>, NodeFault>;
 #[derive(Drop)]
 pub(crate) enum Ending {
     /// By an entry that acknowledges it.
-    Acknowledged(Receipt),
+    Acknowledged(Durable<Receipt>),
     /// By an entry after which the copy is the primary of that term no more.
-    Lost(Receipt),
+    Lost(Durable<Receipt>),
 }
 
 /// What a worker is sent.
@@ -30,13 +31,13 @@ pub(crate) enum Post {
     /// A write: its own entry is answered first, and how it ended when it has.
     Write(Write, Sender<Answered, Global>, Sender<Ending, Global>),
     /// A message, and how often it was refused for a while.
-    Hand(Msg, u32),
+    Hand(Durable<Msg>, u32),
     /// A copy that the primary is to report.
     Report(u32),
     /// The term of which another copy was made the primary.
     Depose(u64),
     /// To tell what the copy has of an id.
-    Get(DocId, Sender<Result<Got, NodeFault>, Global>),
+    Get(DocId, Sender<Result<Durable<Got>, NodeFault>, Global>),
     /// To hand out a searcher of the copy.
     Seat(Sender<Seated, Global>),
     Stop,

@@ -4,6 +4,7 @@ ghost use Rattle.master.specs.declared.state.State.{State as MasterState};
 ghost use Rattle.cluster.specs.Ruled.{IsDecided, IsKnown};
 
 use crate::channels::sent;
+use crate::durable::Durable;
 use crate::post::{Post, Route};
 use crate::ruled::{Ruled, copied};
 use master::{Decision, MasterFault, Request, State};
@@ -78,7 +79,7 @@ impl<D: LogDevice> Shared<D> {
         ensures { IfOk result (IsDecided request) }
     {
         let (old, decision) = self.decide(rt, alloc, pass, request)?;
-        if self.send_on(rt, alloc, old, &decision)? {
+        if self.send_on(rt, alloc, old, request, &decision)? {
             Ok(decision)
         } else {
             Err(MasterFault::NoMemory)
@@ -91,18 +92,21 @@ impl<D: LogDevice> Shared<D> {
         rt: &R,
         alloc: Global,
         old: u32,
+        request: Request,
         decision: &Decision,
-    ) -> Result<bool, AllocError> {
-        let Some(message) = &decision.sent else {
+    ) -> Result<bool, AllocError>
+        requires { IsDecided request decision.now }
+    {
+        let Some(message) = Durable::ruled(alloc, request, decision)? else {
             return Ok(true);
         };
-        if let Content::Promoted(_) = &message.content {
-            if message.to != old {
-                self.hand(rt, old, Post::Depose(message.term));
+        let (to, term) = (message.what().to, message.what().term);
+        if let Content::Promoted(_) = &message.what().content {
+            if to != old {
+                self.hand(rt, old, Post::Depose(term));
             }
         }
-        let copied = message.copy(alloc)?;
-        Ok(self.hand(rt, message.to, Post::Hand(copied, 0)))
+        Ok(self.hand(rt, to, Post::Hand(message, 0)))
     }
 
     /// The message by which the master makes a copy the primary of the next term, where it does.
@@ -172,14 +176,18 @@ impl<D: LogDevice> Shared<D> {
     }
 
     /// Sends a message of a copy on its way, and tells whether it is on it.
-    pub(crate) fn post<R: Wait>(&self, rt: &R, alloc: Global, pass: u64, message: &Msg) -> bool {
-        if message.to == 0 {
-            return self.tell(rt, alloc, pass, message);
+    pub(crate) fn post<R: Wait>(
+        &self,
+        rt: &R,
+        alloc: Global,
+        pass: u64,
+        message: Durable<Msg>,
+    ) -> bool {
+        let to = message.what().to;
+        if to == 0 {
+            return self.tell(rt, alloc, pass, message.what());
         }
-        match message.copy(alloc) {
-            Ok(copied) => self.hand(rt, message.to, Post::Hand(copied, 0)),
-            Err(_) => false,
-        }
+        self.hand(rt, to, Post::Hand(message, 0))
     }
 
     /// Has the master decide what a message asks. What it refuses by its table is told too.

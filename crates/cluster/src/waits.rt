@@ -1,7 +1,7 @@
 //! Writes that wait for their acknowledgement.
 
 use crate::channels::sent;
-use crate::copies::copied;
+use crate::durable::Durable;
 use crate::post::Ending;
 use crossbeam_channel::Sender;
 use node::Receipt;
@@ -43,7 +43,7 @@ impl Waits {
     }
 
     /// Tells who waits for an operation that an entry acknowledges it.
-    pub(crate) fn acknowledge<R: Wait>(&mut self, rt: &R, op: &Op, receipt: &Receipt) {
+    pub(crate) fn acknowledge<R: Wait>(&mut self, rt: &R, op: &Op, entry: &Durable<Receipt>) {
         let Some(place) = self
             .items
             .iter()
@@ -52,7 +52,7 @@ impl Waits {
             return;
         };
         let waiting = self.items.swap_remove(place);
-        if let Ok(copied) = copied(self.alloc, receipt) {
+        if let Ok(copied) = entry.copy(self.alloc) {
             sent(rt, &waiting.to, Ending::Acknowledged(copied));
         }
     }
@@ -63,9 +63,9 @@ impl Waits {
     }
 
     /// Tells all that their copy is the primary of their term no more since this entry.
-    pub(crate) fn lose<R: Wait>(&mut self, rt: &R, receipt: &Receipt) {
+    pub(crate) fn lose<R: Wait>(&mut self, rt: &R, entry: &Durable<Receipt>) {
         for waiting in self.items.drain(..) {
-            if let Ok(copied) = copied(self.alloc, receipt) {
+            if let Ok(copied) = entry.copy(self.alloc) {
                 sent(rt, &waiting.to, Ending::Lost(copied));
             }
         }

@@ -1,12 +1,14 @@
 //! What the thread of a copy does.
 
 use crate::channels::sent;
-use crate::checks::{is_shut, written_in};
 use crate::copies::copied;
+use crate::durable::Durable;
 use crate::fate::{Fate, fate_of, is_of_primary};
 use crate::gate::Gate;
 use crate::left::Left;
+use crate::outbox::{Asked, Entry, Outbox, Parcel};
 use crate::post::{Answered, Ending, Post, Seated};
+use crate::releasing::unsynced;
 use crate::shared::Shared;
 use crate::waits::Waits;
 use cell::CopyCell;
@@ -30,7 +32,7 @@ pub(crate) struct Tools<D: LogDevice, G: Gate> {
     pub(crate) pass: Pass,
 }
 
-/// A copy, its pass, and who waits for it. It is not `Drop`: end it by `into_left`.
+/// A copy, its pass, what it hasn't told yet, and who waits for it. It is not `Drop`: end it by `into_left`.
 pub(crate) struct Worker<D: LogDevice, G: Gate> {
     pub(crate) alloc: Global,
     pub(crate) number: u64,
@@ -38,9 +40,10 @@ pub(crate) struct Worker<D: LogDevice, G: Gate> {
     pub(crate) shared: Arc<Shared<D>, Global>,
     pub(crate) cell: CopyCell<D>,
     pub(crate) pass: Pass,
-    waits: Waits,
+    pub(crate) outbox: Outbox,
+    pub(crate) waits: Waits,
     /// The greatest term of which another copy was made the primary.
-    deposed: u64,
+    pub(crate) deposed: u64,
     /// Whether the copy didn't open again, and was given up.
     pub(crate) given_up: bool,
     /// Whether the copy was opened again, and may have to lead.
@@ -57,6 +60,7 @@ impl<D: LogDevice, G: Gate> Worker<D, G> {
             shared,
             cell,
             pass,
+            outbox: Outbox::new(alloc),
             waits: Waits::new(alloc),
             deposed: 0,
             given_up: false,
@@ -86,31 +90,19 @@ impl<D: LogDevice, G: Gate> Worker<D, G> {
 
     fn answer<R: Wait>(&mut self, rt: &R, post: Post) {
         match post {
-            Post::Ask(input, to) => self.ask(rt, input, &to),
-            Post::Write(write, first, second) => self.write(rt, write, &first, second),
+            Post::Ask(input, to) => self.ask(rt, input, to),
+            Post::Write(write, first, second) => self.write(rt, write, first, second),
             Post::Hand(message, tries) => self.take(rt, message, tries),
             Post::Report(copy) => self.report(rt, copy),
-            Post::Depose(term) => self.depose(term),
-            Post::Get(id, to) => self.get(rt, id, &to),
+            Post::Depose(term) => self.depose(rt, term),
+            Post::Get(id, to) => self.get(rt, id, to),
             Post::Seat(to) => self.seat(rt, &to),
             Post::Stop => {}
         }
     }
 
-    /// One call of the copy: its entry, also where the copy refuses. What it sends is sent on, and what it acknowledges is told.
-    pub(crate) fn call<R: Wait>(&mut self, rt: &R, input: Input) -> Answered {
-        let receipt = self.entry(rt, input)?;
-        self.follow(rt, &receipt);
-        Ok(receipt)
-    }
-
-    fn follow<R: Wait>(&mut self, rt: &R, receipt: &Receipt) {
-        self.send_on(rt, receipt);
-        self.tell_acknowledged(rt, receipt);
-        self.tell_lost(rt, receipt);
-    }
-
-    fn entry<R: Wait>(&mut self, rt: &R, input: Input) -> Answered {
+    /// One call of the copy: its entry, also where the copy refuses.
+    fn made<R: Wait>(&mut self, rt: &R, input: Input) -> Result<Receipt, NodeFault> {
         match self.cell.call(rt, self.alloc, &mut self.pass, input) {
             Ok(receipt) => Ok(receipt),
             Err(NodeFault::Copy(fault)) => match self.pass.receipts().last() {
@@ -121,80 +113,114 @@ impl<D: LogDevice, G: Gate> Worker<D, G> {
         }
     }
 
-    fn ask<R: Wait>(&mut self, rt: &R, input: Input, to: &Sender<Answered, Global>) {
-        let was_open = self.is_open();
-        let answer = self.call(rt, input);
-        self.mend_since(rt, was_open);
-        sent(rt, to, answer);
+    /// An entry, with what the copy is after it.
+    fn entry(&self, receipt: Receipt, asked: Asked) -> Parcel {
+        Parcel::Entry(Entry {
+            receipt,
+            leads: self.leads(),
+            term: self.copy().term(),
+            asked,
+        })
     }
 
-    /// A write. Who waits is noted before what it acknowledges is told, since one copy acknowledges its write at once. A copy that the write
-    /// has closed is mended before its answer, so that the next write finds a primary.
+    /// A call that nobody waits for, and whether the copy accepts it. What it sends and acknowledges leaves when it is on the disk.
+    pub(crate) fn call<R: Wait>(&mut self, rt: &R, input: Input) -> bool {
+        let Ok(receipt) = self.made(rt, input) else {
+            return false;
+        };
+        let is_accepted = receipt.deed.answer.is_ok();
+        let parcel = self.entry(receipt, Asked::Within);
+        self.keep(rt, parcel);
+        is_accepted
+    }
+
+    /// Does a call. A refresh shows searches only what is on the disk.
+    fn ask<R: Wait>(&mut self, rt: &R, input: Input, to: Sender<Answered, Global>) {
+        if let Input::Refresh = &input {
+            self.release(rt);
+            if self.cell.sync().is_err() {
+                sent(rt, &to, Err(unsynced()));
+                return;
+            }
+        }
+        let was_open = self.is_open();
+        match self.made(rt, input) {
+            Ok(receipt) => {
+                let parcel = self.entry(receipt, Asked::Call(to));
+                self.keep(rt, parcel);
+            }
+            Err(fault) => {
+                sent(rt, &to, Err(fault));
+            }
+        }
+        self.mend_since(rt, was_open);
+    }
+
+    /// A write. A copy that the write has closed is mended before its answer, so that the next write finds a primary.
     fn write<R: Wait>(
         &mut self,
         rt: &R,
         write: Write,
-        first: &Sender<Answered, Global>,
+        first: Sender<Answered, Global>,
         second: Sender<Ending, Global>,
     ) {
         let was_open = self.is_open();
-        let answer = self.entry(rt, Input::Write(write));
-        if let Ok(receipt) = &answer {
-            self.wait_for(receipt, second);
-            self.follow(rt, receipt);
+        match self.made(rt, Input::Write(write)) {
+            Ok(receipt) => {
+                let parcel = self.entry(receipt, Asked::Write(first, second));
+                self.keep(rt, parcel);
+            }
+            Err(fault) => {
+                sent(rt, &first, Err(fault));
+            }
         }
         self.mend_since(rt, was_open);
-        sent(rt, first, answer);
-    }
-
-    /// Notes who waits for the acknowledgement of a write that is kept; nobody acknowledges it where another copy leads.
-    fn wait_for(&mut self, receipt: &Receipt, to: Sender<Ending, Global>) {
-        if self.copy().term() < self.deposed {
-            return;
-        }
-        if let Some(written) = written_in(receipt) {
-            self.waits.add(written, to);
-        }
     }
 
     /// Takes a message.
-    fn take<R: Wait>(&mut self, rt: &R, message: Msg, tries: u32) {
-        let Ok(kept) = message.copy(self.alloc) else {
+    fn take<R: Wait>(&mut self, rt: &R, message: Durable<Msg>, tries: u32) {
+        let Ok(kept) = message.again(self.alloc) else {
             self.again(rt, message, tries, 1);
             return;
         };
-        match self.fate(rt, message) {
+        match self.fate(rt, message.into_inner()) {
             Fate::Settled => {}
             Fate::Postponed(cost) => self.again(rt, kept, tries, cost),
-            Fate::Impossible => self.refuse(rt, &kept),
+            Fate::Impossible => self.refuse(rt, kept.what()),
         }
     }
 
     /// Has the copy take a message, and tells what becomes of it.
     fn fate<R: Wait>(&mut self, rt: &R, message: Msg) -> Fate {
         let was_open = self.is_open();
-        let answer = self.call(rt, Input::Take(message));
+        let made = self.made(rt, Input::Take(message));
+        let fate = fate_of(&made);
+        if let Ok(receipt) = made {
+            let parcel = self.entry(receipt, Asked::Within);
+            self.keep(rt, parcel);
+        }
         self.mend_since(rt, was_open);
-        fate_of(&answer)
+        fate
     }
 
     /// Hands a message again, behind those that wait; at last it is refused, and no write waits for what it would have told. What the master tells a
     /// copy that is closed isn't handed again: the copy is promoted anew.
-    fn again<R: Wait>(&mut self, rt: &R, message: Msg, tries: u32, cost: u32) {
-        if message.from == 0 && !self.is_open() {
+    fn again<R: Wait>(&mut self, rt: &R, message: Durable<Msg>, tries: u32, cost: u32) {
+        let from = message.what().from;
+        if from == 0 && !self.is_open() {
             return;
         }
         let next = tries.saturating_add(cost);
         if next > TRIES {
-            self.refuse(rt, &message);
-            self.waits.end();
+            self.refuse(rt, message.what());
+            self.keep(rt, Parcel::EndOfWaits);
             return;
         }
-        let (from, is_of_primary) = (message.from, is_of_primary(&message));
+        let is_of_primary = is_of_primary(message.what());
         if self.shared.hand(rt, self.id(), Post::Hand(message, next)) {
             return;
         }
-        self.waits.end();
+        self.keep(rt, Parcel::EndOfWaits);
         if is_of_primary {
             self.shared.hand(rt, from, Post::Report(self.id()));
         }
@@ -219,25 +245,38 @@ impl<D: LogDevice, G: Gate> Worker<D, G> {
 
     /// Reports a copy. Where that isn't possible nobody knows whether the copies that are left are enough, so all waits end.
     fn report<R: Wait>(&mut self, rt: &R, copy: u32) {
-        match self.call(rt, Input::Report(copy)) {
-            Ok(receipt) => if let Err(CopyFault::NoMemory) = &receipt.deed.answer {
-                self.waits.end();
-            },
-            Err(_) => self.waits.end(),
+        let Ok(receipt) = self.made(rt, Input::Report(copy)) else {
+            self.keep(rt, Parcel::EndOfWaits);
+            return;
+        };
+        let is_wanting = matches!(&receipt.deed.answer, Err(CopyFault::NoMemory));
+        let parcel = self.entry(receipt, Asked::Within);
+        self.keep(rt, parcel);
+        if is_wanting {
+            self.keep(rt, Parcel::EndOfWaits);
         }
     }
 
     /// Ends the waits of a copy that the master has replaced: it may never hear of it.
-    fn depose(&mut self, term: u64) {
+    fn depose<R: Wait>(&mut self, rt: &R, term: u64) {
         self.deposed = self.deposed.max(term);
         if self.copy().term() < self.deposed {
-            self.waits.end();
+            self.keep(rt, Parcel::EndOfWaits);
         }
     }
 
-    fn get<R: Wait>(&mut self, rt: &R, id: DocId, to: &Sender<Result<Got, NodeFault>, Global>) {
-        let got = self.cell.get(self.alloc, id);
-        sent(rt, to, got);
+    fn get<R: Wait>(
+        &mut self,
+        rt: &R,
+        id: DocId,
+        to: Sender<Result<Durable<Got>, NodeFault>, Global>,
+    ) {
+        match self.cell.get(self.alloc, id) {
+            Ok(got) => self.keep(rt, Parcel::Got(got, to)),
+            Err(fault) => {
+                sent(rt, &to, Err(fault));
+            }
+        }
     }
 
     /// Hands out a searcher of the copy.
@@ -249,56 +288,13 @@ impl<D: LogDevice, G: Gate> Worker<D, G> {
         sent(rt, to, searcher);
     }
 
-    fn send_on<R: Wait>(&mut self, rt: &R, receipt: &Receipt) {
-        let Ok(output) = &receipt.deed.answer else {
-            return;
-        };
-        for message in output.sent.as_slice() {
-            if !self.shared.post(rt, self.alloc, self.number, message) {
-                self.miss(rt, message);
-            }
-        }
-    }
-
-    /// A message that didn't arrive: the primary is to report the copy that it is to, or that sent it. What the master didn't take, or can't be
-    /// told, ends all waits.
-    fn miss<R: Wait>(&mut self, rt: &R, message: &Msg) {
-        let id = self.id();
-        let told = if message.to == 0 {
-            false
-        } else if self.leads() {
-            self.shared.hand(rt, id, Post::Report(message.to))
-        } else {
-            self.shared.hand(rt, message.to, Post::Report(id))
-        };
-        if !told {
-            self.waits.end();
-        }
-    }
-
-    /// Tells those whose writes an entry acknowledges.
-    fn tell_acknowledged<R: Wait>(&mut self, rt: &R, receipt: &Receipt) {
-        if let Ok(output) = &receipt.deed.answer {
-            for op in output.acknowledged.as_slice() {
-                self.waits.acknowledge(rt, op, receipt);
-            }
-        }
-    }
-
-    /// Tells those who wait where the copy is the primary no more, or of a later term than that of their writes.
-    fn tell_lost<R: Wait>(&mut self, rt: &R, receipt: &Receipt) {
-        let leads = self.leads() && !is_shut(receipt);
-        if !leads || !self.waits.are_of(self.copy().term()) {
-            self.waits.lose(rt, receipt);
-        }
-    }
-
     /// Ends what searches see of the copy, which waits for those that are just taking it.
     pub(crate) fn into_left<R: Wait>(self, rt: &R) -> Left {
         let Worker {
             cell,
             pass,
             waits,
+            outbox,
             alloc: _,
             number: _,
             gate: _gate,
@@ -307,6 +303,7 @@ impl<D: LogDevice, G: Gate> Worker<D, G> {
             given_up: _,
             is_to_lead: _,
         } = self;
+        drop(outbox);
         drop(waits);
         Left::served(rt, cell, pass)
     }

@@ -308,15 +308,19 @@ impl<'a, R: Files<File = File> + AllocGlobal> Folder<'a, R> {
         }
     }
 
-    /// The device of a copy's log that is there.
-    fn kept_device(&self, copy: u32) -> Result<FileDevice<File>, DataFault> {
+    /// What the log of a copy holds that is there. Nothing is written for it.
+    fn kept_device(&self, copy: u32) -> Result<MemDevice, DataFault> {
         let path = self.copy_path(copy)?;
-        let opened = match fs::open(self.rt, path.as_str()) {
-            Ok(file) => FileDevice::open(self.rt.alloc(), file),
+        let mut bytes = Vec::new(self.rt.alloc());
+        let read = match fs::open(self.rt, path.as_str()) {
+            Ok(file) => {
+                let mut file = file;
+                file.read_to_end(&mut bytes)
+            }
             Err(error) => Err(error),
         };
-        match opened {
-            Ok(device) => Ok(device),
+        match read {
+            Ok(_) => Ok(MemDevice::new(bytes)),
             Err(error) => Err(DataFault::CopyFile(copy, error)),
         }
     }

@@ -2,7 +2,7 @@
 
 use clap::ArgMatches;
 use folder::{Dumped, Parts};
-use server::Settings;
+use server::{Settings, Syncing};
 use std::alloc::Global;
 use usage::command;
 
@@ -54,17 +54,37 @@ fn played_of<'a>(options: &ArgMatches<'a>) -> Played<'a> {
     }
 }
 
+/// When the logs of a folder are synced, where that is said.
+fn syncing_of(options: &ArgMatches<'_>) -> Option<Syncing> {
+    match options.get_str("sync")? {
+        "together" => Some(Syncing::Together),
+        _ => Some(Syncing::Each),
+    }
+}
+
+/// How many threads answer where that isn't said: while one waits for a sync, others may do what it brings to the disk.
+fn threads_beside(syncing: Option<Syncing>) -> u64 {
+    match syncing {
+        Some(Syncing::Together) => 64,
+        Some(Syncing::Each) | None => 4,
+    }
+}
+
 fn settings_of<'a>(options: &ArgMatches<'a>) -> Settings<'a> {
+    let syncing = syncing_of(options);
     Settings {
         port: options.get_one::<u16>("port").unwrap_or(0),
         index: options.get_str("index").unwrap_or("index"),
         mapping: options.get_str("mapping"),
         data: options.get_str("data"),
+        syncing,
         copies: options.get_one::<u64>("copies").unwrap_or(1),
         audit: options.get_flag("audit"),
         journals: options.get_str("journals"),
         refresh: options.get_one::<u64>("refresh-ms").unwrap_or(1_000),
-        threads: options.get_one::<u64>("threads").unwrap_or(4),
+        threads: options
+            .get_one::<u64>("threads")
+            .unwrap_or(threads_beside(syncing)),
         idle: options.get_one::<u64>("idle-s").unwrap_or(60),
         request_bytes: options
             .get_one::<u64>("request-mb")

@@ -7,4 +7,5 @@ mod opening;
 mod serving;
 mod telling;
 
+pub use cluster::Syncing;
 pub use serving::{ServeFault, Settings, serve};

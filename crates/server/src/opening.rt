@@ -1,6 +1,6 @@
 //! What is shown while the logs of a folder open.
 
-use cluster::{Devices, InFolder};
+use cluster::{Devices, InFolder, Syncing};
 use op::CopyIds;
 use std::alloc::{AllocError, Global};
 use std::fs::{File, OpenFile};
@@ -180,13 +180,14 @@ impl<R: Files<File = File> + AllocGlobal + Copy + Drop> Counted<R> {
         rt: R,
         alloc: Global,
         folder: &str,
+        syncing: Syncing,
         line: &OpeningLine,
     ) -> Result<Counted<R>, AllocError> {
         Ok(Counted {
             rt,
             alloc,
             folder: String::from_str(alloc, folder)?,
-            files: InFolder::new(rt, String::from_str(alloc, folder)?),
+            files: InFolder::new(rt, String::from_str(alloc, folder)?, syncing),
             progress: line.progress()?,
         })
     }

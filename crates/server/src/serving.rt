@@ -5,7 +5,7 @@ use crate::index_name::is_index_name;
 use crate::opening::{Counted, OpeningLine};
 use crate::telling::Telling;
 use clients::{Clients, Limits};
-use cluster::{Cluster, ClusterFault, Devices, InMemory, Open, Unopened};
+use cluster::{Cluster, ClusterFault, Devices, InMemory, Open, Syncing, Unopened};
 use doc::{DocFault, Mapping};
 use folder::{
     DataFault, KeepFault, KeptCopy, KeptFolder, MappingFault, MappingFile, VerdictFault, judge,
@@ -39,6 +39,8 @@ pub struct Settings<'a> {
     pub mapping: Option<&'a str>,
     /// The folder that the index is kept in; with none it is in memory.
     pub data: Option<&'a str>,
+    /// When the logs of a folder are synced; with none in each append.
+    pub syncing: Option<Syncing>,
     /// How many copies the index has, 1 to 5.
     pub copies: u64,
     /// After how many connections the server ends; with none it goes on.
@@ -64,6 +66,11 @@ pub struct Settings<'a> {
 }
 
 impl<'a> Settings<'a> {
+    /// When the logs of a folder are synced.
+    fn when_synced(self) -> Syncing {
+        self.syncing.unwrap_or(Syncing::Each)
+    }
+
     fn limits(self) -> Limits {
         Limits {
             threads: self.threads as usize,
@@ -87,6 +94,7 @@ pub enum ServeFault {
     AuditInFolder,
     EndlessAudit,
     JournalsAlone,
+    SyncInMemory,
     Data(DataFault),
     Copies(ClusterFault),
     Port(u16, io::Error),
@@ -119,6 +127,10 @@ impl Display for ServeFault {
             ServeFault::JournalsAlone => {
                 write!(f, "--journals are those of an audit: give --audit too")
             }
+            ServeFault::SyncInMemory => write!(
+                f,
+                "--sync is of an index in a folder: give --data too, or leave out --sync"
+            ),
             ServeFault::Data(fault) => write!(f, "the data folder: {fault}"),
             ServeFault::Copies(fault) => write!(f, "the copies: {fault}"),
             ServeFault::Port(port, error) => write!(
@@ -210,7 +222,7 @@ where
     let Some(folder) = settings.data else {
         return serve_memory(rt, settings, mapping.as_ref(), output, errors);
     };
-    if settings.copies == 1 {
+    if settings.copies == 1 && settings.when_synced() == Syncing::Each {
         let name = String::from_str(alloc, settings.index)?;
         let line = OpeningLine::of_one(rt, alloc, folder, settings.at_terminal)?;
         let opened = line.shown_while(
@@ -330,6 +342,9 @@ fn check(settings: Settings<'_>) -> Result<(), ServeFault> {
     if settings.journals.is_some() && !settings.audit {
         return Err(ServeFault::JournalsAlone);
     }
+    if settings.syncing.is_some() && settings.data.is_none() {
+        return Err(ServeFault::SyncInMemory);
+    }
     Ok(())
 }
 
@@ -409,7 +424,7 @@ where
     Ok(())
 }
 
-/// Serves an index of copies on threads of their own that is kept in a folder. It begins with those that the folder has; more are added where fewer
+/// Serves an index of copies on threads of their own that is kept in a folder; also one copy, whose worker then syncs its log for all that waits. It begins with those that the folder has; more are added where fewer
 /// than are wanted could be opened, and those that couldn't be are told.
 fn serve_kept_copies<R, O, E>(
     rt: &R,
@@ -440,7 +455,7 @@ where
         lock,
     } = open_folder(rt, folder, mapping)?;
     let line = OpeningLine::of_several(alloc, settings.at_terminal)?;
-    let devices = Counted::new(*rt, alloc, folder, &line)?;
+    let devices = Counted::new(*rt, alloc, folder, settings.when_synced(), &line)?;
     let copied = fields.copy(alloc)?;
     let opened = line.shown_while(rt, errors, || {
         let copies = settings.copies.max(1).min(5) as u8;

@@ -46,6 +46,10 @@ file for each further copy. One server at a time has it.
 With --copies N a write is confirmed when each copy in sync has it. A folder keeps the
 copies that it has where --copies isn't given, and gets new ones where it says more.
 
+With --sync together one sync brings all writes to the disk that wait for one, so many
+clients get as many writes a second as that gives; each write is confirmed when its sync
+has ended. Of writes that no client was told of a crash of the machine may keep some.
+
 Connections that wait take no thread; a request that has come whole takes one while it is
 answered. One that isn't whole 30 seconds after its first byte ends its connection.
 

@@ -68,12 +68,15 @@ fn serve_command<'a>(alloc: Global) -> Result<Command<'a>, AllocError> {
     with_answers(alloc, with_clients(alloc, with_run(alloc, command)?)?)
 }
 
+/// When the logs of a folder may be synced.
+const SYNCS: [&str; 2] = ["each", "together"];
+
 /// The options of `serve` that say how connections are served.
 fn with_clients<'a>(alloc: Global, command: Command<'a>) -> Result<Command<'a>, AllocError> {
     let threads = option(
         alloc,
         "threads",
-        "How many threads answer requests, 1 to 64; 4 where none is given",
+        "How many threads answer requests, 1 to 64; where none is given 4, or 64 with `--sync together`",
     )
     .value_name("N")
     .value_parser(clap::value_parser!(u64).range(1..=64));
@@ -143,8 +146,16 @@ fn with_run<'a>(alloc: Global, command: Command<'a>) -> Result<Command<'a>, Allo
     )
     .value_name("N")
     .value_parser(clap::value_parser!(u64).range(0..=3_600_000));
+    let sync = option(
+        alloc,
+        "sync",
+        "Whether each write is synced by itself, or those together that wait; with --data alone, `each` where none is given",
+    )
+    .value_name("WHICH")
+    .value_parser(SYNCS.as_slice());
     command
         .arg(copies)?
+        .arg(sync)?
         .arg(connections)?
         .arg(audit)?
         .arg(journals)?

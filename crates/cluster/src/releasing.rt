@@ -1,0 +1,339 @@
+//! What a worker has done leaves it when its log is synced: one sync for all that waits.
+
+ghost use Rattle.std.specs.Prelude.{◌<◌, length};
+ghost use Rattle.cluster.specs.Leaving.{sent_by};
+
+use crate::channels::sent;
+use crate::checks::{is_shut, written_in};
+use crate::copies::copied;
+use crate::durable::Durable;
+use crate::gate::Gate;
+use crate::outbox::{Asked, Entry, Parcel};
+use crate::post::{Ending, Post};
+use crate::worker::Worker;
+use crossbeam_channel::{Receiver, Sender};
+use node::{Got, NodeFault, OnDisk, Receipt};
+use replica::CopyFault;
+use std::alloc::Global;
+use std::sync::Wait;
+use translog::{LogDevice, LogFault};
+
+/// How many posts are done at most before what they tell leaves.
+const TOGETHER: u32 = 1_024;
+
+/// How often a log is synced that failed to.
+const SYNCS: u32 = 3;
+
+/// What those are told whose entry couldn't be brought to the disk.
+pub(crate) fn unsynced() -> NodeFault {
+    NodeFault::Copy(CopyFault::Log(LogFault::Device))
+}
+
+impl<D: LogDevice, G: Gate> Worker<D, G> {
+    /// Does a post, and those that wait behind it as long as something of it isn't on the disk; then what they tell leaves. Tells whether it goes on.
+    /// Where each append is synced, each post leaves by itself.
+    pub(crate) fn serve_waiting<R: Wait>(
+        &mut self,
+        rt: &R,
+        inbox: &Receiver<Post, Global>,
+        first: Post,
+    ) -> bool {
+        let mut goes_on = self.serve(rt, first);
+        for _ in 1..TOGETHER {
+            if !goes_on || !self.is_open() || self.cell.is_synced() {
+                break;
+            }
+            let Ok(post) = inbox.try_recv(rt) else {
+                break;
+            };
+            goes_on = self.serve(rt, post);
+        }
+        self.release(rt);
+        goes_on
+    }
+
+    /// Keeps a parcel until it is on the disk. Without memory for that it leaves at once, behind those that wait; a copy that can do neither is given up.
+    pub(crate) fn keep<R: Wait>(&mut self, rt: &R, parcel: Parcel) {
+        let Err(parcel) = self.outbox.push(parcel) else {
+            return;
+        };
+        self.flush(rt);
+        match self.cell.sync() {
+            Ok(on_disk) => self.leave(rt, parcel, &on_disk),
+            Err(_) => {
+                self.withdraw(rt, parcel);
+                self.give_up(rt);
+            }
+        }
+    }
+
+    /// Syncs the log, and lets all leave that waits for it. Where that fails nobody who asked is told anything but that, and the copy is opened again,
+    /// which brings to the disk what it has; then the rest leaves. Of a copy that doesn't open nothing leaves.
+    pub(crate) fn release<R: Wait>(&mut self, rt: &R) {
+        for _ in 0..SYNCS {
+            if self.flush(rt) {
+                return;
+            }
+            self.refuse_all(rt);
+            if self.is_open() {
+                self.reopen(rt);
+            }
+            if !self.is_open() {
+                self.withdraw_all(rt);
+                return;
+            }
+        }
+        self.withdraw_all(rt);
+        self.give_up(rt);
+    }
+
+    /// Syncs the log, and lets all leave that waits for it. Where that fails all of it goes on waiting.
+    fn flush<R: Wait>(&mut self, rt: &R) -> bool {
+        if self.outbox.is_empty() {
+            return true;
+        }
+        match self.cell.sync() {
+            Ok(on_disk) => {
+                self.let_go(rt, &on_disk);
+                true
+            }
+            Err(_) => false,
+        }
+    }
+
+    fn let_go<R: Wait>(&mut self, rt: &R, on_disk: &OnDisk) {
+        for _ in 0..self.outbox.len() {
+            let Some(parcel) = self.outbox.next() else {
+                return;
+            };
+            self.leave(rt, parcel, on_disk);
+        }
+    }
+
+    fn leave<R: Wait>(&mut self, rt: &R, parcel: Parcel, on_disk: &OnDisk) {
+        match parcel {
+            Parcel::Entry(entry) => self.tell(rt, entry, on_disk),
+            Parcel::Got(got, to) => tell_got(rt, got, &to, on_disk),
+            Parcel::EndOfWaits => self.waits.end(),
+        }
+    }
+
+    fn tell<R: Wait>(&mut self, rt: &R, entry: Entry, on_disk: &OnDisk) {
+        let Entry {
+            receipt,
+            leads,
+            term,
+            asked,
+        } = entry;
+        match Durable::entry(receipt, on_disk) {
+            Ok(entry) => self.tell_durable(rt, entry, leads, term, asked),
+            Err(receipt) => refuse(rt, receipt, asked),
+        }
+    }
+
+    /// Sends what an entry sends, tells what it acknowledges, and answers it. Who waits for a write is noted before what the entry acknowledges is
+    /// told, since one copy acknowledges its write at once.
+    fn tell_durable<R: Wait>(
+        &mut self,
+        rt: &R,
+        entry: Durable<Receipt>,
+        leads: bool,
+        term: u64,
+        asked: Asked,
+    ) {
+        match asked {
+            Asked::Within => self.follow(rt, &entry, leads, term),
+            Asked::Call(to) => {
+                self.follow(rt, &entry, leads, term);
+                sent(rt, &to, Ok(entry));
+            }
+            Asked::Write(first, second) => {
+                if term >= self.deposed {
+                    self.note(&entry, second);
+                }
+                self.follow(rt, &entry, leads, term);
+                sent(rt, &first, Ok(entry));
+            }
+        }
+    }
+
+    /// Notes who waits for the acknowledgement of a write that is kept.
+    fn note(&mut self, entry: &Durable<Receipt>, to: Sender<Ending, Global>) {
+        if let Some(written) = written_in(entry.what()) {
+            self.waits.add(written, to);
+        }
+    }
+
+    fn follow<R: Wait>(&mut self, rt: &R, entry: &Durable<Receipt>, leads: bool, term: u64) {
+        for at in 0..entry.sent().len() {
+            self.send(rt, entry, at, leads);
+        }
+        self.tell_acknowledged(rt, entry);
+        self.tell_lost(rt, entry, leads, term);
+    }
+
+    /// Sends a message of an entry on its way.
+    fn send<R: Wait>(&mut self, rt: &R, entry: &Durable<Receipt>, at: usize, leads: bool)
+        requires { at < length (sent_by entry.now.deed.answer) }
+    {
+        let is_sent = match entry.message(self.alloc, at) {
+            Ok(message) => self.shared.post(rt, self.alloc, self.number, message),
+            Err(_) => false,
+        };
+        if !is_sent {
+            self.miss(rt, entry.sent()[at].to, leads);
+        }
+    }
+
+    /// A message that didn't arrive: the primary is to report the copy that it is to, or that sent it. What the master didn't take, or can't be
+    /// told, ends all waits.
+    fn miss<R: Wait>(&mut self, rt: &R, to: u32, leads: bool) {
+        let id = self.id();
+        let told = if to == 0 {
+            false
+        } else if leads {
+            self.shared.hand(rt, id, Post::Report(to))
+        } else {
+            self.shared.hand(rt, to, Post::Report(id))
+        };
+        if !told {
+            self.waits.end();
+        }
+    }
+
+    /// Tells those whose writes an entry acknowledges.
+    fn tell_acknowledged<R: Wait>(&mut self, rt: &R, entry: &Durable<Receipt>) {
+        if let Ok(output) = &entry.what().deed.answer {
+            for op in output.acknowledged.as_slice() {
+                self.waits.acknowledge(rt, op, entry);
+            }
+        }
+    }
+
+    /// Tells those who wait where the copy was the primary no more, or of a later term than that of their writes.
+    fn tell_lost<R: Wait>(&mut self, rt: &R, entry: &Durable<Receipt>, leads: bool, term: u64) {
+        let leads = leads && !is_shut(entry.what());
+        if !leads || !self.waits.are_of(term) {
+            self.waits.lose(rt, entry);
+        }
+    }
+
+    /// Tells all who asked that the log has failed. What entries send and acknowledge goes on waiting.
+    fn refuse_all<R: Wait>(&mut self, rt: &R) {
+        for _ in 0..self.outbox.len() {
+            let Some(parcel) = self.outbox.next() else {
+                return;
+            };
+            self.refuse_one(rt, parcel);
+        }
+    }
+
+    fn refuse_one<R: Wait>(&mut self, rt: &R, parcel: Parcel) {
+        match parcel {
+            Parcel::Entry(entry) => {
+                let Entry {
+                    receipt,
+                    leads,
+                    term,
+                    asked,
+                } = entry;
+                refuse_copied(self.alloc, rt, &receipt, asked);
+                self.put_back(
+                    rt,
+                    Parcel::Entry(Entry {
+                        receipt,
+                        leads,
+                        term,
+                        asked: Asked::Within,
+                    }),
+                );
+            }
+            Parcel::Got(got, to) => {
+                drop(got);
+                sent(rt, &to, Err(unsynced()));
+            }
+            Parcel::EndOfWaits => self.put_back(rt, Parcel::EndOfWaits),
+        }
+    }
+
+    /// Puts a parcel behind the others again; there is room for it.
+    fn put_back<R: Wait>(&mut self, rt: &R, parcel: Parcel) {
+        if let Err(parcel) = self.outbox.push(parcel) {
+            self.withdraw(rt, parcel);
+        }
+    }
+
+    /// Lets nothing leave of what waits. Whether a write stands that waits for its acknowledgement is open.
+    fn withdraw_all<R: Wait>(&mut self, rt: &R) {
+        for _ in 0..self.outbox.len() {
+            let Some(parcel) = self.outbox.next() else {
+                return;
+            };
+            self.withdraw(rt, parcel);
+        }
+        self.waits.end();
+    }
+
+    fn withdraw<R: Wait>(&mut self, rt: &R, parcel: Parcel) {
+        match parcel {
+            Parcel::Entry(entry) => {
+                let Entry { receipt, asked, .. } = entry;
+                refuse(rt, receipt, asked);
+            }
+            Parcel::Got(got, to) => {
+                drop(got);
+                sent(rt, &to, Err(unsynced()));
+            }
+            Parcel::EndOfWaits => self.waits.end(),
+        }
+    }
+}
+
+/// Tells who asked for an entry that isn't on the disk that the log has failed; or that the copy is closed or isn't the primary, where that is the entry.
+fn refuse<R: Wait>(rt: &R, receipt: Receipt, asked: Asked) {
+    let told = match Durable::idle(receipt) {
+        Ok(entry) => Ok(entry),
+        Err(receipt) => {
+            drop(receipt);
+            Err(unsynced())
+        }
+    };
+    match asked {
+        Asked::Within => drop(told),
+        Asked::Call(to) => {
+            sent(rt, &to, told);
+        }
+        Asked::Write(to, ending) => {
+            sent(rt, &to, told);
+            drop(ending);
+        }
+    }
+}
+
+/// The same of an entry that is kept.
+fn refuse_copied<R: Wait>(alloc: Global, rt: &R, receipt: &Receipt, asked: Asked) {
+    if let Asked::Within = &asked {
+        return;
+    }
+    match copied(alloc, receipt) {
+        Ok(receipt) => refuse(rt, receipt, asked),
+        Err(_) => drop(asked),
+    }
+}
+
+/// Tells what the copy had of an id.
+fn tell_got<R: Wait>(
+    rt: &R,
+    got: Got,
+    to: &Sender<Result<Durable<Got>, NodeFault>, Global>,
+    on_disk: &OnDisk,
+) {
+    let told = match Durable::got(got, on_disk) {
+        Ok(got) => Ok(got),
+        Err(got) => {
+            drop(got);
+            Err(unsynced())
+        }
+    };
+    sent(rt, to, told);
+}
