@@ -15,3 +15,8 @@ def models():
 def definitions():
     ran = subprocess.run([TESTS / "definitions"], stdin=subprocess.DEVNULL, capture_output=True)
     check("docs/DEFINITIONS.md", f"status {ran.returncode}: {front_of((ran.stdout + ran.stderr).strip())}" if ran.returncode else "")
+
+
+def reading():
+    ran = subprocess.run([TESTS / "reading", "--check"], stdin=subprocess.DEVNULL, capture_output=True)
+    check("docs/READING.md", f"status {ran.returncode}: {front_of((ran.stdout + ran.stderr).strip())}" if ran.returncode else "")

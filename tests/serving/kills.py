@@ -18,32 +18,33 @@ KILLS_OF_A_FOLDER = 50
 
 def killed():
     for copies in (1, 3):
-        killed_over(copies, int(os.environ.get("KILLS") or 50))
+        for which in ("each", "together"):
+            killed_over(copies, which, int(os.environ.get("KILLS") or 50))
 
 
-def killed_over(copies, rounds):
+def killed_over(copies, which, rounds):
     """Begins a new folder now and then, since each start reads all that was written."""
     chance, lost, written, begun = random.Random(copies), [], 0, time.monotonic()
     for first in range(0, rounds, KILLS_OF_A_FOLDER):
-        written += killed_in_a_folder(copies, min(KILLS_OF_A_FOLDER, rounds - first), chance, lost)
+        written += killed_in_a_folder(copies, which, min(KILLS_OF_A_FOLDER, rounds - first), chance, lost)
         if lost:
             break
-    print(f"{rounds} kills of a server of {copies} while {written} writes were sent, in {time.monotonic() - begun:.0f} seconds", flush=True)
-    check(f"each acknowledged write is found after a kill, {copies} copies", lost[0] if lost else "" if written > rounds else "hardly a write was sent")
+    print(f"{rounds} kills of a server of {copies}, syncs {which}, while {written} writes were sent, in {time.monotonic() - begun:.0f} seconds", flush=True)
+    check(f"each acknowledged write is found after a kill, {copies} copies, syncs {which}", lost[0] if lost else "" if written > rounds else "hardly a write was sent")
 
 
-def killed_in_a_folder(copies, rounds, chance, lost):
+def killed_in_a_folder(copies, which, rounds, chance, lost):
     """A client counts up, and writes each number to some document; of each it then finds the last that was acknowledged, or one that was sent after it."""
     number, sent, acknowledged = 0, {}, {}
     with tempfile.TemporaryDirectory() as top:
         folder = Path(top, "books")
         for at in range(rounds + 1):
             if at % 5 == 4:
-                words = [program(), "serve", "--port", str(free_port()), "--data", str(folder), "--copies", str(copies)]
+                words = [program(), "serve", "--port", str(free_port()), "--data", str(folder), "--copies", str(copies), "--sync", which]
                 with subprocess.Popen(words, stdin=subprocess.DEVNULL, stdout=subprocess.DEVNULL, stderr=subprocess.DEVNULL) as early:
                     time.sleep(chance.random() * 0.02)
                     early.kill()
-            with Server("--data", folder, "--copies", copies) as server:
+            with Server("--data", folder, "--copies", copies, "--sync", which) as server:
                 if not server.listens:
                     lost.append(f"no start after kill {at}: {shown(server.process.stderr.read())}")
                     break

@@ -14,7 +14,7 @@ from serving.server import SECONDS, Server, complains, other, ran
 
 def starts():
     for words in ([], ["--port", "0"], ["--port", "65536"], ["--port", "x"], ["--port", "1", "--connections", "0"], ["--port", "1", "--copies", "0"],
-                  ["--port", "1", "--copies", "6"], ["--port", "1", "--refresh-ms", "x"], ["--port", "1", "again"]):
+                  ["--port", "1", "--copies", "6"], ["--port", "1", "--refresh-ms", "x"], ["--port", "1", "--sync", "never"], ["--port", "1", "again"]):
         complains(f"serve {' '.join(words)}", ran(*words), 2)
     bounds_of_options()
     with socket.socket() as taken, tempfile.TemporaryDirectory() as folder:
@@ -29,6 +29,7 @@ def starts():
         bad.write_text('{"properties":{"a":{"type":"date"}}}')
         complains("a mapping of an unknown type", ran("--port", port, "--mapping", bad), 1, "mapping")
         complains("a port that is taken", ran("--port", port), 1, str(port), "--port")
+        complains("syncs of an index in memory", ran("--port", port, "--sync", "together"), 1, "--sync", "--data")
     for name in ("a", "a" * 255, "bücher", "a.b-c_d+e"):
         with Server(index=name) as server:
             check(f"index name {name[:9]!r} is taken", "" if server.listens else shown(server.said))
