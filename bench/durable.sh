@@ -6,9 +6,10 @@
 # block of lines, since disks are shared. Then so many connections that are kept (wrk) each write one document after another to a server of an index in a folder:
 # one copy and three, with --sync each and --sync together. A line has writes a second, how many that is for each synced append of the disk alone, the median
 # and the 99th of a hundred of what one takes, and at 64 clients and more how many syncs of a copy's log there are for a write, counted by strace in a run of its
-# own where it is installed. PostgreSQL
-# writes the same documents to one table of JSON with an index (pgbench, synchronous_commit), where it is installed. Last how long a start over what was written takes.
-# Everything stands in a folder of /var/tmp (DIR=FOLDER: in that). INDEXD_PROGRAM=FILE measures the executable FILE in place of the one that ./indexd runs, which
+# own where it is installed. PostgreSQL writes the same documents to one table of JSON with an index (pgbench, synchronous_commit), where it is installed.
+# Last how long a start over what was written takes.
+# Everything stands in a folder of /var/tmp (DIR=FOLDER: in that). SYNC_MS=N has each sync take N milliseconds more, those of the file alone too, so that a disk
+# that gives now more and now less is as good as even (needs gcc). INDEXD_PROGRAM=FILE measures the executable FILE in place of the one that ./indexd runs, which
 # is built first where it has to be. Needs Linux, python3 and wrk.
 set -euo pipefail
 
@@ -24,6 +25,22 @@ done
 if ! command -v wrk >/dev/null; then
     echo "bench/durable.sh: wrk is wanted: apt-get install wrk" >&2
     exit 2
+fi
+
+if [ -n "${SYNC_MS:-}" ]; then
+    if ! [[ $SYNC_MS =~ ^[1-9][0-9]{0,2}$ ]]; then
+        echo "bench/durable.sh: SYNC_MS is a number of 1 to 999, and not $SYNC_MS" >&2
+        exit 2
+    fi
+    shim=$(mktemp --suffix=.so)
+    gcc -x c -shared -fPIC -O2 -o "$shim" - <<SLOW
+#include <sys/syscall.h>
+#include <unistd.h>
+int fsync(int file) { usleep($SYNC_MS * 1000); return (int)syscall(SYS_fsync, file); }
+int fdatasync(int file) { usleep($SYNC_MS * 1000); return (int)syscall(SYS_fdatasync, file); }
+SLOW
+    chmod 755 "$shim"
+    export LD_PRELOAD=$shim
 fi
 
 exec python3 - "$program" "$seconds" "${@:-}" <<'PROGRAM'
@@ -166,6 +183,7 @@ def postgres(folder):
         server.wait()
 
 
+slow = os.environ.get("LD_PRELOAD") if os.environ.get("SYNC_MS") else None
 with tempfile.TemporaryDirectory(dir=top) as folder:
     os.chmod(folder, 0o755)
     script = f"{folder}/writes.lua"
@@ -180,4 +198,6 @@ with tempfile.TemporaryDirectory(dir=top) as folder:
                 server.wait()
                 print(f"a start over a log of {os.path.getsize(data + '/copy-1.rsx'):,} bytes: {took:.2f} seconds", flush=True)
     postgres(folder)
+if slow:
+    os.unlink(slow)
 PROGRAM

@@ -43,6 +43,14 @@ fn log_of(alloc: Global, spelling: &str) -> Result<Vec<u8>, Fail> {
     Ok(hex::decode(alloc, spelling.as_bytes())?)
 }
 
+/// The first bytes of a log, so many.
+fn front_of(alloc: Global, whole: &[u8], len: usize) -> Result<Vec<u8>, Fail> {
+    match whole.get(..len) {
+        Some(front) => Ok(front.to_vec(alloc)?),
+        None => Err(Fail::new("the log is shorter")),
+    }
+}
+
 /// How many records a log opens with, or none and the offset at which it is damaged.
 fn opened(alloc: Global, bytes: Vec<u8>) -> Result<(Option<usize>, u64), Fail> {
     let mut log = PieceLog::over(MemDevice::new(bytes));
@@ -106,7 +114,7 @@ fn grown(alloc: Global, device: MemDevice) -> Result<((usize, usize, usize), Mem
 fn an_upgrade_stands_before_the_first_group(rt: HostRuntime) -> Result<(), Fail> {
     let alloc = rt.alloc();
     let whole = log_of(alloc, GROWN)?;
-    let (counts, device) = grown(alloc, MemDevice::new(whole[..92].to_vec(alloc)?))?;
+    let (counts, device) = grown(alloc, MemDevice::new(front_of(alloc, &whole, 92)?))?;
     assert_eq!(rt; counts, (2, 4, 6));
     assert!(rt; device.bytes() == whole.as_slice());
     Ok(())
@@ -129,8 +137,8 @@ fn a_torn_group_leaves_the_records_before_it(rt: HostRuntime) -> Result<(), Fail
     let alloc = rt.alloc();
     let whole = log_of(alloc, GROWN)?;
     for len in 92..184 {
-        assert_eq!(rt; opened(alloc, whole[..len].to_vec(alloc)?)?, (Some(2), 0));
+        assert_eq!(rt; opened(alloc, front_of(alloc, &whole, len)?)?, (Some(2), 0));
     }
-    assert_eq!(rt; opened(alloc, whole[..184].to_vec(alloc)?)?, (Some(4), 0));
+    assert_eq!(rt; opened(alloc, front_of(alloc, &whole, 184)?)?, (Some(4), 0));
     Ok(())
 }
