@@ -17,6 +17,8 @@ TOGETHER = ("--sync", "together")
 CREATE = b"PUT /books/_doc/first?op_type=create HTTP/1.1\r\ncontent-length: 2\r\n\r\n{}"
 
 FIRST = ("put", b"first", b"{}")
+REFRESH = b"POST /books/_refresh HTTP/1.1\r\n\r\n"
+SEARCH = b'POST /books/_search HTTP/1.1\r\ncontent-length: 38\r\n\r\n{"query":{"match_all":{}},"size":1000}'
 
 
 def batches():
@@ -34,25 +36,29 @@ def batches():
 
 
 def write_at_once(run, server, clients, each):
-    """So many clients write so many documents each, all of different names, and a last one creates a document that is there again and again. The pages."""
+    """So many clients write so many documents each, all of different names; one more creates a document that is there again and again, and one refreshes and
+    searches. The pages of the writes."""
     deeds, pages = [puts(at * each, at * each + each, 300) for at in range(clients)], []
 
     def write(client):
         with Client(server) as connection:
             for deed in deeds[client] if client < clients else [None] * each:
-                page = connection.ask(request_of(deed) if deed else CREATE)
-                pages.append((deed, page))
+                if client > clients:
+                    connection.ask(REFRESH)
+                    connection.ask(SEARCH)
+                else:
+                    pages.append((deed, connection.ask(request_of(deed) if deed else CREATE)))
 
-    at_once(clients + 1, write)
+    at_once(clients + 2, write)
     run.deeds += [deed for them in deeds for deed in them]
     return pages
 
 
 def in_order(run):
-    """Puts the deeds into the order in which their pages were sent; one that is refused counts as none."""
+    """Puts the deeds into the order in which their pages were sent; one that is refused counts as none, and so do refreshes and searches."""
     named = {write_by(it)[0].decode(): it for it in run.deeds}
     pages = [page for _, page in crashes.pages_in(run.record.read_bytes())]
-    run.deeds = [("get", b"") if "error" in it else named[it["_id"]] for it in pages]
+    run.deeds = [named[it["_id"]] if "_id" in it else ("get", b"") for it in pages]
     return pages
 
 
@@ -72,7 +78,22 @@ def shared(shim, copies):
         check(f"{name}: few syncs for many writes", "" if syncs < 160 else f"{syncs} syncs a copy for 320 writes")
         in_order(run)
         check(f"{name}: what is confirmed is on the disk of each copy in sync", unkept(run)[0])
+        check(f"{name}: what a search finds is on the disk of the copy that leads", shown_early(run))
         check(f"{name}: after a crash", crashed(run, copies))
+
+
+def shown_early(run):
+    """Which documents a search found that weren't on the disk of copy 1 when its page was sent."""
+    pages, seen, found = [it for _, it in crashes.pages_in(run.record.read_bytes())], 0, 0
+    for _, disk, answered in run.places():
+        for page in pages[seen:answered]:
+            if hits := page.get("hits", {}).get("hits"):
+                held = {it[0] for it in logs.held(disk.kept().get("copy-1.rsx", b"")).values()}
+                if early := [it["_id"] for it in hits if it["_id"].encode() not in held]:
+                    return f"{early}"
+                found += len(hits)
+        seen = answered
+    return "" if found else "no search found anything"
 
 
 def crashed(run, copies, most=24):
