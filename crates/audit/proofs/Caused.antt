@@ -5,7 +5,7 @@ use Rattle.std.proofs.lemmas.Bool.Decides.{nat_tests}
 use Rattle.std.proofs.lemmas.Option.{slice_get_within}
 use Rattle.op.specs.declared.message.Msg.{Msg}
 use Rattle.replica.specs.declared.input.Input.{Input}
-use Rattle.replica.specs.declared.input.Input.TheVariants.{Write as Client, Take, Report as Reporting, Refresh as Refreshing, Get as Getting, Restart as Restarting}
+use Rattle.replica.specs.declared.input.Input.TheVariants.{Write as Client, Bulk as ClientBulk, Take, Report as Reporting, Refresh as Refreshing, Get as Getting, Restart as Restarting}
 use Rattle.master.specs.declared.state.Request.{Request}
 use Rattle.master.specs.declared.state.Request.TheVariants.{Promote as Promotion, Allocate as Allocation, Synced, Fail}
 use Rattle.journal.specs.declared.moves.Move.{Move}
@@ -19,6 +19,7 @@ module _ (w : World) (i k : ℕ) where
   told_with : (input : Input) → IsTo i input → (x : Msg) → message_at w k ≡ Some x → IsTaken x input → IsTold w i k input
   told_with (Take m) to x at is = (at ∙ ap (λ (y : Msg). Some y) is, to)
   told_with (Client write) to x at is = absurd is
+  told_with (ClientBulk ws) to x at is = absurd is
   told_with (Reporting r) to x at is = absurd is
   told_with Refreshing to x at is = absurd is
   told_with (Getting id) to x at is = absurd is
@@ -39,6 +40,7 @@ module _ (w : World) (i k : ℕ) where
   told_free : (input : Input) → is_taking input ≡ false → IsTold w i k input
   told_free (Take m) is = absurd cc
   told_free (Client write) is = tt
+  told_free (ClientBulk ws) is = tt
   told_free (Reporting r) is = tt
   told_free Refreshing is = tt
   told_free (Getting id) is = tt
@@ -59,6 +61,7 @@ module _ (w : World) (i k : ℕ) where
   to_of : (input : Input) → IsTold w i k input → IsTo i input
   to_of (Take m) told = told.1
   to_of (Client write) told = tt
+  to_of (ClientBulk ws) told = tt
   to_of (Reporting r) told = tt
   to_of Refreshing told = tt
   to_of (Getting id) told = tt
@@ -72,6 +75,7 @@ module _ (w : World) (i k : ℕ) where
   let_told : (input : Input) → is_taking input ≡ true → IsTold w i k input → (x : Msg) × (message_at w k ≡ Some x) × IsTaken x input
   let_told (Take m) is told = (m, told.0, refl)
   let_told (Client write) is told = absurd cc
+  let_told (ClientBulk ws) is told = absurd cc
   let_told (Reporting r) is told = absurd cc
   let_told Refreshing is told = absurd cc
   let_told (Getting id) is told = absurd cc

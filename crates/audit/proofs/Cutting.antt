@@ -1,11 +1,11 @@
 -- What the steps of a copy tell of the answers that its journal may have.
-use Rattle.std.proofs.Common.{◌≡◌, ℕ, suc, Bool, true, false, length, Option, Some, Result, Ok, Err, IfSome, inl, inr, refl, sym, ap, subst, ◌∙◌, arith}
-use Rattle.std.specs.Prelude.{◌↔◌, IsTrue, ◌||◌, if◌then◌else◌}
+use Rattle.std.proofs.Common.{◌≡◌, ℕ, ◌+◌, Bool, true, false, length, Option, Some, Result, Ok, Err, IfSome, refl, sym, ap, subst, ◌∙◌, arith}
+use Rattle.std.specs.Prelude.{◌↔◌, IsTrue, ◌||◌, nat_lt, if◌then◌else◌}
 use Rattle.std.proofs.lemmas.Bool.Decides.{nat_tests}
 use Rattle.replica.specs.declared.fault.CopyFault.{CopyFault}
 use Rattle.replica.specs.declared.fault.CopyFault.TheVariants.{NotPrimary, VersionConflict, WindowFull, OldTerm, NotSynced, BeyondWindow, Mismatch, Closed, Log, NoMemory, WrongAddress, Exhausted}
 use Rattle.replica.specs.declared.input.Input.{Input}
-use Rattle.replica.specs.declared.input.Input.TheVariants.{Write as Client, Take, Report as Reporting, Refresh as Refreshing, Get as Getting, Restart as Restarting}
+use Rattle.replica.specs.declared.input.Input.TheVariants.{Restart as Restarting}
 use Rattle.replica.specs.declared.output.Output.{Output}
 use Rattle.replica.specs.Copy.{Copy}
 use Rattle.replica.specs.Fault.{fault_of, is_log}
@@ -14,7 +14,7 @@ use Rattle.replica.specs.Step.{Step, Stepped, copy_step, torn}
 use Rattle.audit.specs.declared.following.Cut.{Cut}
 use Rattle.journal.specs.declared.journal.Deed.{Deed}
 use Rattle.audit.specs.declared.judge.Wrong.TheVariants.{At}
-use Rattle.audit.specs.Following.{count_after, shut_by, IsReport, MayFail}
+use Rattle.audit.specs.Following.{shut_by, IsReport, MayFail}
 use Rattle.journal.specs.Journal.{Standing, found, keeps_record, left_by, reopened, torn_move, IsReopening, MayAnswer}
 use Rattle.audit.specs.Judge.{IsRefused}
 use Rattle.audit.proofs.Links.{reopens, restarts}
@@ -55,31 +55,25 @@ a_refusal fault made r same log memory known given is =
 
 -- ---- records
 
-grows : (c : Copy) (r : Step) → length (left_by c r).records ≡ suc (length c.records) → keeps_record c r ≡ true
-grows c (Ok s) more = grind (arith, nat_tests, more)
-grows c (Err e) more = absurd (omega (arith, more))
+-- a step keeps a record just where it adds some
+pub grows : (c : Copy) (r : Step) (added : ℕ) → length (left_by c r).records ≡ length c.records + added → keeps_record c r ≡ nat_lt 0 added
+grows c (Ok s) added more = grind (arith, nat_tests, more)
+grows c (Err e) added more = grind (arith, nat_tests, more)
 
--- and one that may fail restarts or keeps a record
-pub kept_or_restart : (c : Copy) (input : Input) → MayFail c input → (is_restart input || keeps_record c (copy_step c input)) ≡ true
-kept_or_restart c input (inl restart) = rw restart refl
-kept_or_restart c input (inr more) = rw (more.0, grows c (copy_step c input) more.1) refl
+-- one that may fail restarts or keeps a record
+pub kept_or_restart : (c : Copy) (input : Input) (added : ℕ) → MayFail c input added → (is_restart input || keeps_record c (copy_step c input)) ≡ true
+kept_or_restart c input added may = rw (grows c (copy_step c input) added may.adds) may.may
 
--- how many records there are with that of a step that failed
-pub other_count : (c : Copy) (input : Input) → MayFail c input → length (left_by c (copy_step c input)).records ≡ count_after (is_restart input) (length c.records)
-other_count c Restarting (inl restart) = ap (λ (d : Copy). length d.records) (restarts c)
-other_count c (Client w) (inl restart) = absurd cc
-other_count c (Take m) (inl restart) = absurd cc
-other_count c (Reporting r) (inl restart) = absurd cc
-other_count c Refreshing (inl restart) = absurd cc
-other_count c (Getting id) (inl restart) = absurd cc
-other_count c input (inr more) = rw more.0 more.1
+-- a restart may fail, and adds none
+pub restart_fails : (c : Copy) → MayFail c Restarting 0
+restart_fails c = record { may = refl; adds = let none : length (left_by c (copy_step c Restarting)).records ≡ length c.records = ap (λ (d : Copy). length d.records) (restarts c) in omega (arith, none) }
 
 -- ---- restarts
 
 -- what a restart answers, and what its output tells
-pub reopening : (c : Copy) (f : Cut) (input : Input) (output : Output) → MayFail c f.input → is_restart input ≡ true → IsReport (length c.records) (count_after (is_restart f.input) (length c.records)) output ↔ IsReopening c (shut_by c f) input output
+pub reopening : (c : Copy) (f : Cut) (input : Input) (output : Output) → MayFail c f.input f.added → is_restart input ≡ true → IsReport (length c.records) (length c.records + f.added) output ↔ IsReopening c (shut_by c f) input output
 reopening c f input output may restart =
-    let count = other_count c f.input may in (
+    let count = may.adds in (
       λ h. record { restart = restart; point = rw count h.point; sent = h.sent; acknowledged = h.acknowledged; members = h.members },
       λ h. record { point = rw count at h.point; sent = h.sent; acknowledged = h.acknowledged; members = h.members },
     )
@@ -89,13 +83,13 @@ by_kept c f true = refl
 by_kept c f false = refl
 
 -- a copy that restarts after a step that may fail is the one that the journal says
-after_cut : (c : Copy) (f : Cut) (kept restart : Bool) → MayFail c f.input → is_restart f.input ≡ restart → copy_after c (torn_move restart f.input kept) ≡ reopened c (found c (shut_by c f) kept)
+after_cut : (c : Copy) (f : Cut) (kept restart : Bool) → MayFail c f.input f.added → is_restart f.input ≡ restart → copy_after c (torn_move restart f.input kept) ≡ reopened c (found c (shut_by c f) kept)
 after_cut c f kept restart may is =
     let other = (left_by c (copy_step c f.input)).records in
-    subst (λ (b : Bool). copy_after c (torn_move b f.input kept) ≡ reopened c (if kept then other else c.records)) is (reopens c f.input other kept refl (kept_or_restart c f.input may))
+    subst (λ (b : Bool). copy_after c (torn_move b f.input kept) ≡ reopened c (if kept then other else c.records)) is (reopens c f.input other kept refl (kept_or_restart c f.input f.added may))
     ∙ ap (reopened c) (sym (by_kept c f kept))
 
-pub by_tear : (c d : Copy) (f : Cut) (kept : Bool) → MayFail c f.input → is_restart f.input ≡ false → d ≡ torn c (copy_step c f.input) kept → d ≡ reopened c (found c (shut_by c f) kept)
+pub by_tear : (c d : Copy) (f : Cut) (kept : Bool) → MayFail c f.input f.added → is_restart f.input ≡ false → d ≡ torn c (copy_step c f.input) kept → d ≡ reopened c (found c (shut_by c f) kept)
 by_tear c d f kept may is e = e ∙ after_cut c f kept false may is
 
 -- an answer that may not be given there

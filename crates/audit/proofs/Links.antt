@@ -7,7 +7,7 @@ use Rattle.op.specs.declared.record.Record.{Record}
 use Rattle.replica.specs.declared.fault.CopyFault.{CopyFault}
 use Rattle.replica.specs.declared.fault.CopyFault.TheVariants.{NotPrimary, VersionConflict, WindowFull, OldTerm, NotSynced, BeyondWindow, Mismatch, Closed, Log, NoMemory, WrongAddress, Exhausted}
 use Rattle.replica.specs.declared.input.Input.{Input}
-use Rattle.replica.specs.declared.input.Input.TheVariants.{Write as Client, Take, Report as Reporting, Refresh as Refreshing, Get as Getting, Restart as Restarting}
+use Rattle.replica.specs.declared.input.Input.TheVariants.{Write as Client, Bulk as ClientBulk, Take, Report as Reporting, Refresh as Refreshing, Get as Getting, Restart as Restarting}
 use Rattle.replica.specs.declared.output.Answer.TheVariants.{Point}
 use Rattle.replica.specs.declared.output.Output.{Output}
 use Rattle.replica.specs.Copy.{Copy, opened, restarted}
@@ -99,6 +99,8 @@ reopens c Restarting other true is keeps = restarts c ∙ ap (λ (rs : List Reco
 reopens c Restarting other false is keeps = restarts c
 reopens c (Client v) other true is keeps = torn_keeps c (copy_step c (Client v)) (step-same c (Client v)) keeps ∙ ap (reopened c) (sym is)
 reopens c (Client v) other false is keeps = cut c (copy_step c (Client v))
+reopens c (ClientBulk vs) other true is keeps = torn_keeps c (copy_step c (ClientBulk vs)) (step-same c (ClientBulk vs)) keeps ∙ ap (reopened c) (sym is)
+reopens c (ClientBulk vs) other false is keeps = cut c (copy_step c (ClientBulk vs))
 reopens c (Take m) other true is keeps = torn_keeps c (copy_step c (Take m)) (step-same c (Take m)) keeps ∙ ap (reopened c) (sym is)
 reopens c (Take m) other false is keeps = cut c (copy_step c (Take m))
 reopens c (Reporting r) other true is keeps = torn_keeps c (copy_step c (Reporting r)) (step-same c (Reporting r)) keeps ∙ ap (reopened c) (sym is)

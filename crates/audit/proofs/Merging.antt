@@ -6,7 +6,7 @@ use Rattle.std.proofs.lemmas.Option.{slice_get_read}
 use Rattle.doc.specs.Mapping.{MappingData}
 use Rattle.op.specs.declared.message.Msg.{Msg}
 use Rattle.replica.specs.declared.input.Input.{Input}
-use Rattle.replica.specs.declared.input.Input.TheVariants.{Write as Client, Take, Report as Reporting, Refresh as Refreshing, Get as Getting, Restart as Restarting}
+use Rattle.replica.specs.declared.input.Input.TheVariants.{Write as Client, Bulk as ClientBulk, Take, Report as Reporting, Refresh as Refreshing, Get as Getting, Restart as Restarting}
 use Rattle.replica.specs.Copy.{begun}
 use Rattle.master.specs.declared.state.Request.{Request}
 use Rattle.master.specs.declared.state.Request.TheVariants.{Promote as Promotion, Allocate as Allocation, Synced, Fail}
@@ -73,6 +73,7 @@ module _ (mapping : MappingData) (n : ℕ) (moves : Moves) where
     still_told : (i k : ℕ) (input : Input) → IsTold w i k input → (l : ℕ) × IsTold w' i l input
     still_told i k (Take x) told = let at = found k x told.0 in (at.0, (at.1, told.1))
     still_told i k (Client v) told = (k, tt)
+    still_told i k (ClientBulk vs) told = (k, tt)
     still_told i k (Reporting r) told = (k, tt)
     still_told i k Refreshing told = (k, tt)
     still_told i k (Getting id) told = (k, tt)

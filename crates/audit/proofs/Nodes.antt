@@ -8,7 +8,7 @@ use Rattle.std.proofs.lemmas.List.Elements.{Contains-append_left, Contains-appen
 use Rattle.doc.specs.Mapping.{MappingData}
 use Rattle.op.specs.declared.message.Msg.{Msg}
 use Rattle.replica.specs.declared.input.Input.{Input}
-use Rattle.replica.specs.declared.input.Input.TheVariants.{Write as Client, Take, Report as Reporting, Refresh as Refreshing, Get as Getting, Restart as Restarting}
+use Rattle.replica.specs.declared.input.Input.TheVariants.{Write as Client, Bulk as ClientBulk, Take, Report as Reporting, Refresh as Refreshing, Get as Getting, Restart as Restarting}
 use Rattle.replica.specs.declared.role.Birth.TheVariants.{Added}
 use Rattle.replica.specs.Copy.{Copy, opened}
 use Rattle.replica.specs.Step.{Step, copy_step, torn}
@@ -118,6 +118,7 @@ module _ (w : World) (i k : ℕ) where
   does_is : (input : Input) → (i == 0) ≡ false → IsTold w i k input → world_step w (event_of i k (does input)) ≡ at_copy w (copy_in w.copies i) input
   does_is (Take x) other told = ap (deliver w) told.0 ∙ ap (deliver_to w x) (to_other x told.1 other) ∙ ap (λ (r : ℕ). at_copy w (copy_in w.copies r) (Take x)) told.1
   does_is (Client v) other told = refl
+  does_is (ClientBulk vs) other told = refl
   does_is (Reporting r) other told = refl
   does_is Refreshing other told = refl
   does_is (Getting id) other told = refl
@@ -126,6 +127,7 @@ module _ (w : World) (i k : ℕ) where
   tears_is : (input : Input) (kept : Bool) → (i == 0) ≡ false → may_tear input ≡ true → IsTold w i k input → world_step w (event_of i k (tears input kept)) ≡ torn_at w (copy_in w.copies i) input kept
   tears_is (Take x) kept other may told = ap (λ (o : Option Msg). deliver_torn w o kept) told.0 ∙ ap (deliver_torn_to w x kept) (to_other x told.1 other) ∙ ap (λ (r : ℕ). torn_at w (copy_in w.copies r) (Take x) kept) told.1
   tears_is (Client v) kept other may told = refl
+  tears_is (ClientBulk vs) kept other may told = refl
   tears_is (Reporting r) kept other may told = absurd cc
   tears_is Refreshing kept other may told = absurd cc
   tears_is (Getting id) kept other may told = absurd cc

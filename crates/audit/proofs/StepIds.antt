@@ -1,5 +1,5 @@
 -- A step of a copy leaves its id, birth and mapping.
-use Rattle.std.proofs.Common.{◌≡◌, ℕ, ℤ, Bool, true, false, List, Option, Some, None, Ok, Err, IfOk, refl}
+use Rattle.std.proofs.Common.{◌≡◌, ℕ, ℤ, Bool, true, false, List, [], ◌∷◌, Option, Some, None, Ok, Err, IfOk, refl, ◌∙◌}
 use Rattle.std.specs.Prelude.{◌==◌, nat_eq}
 use Rattle.std.specs.Cmp.Lexicographic.{pointwise}
 use Rattle.doc.specs.Outcome.{◌>>=◌}
@@ -13,17 +13,24 @@ use Rattle.checkpoint.specs.Numbers.{marked}
 use Rattle.replica.specs.declared.fault.CopyFault.{CopyFault}
 use Rattle.replica.specs.declared.input.Write.{Write}
 use Rattle.replica.specs.declared.input.Input.{Input}
-use Rattle.replica.specs.declared.input.Input.TheVariants.{Write as Client, Take, Report as Reporting, Refresh as Refreshing, Get as Getting, Restart as Restarting}
+use Rattle.replica.specs.declared.input.Input.TheVariants.{Write as Client, Bulk as ClientBulk, Take, Report as Reporting, Refresh as Refreshing, Get as Getting, Restart as Restarting}
 use Rattle.replica.specs.declared.role.Lead.{Lead}
 use Rattle.replica.specs.declared.role.Role.{Role}
 use Rattle.replica.specs.declared.role.Role.TheVariants.{Empty, Replica, Primary}
 use Rattle.replica.specs.Acks.{acks_of}
 use Rattle.replica.specs.Copy.{Copy, operations}
-use Rattle.replica.specs.Step.{Step, copy_step, handled, settled, settled_as, unless, first_fault, client, take_content, take_op, take_over, take_ack, take_marked, take_promoted, take_resync, resync_again, take_track, track, take_recover, recover_again, take_removed, leave, report}
+use Rattle.replica.specs.Step.{Step, Folded, unwritten, with_write, write_step, folded, bulk, copy_step, handled, settled, settled_as, unless, first_fault, client, take_content, take_op, take_over, take_ack, take_marked, take_promoted, take_resync, resync_again, take_track, track, take_recover, recover_again, take_removed, leave, report}
+
+-- the same copy of the same index
+abbrev Kin : Copy → Copy → Type 0
+Kin c d = (d.id ≡ c.id) × (d.birth ≡ c.birth) × (d.mapping ≡ c.mapping)
+
+kin : (a b c : Copy) → Kin a b → Kin b c → Kin a c
+kin a b c x y = (y.0 ∙ x.0, y.1 ∙ x.1, y.2 ∙ x.2)
 
 module _ (c : Copy) where
   abbrev pub Same : Step → Type 0
-  Same r = IfOk r (λ s. (s.copy.id ≡ c.id) × (s.copy.birth ≡ c.birth) × (s.copy.mapping ≡ c.mapping))
+  Same r = IfOk r (λ s. Kin c s.copy)
 
   on_unless : (fs : List (Bool × CopyFault)) (s : Step) → Same s → Same (unless fs s)
   unfolding unless
@@ -107,14 +114,6 @@ module _ (c : Copy) where
   on_report r Replica = tt
   on_report r (Primary lead) = on_unless _ _ (refl, refl, refl)
 
-  on_input : (input : Input) → Same (handled c input)
-  on_input (Client w) = on_client w c.role
-  on_input (Take m) = on_unless _ _ (on_content m.from m.term m.content)
-  on_input (Reporting r) = on_report r c.role
-  on_input Refreshing = (refl, refl, refl)
-  on_input (Getting id) = (refl, refl, refl)
-  on_input Restarting = (refl, refl, refl)
-
   on_settled : (r : Step) → Same r → Same (settled r)
   on_settled (Ok s) same = as_role s.copy.role
     where
@@ -124,12 +123,36 @@ module _ (c : Copy) where
       as_role (Primary lead) = same
   on_settled (Err e) same = tt
 
-  pub step-same : (input : Input) → Same (copy_step c input)
-  step-same input = on_settled (handled c input) (on_input input)
+-- ---- bulks
+
+folds : (c : Copy) (ws : List Write) (b : Folded) → Kin c b.copy → Kin c (folded b ws).copy
+folds c [] b same = same
+folds c (w ∷ ws) b same = folds c ws (with_write b (write_step b.copy w)) (one (write_step b.copy w) (on_settled b.copy (client b.copy w b.copy.role) (on_client b.copy w b.copy.role)))
+  where
+    one : (r : Step) → Same b.copy r → Kin c (with_write b r).copy
+    one (Ok s) next = kin c b.copy s.copy same next
+    one (Err e) next = same
+
+on_bulk : (c : Copy) (ws : List Write) (role : Role) → Same c (bulk c ws role)
+on_bulk c ws Empty = tt
+on_bulk c ws Replica = tt
+on_bulk c ws (Primary lead) = folds c ws (unwritten c) (refl, refl, refl)
+
+-- ---- all inputs
+
+module _ (c : Copy) where
+  pub step-same : (input : Input) → Same c (copy_step c input)
+  step-same (Client w) = on_settled c (handled c (Client w)) (on_client c w c.role)
+  step-same (ClientBulk ws) = on_bulk c ws c.role
+  step-same (Take m) = on_settled c (handled c (Take m)) (on_unless c _ _ (on_content c m.from m.term m.content))
+  step-same (Reporting r) = on_settled c (handled c (Reporting r)) (on_report c r c.role)
+  step-same Refreshing = on_settled c (handled c Refreshing) (refl, refl, refl)
+  step-same (Getting id) = on_settled c (handled c (Getting id)) (refl, refl, refl)
+  step-same Restarting = on_settled c (handled c Restarting) (refl, refl, refl)
 
   pub step-id : (input : Input) → IfOk (copy_step c input) (λ s. s.copy.id ≡ c.id)
   step-id input = first (copy_step c input) (step-same input)
     where
-      first : (r : Step) → Same r → IfOk r (λ s. s.copy.id ≡ c.id)
+      first : (r : Step) → Same c r → IfOk r (λ s. s.copy.id ≡ c.id)
       first (Ok s) same = same.0
       first (Err e) same = tt

@@ -3,7 +3,7 @@
 use Rattle.std.specs.Prelude.{◌≡◌, ℕ, Bool, true, false, ◌==◌, Some}
 use Rattle.op.specs.declared.message.Msg.{Msg}
 use Rattle.replica.specs.declared.input.Input.{Input}
-use Rattle.replica.specs.declared.input.Input.TheVariants.{Write as Client, Take, Report as Reporting, Refresh as Refreshing, Get as Getting, Restart as Restarting}
+use Rattle.replica.specs.declared.input.Input.TheVariants.{Write as Client, Bulk as ClientBulk, Take, Report as Reporting, Refresh as Refreshing, Get as Getting, Restart as Restarting}
 use Rattle.master.specs.declared.state.Request.{Request}
 use Rattle.master.specs.declared.state.Request.TheVariants.{Promote as Promotion, Allocate as Allocation, Synced, Fail}
 use Rattle.journal.specs.declared.moves.Move.{Move}
@@ -20,6 +20,7 @@ is_word (Fail term r) = true
 abbrev pub is_taking : Input → Bool
 is_taking (Take m) = true
 is_taking (Client write) = false
+is_taking (ClientBulk ws) = false
 is_taking (Reporting r) = false
 is_taking Refreshing = false
 is_taking (Getting id) = false
@@ -34,6 +35,7 @@ needs (tears input kept) = is_taking input
 abbrev pub IsTaken : Msg → Input → Type 0
 IsTaken x (Take m) = x ≡ m
 IsTaken x (Client write) = ⊥
+IsTaken x (ClientBulk ws) = ⊥
 IsTaken x (Reporting r) = ⊥
 IsTaken x Refreshing = ⊥
 IsTaken x (Getting id) = ⊥
@@ -48,6 +50,7 @@ Lets x (tears input kept) = IsTaken x input
 abbrev pub IsTo : ℕ → Input → Type 0
 IsTo i (Take m) = m.to ≡ i
 IsTo i (Client write) = Unit {0}
+IsTo i (ClientBulk ws) = Unit {0}
 IsTo i (Reporting r) = Unit {0}
 IsTo i Refreshing = Unit {0}
 IsTo i (Getting id) = Unit {0}

@@ -1,5 +1,5 @@
 -- What is known of a copy that follows its journal.
-use Rattle.std.specs.Prelude.{◌≡◌, ◌⊎◌, ℕ, suc, ◌||◌, Bool, true, false, length, [], Option, Some, None}
+use Rattle.std.specs.Prelude.{◌≡◌, ℕ, ◌+◌, ◌||◌, nat_lt, true, length, [], Option, Some, None}
 use Rattle.replica.specs.declared.input.Input.{Input}
 use Rattle.replica.specs.declared.output.Output.{Output}
 use Rattle.replica.specs.Copy.{Copy}
@@ -20,14 +20,10 @@ shut_of c (Some f) = Some (shut_by c f)
 abbrev pub standing_of : Copy → Option Cut → Standing
 standing_of c cut = record { copy = c; shut = shut_of c cut }
 
--- a step whose log may fail: a restart, or one that adds a record
-abbrev pub MayFail : Copy → Input → Type 0
-MayFail c input = (is_restart input ≡ true) ⊎ ((is_restart input ≡ false) × (length (left_by c (copy_step c input)).records ≡ suc (length c.records)))
-
--- how many records there are with that of a step that failed; a restart has none
-abbrev pub count_after : Bool → ℕ → ℕ
-count_after true n = n
-count_after false n = suc n
+-- a step whose log may fail: a restart, or one that adds records, so many
+pub record MayFail (c : Copy) (input : Input) (added : ℕ) : Type 0 where
+  pub may : (is_restart input || nat_lt 0 added) ≡ true
+  pub adds : length (left_by c (copy_step c input)).records ≡ length c.records + added
 
 -- a restart answers one of two numbers of records, and nothing else
 pub record IsReport (n m : ℕ) (output : Output) : Type 0 where

@@ -3,11 +3,11 @@ use Rattle.std.specs.Prelude.{◌≡◌, ℕ, suc, ◌<◌, Bool, true, false, �
 use Rattle.doc.specs.Mapping.{MappingData}
 use Rattle.op.specs.declared.message.Msg.{Msg}
 use Rattle.replica.specs.declared.input.Input.{Input}
-use Rattle.replica.specs.declared.input.Input.TheVariants.{Write as Client, Take, Report as Reporting, Refresh as Refreshing, Get as Getting, Restart as Restarting}
+use Rattle.replica.specs.declared.input.Input.TheVariants.{Write as Client, Bulk as ClientBulk, Take, Report as Reporting, Refresh as Refreshing, Get as Getting, Restart as Restarting}
 use Rattle.master.specs.declared.state.Request.{Request}
 use Rattle.master.specs.declared.state.Request.TheVariants.{Promote as Promotion, Allocate as Allocation, Synced, Fail}
 use Rattle.world.specs.declared.event.Event.{Event}
-use Rattle.world.specs.declared.event.Event.TheVariants.{Write as Writes, Get, Refresh, Restart, Deliver, Report, Promote, Allocate, TornWrite, TornDelivery}
+use Rattle.world.specs.declared.event.Event.TheVariants.{Write as Writes, Bulk, Get, Refresh, Restart, Deliver, Report, Promote, Allocate, TornWrite, TornBulk, TornDelivery}
 use Rattle.journal.specs.declared.moves.Move.{Move}
 use Rattle.journal.specs.declared.moves.Move.TheVariants.{Asks as asks, Does as does, Tears as tears}
 use Rattle.world.specs.World.{World, copy_in, message_at, request_of, new_world, world_step, world_after}
@@ -23,12 +23,14 @@ event_of i k (asks Allocation) = Allocate
 event_of i k (asks (Synced term r)) = Deliver k
 event_of i k (asks (Fail term r)) = Deliver k
 event_of i k (does (Client write)) = Writes i write
+event_of i k (does (ClientBulk ws)) = Bulk i ws
 event_of i k (does (Take m)) = Deliver k
 event_of i k (does (Reporting r)) = Report i r
 event_of i k (does Refreshing) = Refresh i
 event_of i k (does (Getting id)) = Get i id
 event_of i k (does Restarting) = Restart i
 event_of i k (tears (Client write) kept) = TornWrite i write kept
+event_of i k (tears (ClientBulk ws) kept) = TornBulk i ws kept
 event_of i k (tears (Take m) kept) = TornDelivery k kept
 event_of i k (tears (Reporting r) kept) = Restart i
 event_of i k (tears Refreshing kept) = Restart i
@@ -50,14 +52,16 @@ IsAsked w k (Fail term r) = IsWord w k (Fail term r)
 abbrev pub IsTold : World → ℕ → ℕ → Input → Type 0
 IsTold w i k (Take m) = (message_at w k ≡ Some m) × (m.to ≡ i)
 IsTold w i k (Client write) = Unit {0}
+IsTold w i k (ClientBulk ws) = Unit {0}
 IsTold w i k (Reporting r) = Unit {0}
 IsTold w i k Refreshing = Unit {0}
 IsTold w i k (Getting id) = Unit {0}
 IsTold w i k Restarting = Unit {0}
 
--- only a write and a message keep a record
+-- only a write, a bulk and a message keep records
 abbrev pub may_tear : Input → Bool
 may_tear (Client write) = true
+may_tear (ClientBulk ws) = true
 may_tear (Take m) = true
 may_tear (Reporting r) = false
 may_tear Refreshing = false

@@ -104,6 +104,7 @@ fn equal_answer(answer: &Answer, other: &Answer) -> bool
 {
     match (answer, other) {
         (Answer::Wrote(written), Answer::Wrote(other)) => equal_written(written, other),
+        (Answer::Bulked(items), Answer::Bulked(others)) => items.is(others),
         (Answer::Taken, Answer::Taken) => true,
         (Answer::Stale, Answer::Stale) => true,
         (Answer::Repeated, Answer::Repeated) => true,

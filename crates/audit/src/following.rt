@@ -1,12 +1,12 @@
 //! A copy that follows its journal.
-ghost use Rattle.std.specs.Prelude.{◌≡◌, ◌↔◌, ◌<◌, ◌||◌, true, false, not, [], length, None, Some, Ok, Err, IsTrue, IfOk, IfErr, IfSome, OnOk};
+ghost use Rattle.std.specs.Prelude.{◌≡◌, ◌↔◌, ◌<◌, ◌+◌, ◌||◌, true, false, not, [], length, None, Some, Ok, Err, is_some, IsTrue, IfOk, IfErr, IfSome, OnOk};
 ghost use Rattle.replica.specs.declared.role.Birth.TheVariants.{Added};
 ghost use Rattle.replica.specs.Copy.{begun, opened};
 ghost use Rattle.replica.specs.Fault.{fault_of, is_log};
 ghost use Rattle.replica.specs.declared.fault.CopyFault.TheVariants.{NoMemory};
 ghost use Rattle.replica.specs.Logged.{is_restart, output_of, prepared_copy, IsReady};
 ghost use Rattle.replica.specs.Step.{copy_step};
-ghost use Rattle.audit.specs.Following.{count_after, shut_by, standing_of, IsReport, MayFail};
+ghost use Rattle.audit.specs.Following.{shut_by, standing_of, IsReport, MayFail};
 ghost use Rattle.journal.specs.Journal.{found, is_point, keeps_record, left_by, may_shut, moves_if, open_at, is_event, placed, reopened, torn_move, MayAnswer, MayRefuse};
 ghost use Rattle.audit.specs.Judge.{listed, IsFollowed, IsRefused};
 ghost use Rattle.journal.specs.Opening.{born};
@@ -23,11 +23,12 @@ use std::marker::Model;
 use translog::MemDevice;
 use world::OneCopy;
 
-/// A step whose log failed: the place of its entry, and what was asked.
+/// A step whose log failed: the place of its entry, what was asked, and how many records it adds.
 #[derive(Drop)]
 pub(crate) struct Cut {
     place: u64,
     input: Input,
+    added: u64,
 }
 
 /// A copy over a log that doesn't fail, and the step whose log failed as the journal says, until the restart's answer tells whether its record was
@@ -48,7 +49,7 @@ impl Model for Following {
 
     ghost view = { λ f. standing_of f.copy.copy f.cut };
 
-    ghost invariant = { λ f. (f.copy.closed ≡ false) × IfSome f.cut (λ x. MayFail f.copy.copy x.input) };
+    ghost invariant = { λ f. (f.copy.closed ≡ false) × IfSome f.cut (λ x. MayFail f.copy.copy x.input x.added) };
 }
 
 impl Following {
@@ -93,9 +94,9 @@ fn follow_at(
     deed: &Deed,
 ) -> Result<(Option<Cut>, Option<Placed>), Wrong>
     requires open { copy.old.closed ≡ false }
-    requires fails { IfSome cut (λ f. MayFail copy.old.copy f.input) }
+    requires fails { IfSome cut (λ f. MayFail copy.old.copy f.input f.added) }
     ensures ok { IfOk result (λ x. IsFollowed (standing_of copy.old.copy cut) (standing_of copy.new.copy x.0) place deed.now x.1) }
-    ensures fails { IfOk result (λ x. IfSome x.0 (λ f. MayFail copy.new.copy f.input)) }
+    ensures fails { IfOk result (λ x. IfSome x.0 (λ f. MayFail copy.new.copy f.input f.added)) }
     ensures err { IfErr result (λ e. IsRefused (standing_of copy.old.copy cut) place deed.now e) }
     ensures open { copy.new.closed ≡ false }
 {
@@ -114,7 +115,7 @@ fn follow_open(
 ) -> Result<(Option<Cut>, Option<Placed>), Wrong>
     requires open { copy.old.closed ≡ false }
     ensures ok { IfOk result (λ x. IsFollowed (open_at copy.old.copy) (standing_of copy.new.copy x.0) place deed.now x.1) }
-    ensures fails { IfOk result (λ x. IfSome x.0 (λ f. MayFail copy.new.copy f.input)) }
+    ensures fails { IfOk result (λ x. IfSome x.0 (λ f. MayFail copy.new.copy f.input f.added)) }
     ensures err { IfErr result (λ e. IsRefused (open_at copy.old.copy) place deed.now e) }
     ensures open { copy.new.closed ≡ false }
 {
@@ -127,11 +128,16 @@ fn follow_open(
         }
         Err(fault) => {
             if fault.is_log() {
-                if !may_fail(alloc, copy, &deed.input)? {
+                let Some(added) = may_fail(alloc, copy, &deed.input)? else {
                     return Err(Wrong::At(place));
-                }
+                };
                 let input = deed.input.copy(alloc)?;
-                return Ok((Some(Cut { place, input }), None));
+                let cut = Cut {
+                    place,
+                    input,
+                    added,
+                };
+                return Ok((Some(cut), None));
             }
             if !may_refuse(alloc, copy, &deed.input, fault)? {
                 return Err(Wrong::At(place));
@@ -150,9 +156,9 @@ fn follow_shut(
     deed: &Deed,
 ) -> Result<(Option<Cut>, Option<Placed>), Wrong>
     requires open { copy.old.closed ≡ false }
-    requires fails { MayFail copy.old.copy cut.input }
+    requires fails { MayFail copy.old.copy cut.input cut.added }
     ensures ok { IfOk result (λ x. IsFollowed (standing_of copy.old.copy (Some cut)) (standing_of copy.new.copy x.0) place deed.now x.1) }
-    ensures fails { IfOk result (λ x. IfSome x.0 (λ f. MayFail copy.new.copy f.input)) }
+    ensures fails { IfOk result (λ x. IfSome x.0 (λ f. MayFail copy.new.copy f.input f.added)) }
     ensures err { IfErr result (λ e. IsRefused (standing_of copy.old.copy (Some cut)) place deed.now e) }
     ensures open { copy.new.closed ≡ false }
 {
@@ -162,7 +168,7 @@ fn follow_shut(
                 drop(cut);
                 return Err(Wrong::At(place));
             }
-            let found = found(alloc, copy, &cut.input, output);
+            let found = found(alloc, copy, cut.added, output);
             let (cut, found) = both(cut, found)?;
             match found {
                 Some(is_kept) => {
@@ -275,25 +281,28 @@ fn is_memory(fault: &CopyFault) -> bool
     matches!(fault, CopyFault::NoMemory)
 }
 
-/// Whether the log may fail in a step: in a restart, and where a record is kept.
-fn may_fail(alloc: Global, copy: &mut OneCopy, input: &Input) -> Result<bool, AllocError>
+/// How many records a step adds in which the log may fail: a restart adds none, another some. Nothing where the log can't fail.
+fn may_fail(alloc: Global, copy: &mut OneCopy, input: &Input) -> Result<Option<u64>, AllocError>
     requires open { copy.old.closed ≡ false }
-    ensures legal { IfOk result (λ is. IsTrue is ↔ ((is_restart input.now || keeps_record copy.old.copy (copy_step copy.old.copy input.now)) ≡ true)) }
-    ensures fails { IfOk result (λ is. IsTrue is → MayFail copy.old.copy input.now) }
+    ensures legal { IfOk result (λ o. is_some o ≡ (is_restart input.now || keeps_record copy.old.copy (copy_step copy.old.copy input.now))) }
+    ensures fails { IfOk result (λ o. IfSome o (MayFail copy.old.copy input.now)) }
     ensures stays { copy.new.copy ≡ copy.old.copy }
     ensures open { copy.new.closed ≡ false }
 {
     if is_restart(input) {
-        return Ok(true);
+        return Ok(Some(0));
     }
     match copy.prepare(alloc, input.copy(alloc)?) {
         Ok(prepared) => {
-            let keeps = matches!(prepared, Prepared::Kept(_, _));
+            let added = prepared.added();
             drop(prepared);
-            Ok(keeps)
+            if added == 0 {
+                return Ok(None);
+            }
+            Ok(Some(added as u64))
         }
         Err(CopyFault::NoMemory) => Err(AllocError),
-        Err(_) => Ok(false),
+        Err(_) => Ok(None),
     }
 }
 
@@ -311,21 +320,21 @@ fn may_shut(restart: bool, fault: &CopyFault) -> bool
 
 // ---- restarts
 
-/// Whether the restart that gives this output found the record of the step that failed; nothing where it can't be.
+/// Whether the restart that gives this output found the records of the step that failed, so many; nothing where it can't be.
 fn found(
     alloc: Global,
     copy: &mut OneCopy,
-    input: &Input,
+    added: u64,
     output: &Output,
 ) -> Result<Option<bool>, AllocError>
     requires open { copy.old.closed ≡ false }
-    ensures some { IfOk result (λ o. IfSome o (λ kept. IsReport (length copy.old.copy.records) (count_after (is_restart input.now) (length copy.old.copy.records)) output.now × (kept ≡ not (is_point output.now.answer (length copy.old.copy.records))))) }
-    ensures none { IfOk result (λ o. o ≡ None → IsReport (length copy.old.copy.records) (count_after (is_restart input.now) (length copy.old.copy.records)) output.now → ⊥) }
+    ensures some { IfOk result (λ o. IfSome o (λ kept. IsReport (length copy.old.copy.records) (length copy.old.copy.records + added) output.now × (kept ≡ not (is_point output.now.answer (length copy.old.copy.records))))) }
+    ensures none { IfOk result (λ o. o ≡ None → IsReport (length copy.old.copy.records) (length copy.old.copy.records + added) output.now → ⊥) }
     ensures stays { copy.new.copy ≡ copy.old.copy }
     ensures open { copy.new.closed ≡ false }
 {
     let count = count(alloc, copy)?;
-    Ok(reported(count, is_restart(input), output))
+    Ok(reported(count, added, output))
 }
 
 /// How many records the copy has.
@@ -346,10 +355,10 @@ fn count(alloc: Global, copy: &mut OneCopy) -> Result<u64, AllocError>
     count
 }
 
-/// Whether an output tells that there is one record more than so many, which no restart adds; nothing where it is no restart's.
-fn reported(count: u64, restart: bool, output: &Output) -> Option<bool>
-    ensures some { IfSome result (λ kept. IsReport count (count_after restart count) output.now × (kept ≡ not (is_point output.now.answer count))) }
-    ensures none { result ≡ None → IsReport count (count_after restart count) output.now → ⊥ }
+/// Whether an output tells that so many records more than a count are there; nothing where it is no restart's, or tells another number.
+fn reported(count: u64, added: u64, output: &Output) -> Option<bool>
+    ensures some { IfSome result (λ kept. IsReport count (count + added) output.now × (kept ≡ not (is_point output.now.answer count))) }
+    ensures none { result ≡ None → IsReport count (count + added) output.now → ⊥ }
 {
     if output.members != 0
         || !output.sent.as_slice().is_empty()
@@ -361,7 +370,7 @@ fn reported(count: u64, restart: bool, output: &Output) -> Option<bool>
         Answer::Point(found) => {
             if found == count {
                 Some(false)
-            } else if !restart && found > count && found - count == 1 {
+            } else if found > count && found - count == added {
                 Some(true)
             } else {
                 None
@@ -374,7 +383,7 @@ fn reported(count: u64, restart: bool, output: &Output) -> Option<bool>
 /// Cuts a step short, with its record or without, and restarts.
 fn reopen(alloc: Global, copy: &mut OneCopy, cut: &Cut, is_kept: bool) -> Result<(), AllocError>
     requires open { copy.old.closed ≡ false }
-    requires fails { MayFail copy.old.copy cut.now.input }
+    requires fails { MayFail copy.old.copy cut.now.input cut.now.added }
     ensures copy { OnOk result (copy.new.copy ≡ reopened copy.old.copy (found copy.old.copy (shut_by copy.old.copy cut.now) is_kept)) }
     ensures open { copy.new.closed ≡ false }
 {
@@ -431,7 +440,7 @@ fn refused(
 fn torn(cut: Cut, is_kept: bool) -> Placed
     ensures { result ≡ placed cut.place (torn_move (is_restart cut.input) cut.input is_kept) }
 {
-    let Cut { place, input } = cut;
+    let Cut { place, input, .. } = cut;
     let what = if is_restart(&input) {
         Move::Does(input)
     } else {

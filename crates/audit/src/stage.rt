@@ -152,7 +152,7 @@ fn is_to(node: u32, input: &Input) -> bool
 fn may_tear(input: &Input) -> bool
     ensures { result ≡ may_tear input.now }
 {
-    matches!(input, Input::Write(_) | Input::Take(_))
+    matches!(input, Input::Write(_) | Input::Bulk(_) | Input::Take(_))
 }
 
 /// Whether a move needs a message.
@@ -224,6 +224,7 @@ fn event_of_input(alloc: Global, node: u32, number: u64, input: &Input) -> Resul
 {
     match input {
         Input::Write(write) => Ok(Event::Write(node, write.copy(alloc)?)),
+        Input::Bulk(writes) => Ok(Event::Bulk(node, writes.copy(alloc)?)),
         Input::Take(_) => Ok(Event::Deliver(number)),
         Input::Report(id) => Ok(Event::Report(node, *id)),
         Input::Refresh => Ok(Event::Refresh(node)),
@@ -243,6 +244,7 @@ fn event_of_torn(
 {
     match input {
         Input::Write(write) => Ok(Event::TornWrite(node, write.copy(alloc)?, is_kept)),
+        Input::Bulk(writes) => Ok(Event::TornBulk(node, writes.copy(alloc)?, is_kept)),
         Input::Take(_) => Ok(Event::TornDelivery(number, is_kept)),
         _ => Ok(Event::Restart(node)),
     }

@@ -3,7 +3,7 @@ use Rattle.std.proofs.Common.{◌≡◌, ℕ, suc, Bool, true, false, List, [], 
 use Rattle.std.specs.Prelude.{IsOk}
 use Rattle.replica.specs.declared.fault.CopyFault.{CopyFault}
 use Rattle.replica.specs.declared.input.Input.{Input}
-use Rattle.replica.specs.declared.input.Input.TheVariants.{Write, Take, Report, Refresh, Get, Restart}
+use Rattle.replica.specs.declared.input.Input.TheVariants.{Write, Bulk, Take, Report, Refresh, Get, Restart}
 use Rattle.replica.specs.declared.output.Answer.TheVariants.{Point}
 use Rattle.replica.specs.declared.output.Output.{Output}
 use Rattle.replica.specs.declared.role.Role.{Role}
@@ -82,6 +82,7 @@ settled_shown s (Primary lead) is = is
 
 refresh_shows : (c : Copy) (input : Input) → is_refresh input ≡ true → AllShown (left_by c (copy_step c input))
 refresh_shows c (Write w) e = absurd (let no : false ≡ true = e in cc)
+refresh_shows c (Bulk ws) e = absurd (let no : false ≡ true = e in cc)
 refresh_shows c (Take m) e = absurd (let no : false ≡ true = e in cc)
 refresh_shows c (Report r) e = absurd (let no : false ≡ true = e in cc)
 refresh_shows c Refresh e = settled_shown (record { copy = record c { point = length c.records }; answer = Point (length c.records); sent = []; acknowledged = [] }) c.role refl

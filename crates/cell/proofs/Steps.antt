@@ -1,4 +1,4 @@
--- A step of a copy leaves its mapping and its records, or adds one.
+-- A step of a copy leaves its mapping and its records, or adds some.
 use Rattle.std.proofs.Common.{◌≡◌, ℕ, ℤ, Bool, true, false, List, [], ◌∷◌, ◌++◌, Option, Some, None, Ok, Err, IfOk, refl, sym, ◌∙◌, append-nil}
 use Rattle.std.specs.Prelude.{◌==◌, nat_eq}
 use Rattle.std.specs.Cmp.Lexicographic.{pointwise}
@@ -14,14 +14,15 @@ use Rattle.checkpoint.specs.Numbers.{marked}
 use Rattle.replica.specs.declared.fault.CopyFault.{CopyFault}
 use Rattle.replica.specs.declared.input.Write.{Write}
 use Rattle.replica.specs.declared.input.Input.{Input}
-use Rattle.replica.specs.declared.input.Input.TheVariants.{Write as Client, Take, Report as Reporting, Refresh as Refreshing, Get as Getting, Restart as Restarting}
+use Rattle.replica.specs.declared.input.Input.TheVariants.{Write as Client, Bulk, Take, Report as Reporting, Refresh as Refreshing, Get as Getting, Restart as Restarting}
 use Rattle.replica.specs.declared.role.Lead.{Lead}
 use Rattle.replica.specs.declared.role.Role.{Role}
 use Rattle.replica.specs.declared.role.Role.TheVariants.{Empty, Replica, Primary}
+use Rattle.published.proofs.Orders.{trans-StartsWith}
 use Rattle.cell.specs.Publishing.{IsLater}
 use Rattle.replica.specs.Acks.{acks_of}
 use Rattle.replica.specs.Copy.{Copy, operations}
-use Rattle.replica.specs.Step.{Step, copy_step, handled, settled, settled_as, unless, first_fault, client, take_content, take_op, take_over, take_ack, take_marked, take_promoted, take_resync, resync_again, take_track, track, take_recover, recover_again, take_removed, leave, report}
+use Rattle.replica.specs.Step.{Folded, Step, bulk, copy_step, folded, unwritten, with_write, write_step, handled, settled, settled_as, unless, first_fault, client, take_content, take_op, take_over, take_ack, take_marked, take_promoted, take_resync, resync_again, take_track, track, take_recover, recover_again, take_removed, leave, report}
 
 module _ (c : Copy) where
   abbrev pub Grows : Step → Type 0
@@ -115,14 +116,6 @@ module _ (c : Copy) where
   on_report r Replica = tt
   on_report r (Primary lead) = on_unless _ _ (all _ refl refl)
 
-  on_input : (input : Input) → Grows (handled c input)
-  on_input (Client w) = on_client w c.role
-  on_input (Take m) = on_unless _ _ (on_content m.from m.term m.content)
-  on_input (Reporting r) = on_report r c.role
-  on_input Refreshing = all _ refl refl
-  on_input (Getting id) = all _ refl refl
-  on_input Restarting = all _ refl refl
-
   on_settled : (r : Step) → Grows r → Grows (settled r)
   on_settled (Ok s) same = as_role s.copy.role
     where
@@ -132,5 +125,34 @@ module _ (c : Copy) where
       as_role (Primary lead) = record { mapping = same.mapping; records = same.records }
   on_settled (Err e) same = tt
 
-  pub step-grows : (input : Input) → Grows (copy_step c input)
-  step-grows input = on_settled (handled c input) (on_input input)
+-- ---- bulks
+
+write-grows : (c : Copy) (w : Write) → Grows c (write_step c w)
+write-grows c w = on_settled c (client c w c.role) (on_client c w c.role)
+
+later_still : (a b c : Copy) → IsLater b a → IsLater c b → IsLater c a
+later_still a b c one two = record { mapping = two.mapping ∙ one.mapping; records = trans-StartsWith a.records b.records c.records one.records two.records }
+
+with-grows : (c : Copy) (b : Folded) (r : Step) → IsLater b.copy c → Grows b.copy r → IsLater (with_write b r).copy c
+with-grows c b (Ok s) h one = later_still c b.copy s.copy h one
+with-grows c b (Err e) h one = h
+
+fold-grows : (c : Copy) (b : Folded) (ws : List Write) → IsLater b.copy c → IsLater (folded b ws).copy c
+fold-grows c b [] h = h
+fold-grows c b (w ∷ ws) h = fold-grows c (with_write b (write_step b.copy w)) ws (with-grows c b (write_step b.copy w) h (write-grows b.copy w))
+
+bulk-grows : (c : Copy) (ws : List Write) (role : Role) → Grows c (bulk c ws role)
+bulk-grows c ws Empty = tt
+bulk-grows c ws Replica = tt
+bulk-grows c ws (Primary lead) = fold-grows c (unwritten c) ws (all c c refl refl)
+
+-- ---- all inputs
+
+pub step-grows : (c : Copy) (input : Input) → Grows c (copy_step c input)
+step-grows c (Client w) = write-grows c w
+step-grows c (Bulk ws) = bulk-grows c ws c.role
+step-grows c (Take m) = on_settled c (handled c (Take m)) (on_unless c _ _ (on_content c m.from m.term m.content))
+step-grows c (Reporting r) = on_settled c (handled c (Reporting r)) (on_report c r c.role)
+step-grows c Refreshing = on_settled c (handled c Refreshing) (all c _ refl refl)
+step-grows c (Getting id) = on_settled c (handled c (Getting id)) (all c _ refl refl)
+step-grows c Restarting = on_settled c (handled c Restarting) (all c _ refl refl)

@@ -20,7 +20,7 @@ next_seq-below n [] all = omega arith
 next_seq-below n (o ∷ []) all = let h : o.seq < n = all.0 in omega arith
 next_seq-below n (o ∷ p ∷ ps) all = next_seq-below n (p ∷ ps) all.1
 
-weaker : (m n : ℕ) (os : List Op) → m ≤ n → AllByRecursion (λ o. o.seq < m) os → AllByRecursion (λ o. o.seq < n) os
+pub weaker : (m n : ℕ) (os : List Op) → m ≤ n → AllByRecursion (λ o. o.seq < m) os → AllByRecursion (λ o. o.seq < n) os
 weaker m n [] le all = tt
 weaker m n (o ∷ os) le all = (let h : o.seq < m = all.0 in omega arith, weaker m n os le all.1)
 

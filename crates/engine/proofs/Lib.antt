@@ -1,5 +1,6 @@
 pub mod PlaceLaws
 pub mod KeptLaws
+pub mod NotedLaws
 pub mod IndexLaws
 pub mod DocumentMap
 pub mod FoundLaws
@@ -7,6 +8,7 @@ pub mod PartLaws
 pub mod ApartLaws
 pub mod ChosenLaws
 pub mod RefreshLaws
+pub mod RiseLaws
 pub mod ShareLaws
 pub mod SnapshotLaws
 pub mod PageLaws

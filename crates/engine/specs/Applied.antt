@@ -1,9 +1,10 @@
 -- What becomes of a record.
-use Rattle.std.specs.Prelude.{List, [], ◌∷◌, ◌++◌, if◌then◌else◌, is_some}
+use Rattle.std.specs.Prelude.{ℕ, suc, ◌≤◌, List, [], ◌∷◌, ◌++◌, if◌then◌else◌, is_some}
 use Rattle.op.specs.declared.operation.Op.{Op}
 use Rattle.op.specs.declared.record.Record.{Record}
 use Rattle.op.specs.declared.record.Record.TheVariants.{Op as Kept, Resync, Recover}
 use Rattle.op.specs.Operations.{op_at, is_stale}
+use Rattle.op.specs.Records.{IsRecord}
 use Rattle.engine.specs.declared.history.Applied.{Applied}
 use Rattle.engine.specs.declared.history.Applied.TheVariants.{Taken, Stale, Repeated}
 
@@ -25,3 +26,10 @@ abbrev pub records_after : List Record → Record → Applied → List Record
 records_after rs r Repeated = rs
 records_after rs r Taken = rs ++ r ∷ []
 records_after rs r Stale = rs ++ r ∷ []
+
+-- all are operations that keep the rules, and their numbers rise, none of them below n
+abbrev pub RiseFrom : ℕ → List Record → Type 0
+RiseFrom n [] = Unit {0}
+RiseFrom n (Kept g o ∷ rs) = IsRecord (Kept g o) × (n ≤ o.seq) × RiseFrom (suc o.seq) rs
+RiseFrom n (Resync term g tail ∷ rs) = ⊥
+RiseFrom n (Recover term all ∷ rs) = ⊥

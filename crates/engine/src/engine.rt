@@ -6,7 +6,7 @@ ghost use Rattle.op.specs.Checkpoint.{checkpoint_of, known};
 ghost use Rattle.op.specs.Documents.{document_at, documents};
 ghost use Rattle.op.specs.Operations.{IsAscending, add, from_number, is_stale, last_on, local_checkpoint, next_seq, op_at};
 ghost use Rattle.op.specs.Records.{IsRecord, operations, shown};
-ghost use Rattle.engine.specs.Applied.{applied_of, records_after};
+ghost use Rattle.engine.specs.Applied.{applied_of, records_after, RiseFrom};
 ghost use Rattle.engine.specs.Found.{found_document};
 ghost use Rattle.engine.specs.Last.{last_of};
 ghost use Rattle.engine.specs.Contents.{contents_of, segments_of};
@@ -99,6 +99,15 @@ impl Engine {
         ensures err { OnErr result (self.new ≡ self.old) }
     {
         self.history.apply(alloc, kept)
+    }
+
+    /// Keeps these records, all of them or, where memory is wanting, none. Searches don't show them yet.
+    pub fn apply_all(&mut self, alloc: Global, records: Vec<Record>) -> Result<(), AllocError>
+        requires { RiseFrom (next_seq (operations self.old.records)) records.items }
+        ensures ok { OnOk result (self.new ≡ record self.old { records = self.old.records ++ records.items }) }
+        ensures err { OnErr result (self.new ≡ self.old) }
+    {
+        self.history.apply_all(alloc, records)
     }
 
     /// Shows all records from now on, and answers how many there are. Each segment stays, unless more than operations came.

@@ -58,9 +58,9 @@ impl Model for History {
 }
 
 impl History {
-    ghost use Rattle.std.specs.Prelude.{length};
+    ghost use Rattle.std.specs.Prelude.{◌++◌, length};
     ghost use Rattle.op.specs.Documents.{document_at, documents};
-    ghost use Rattle.engine.specs.Applied.{applied_of, records_after};
+    ghost use Rattle.engine.specs.Applied.{applied_of, records_after, RiseFrom};
 
     /// The history that these records are.
     pub(crate) fn of(alloc: Global, records: Vec<Record>) -> Result<History, AllocError>
@@ -191,6 +191,23 @@ impl History {
         self.operations.keep(alloc, kept)?;
         self.records.push(copy)?;
         Ok(applied)
+    }
+
+    /// Keeps these records, all of them or, where memory is wanting, none.
+    pub(crate) fn apply_all(
+        &mut self,
+        alloc: Global,
+        records: Vec<Record>,
+    ) -> Result<(), AllocError>
+        requires { RiseFrom (next_seq (operations self.old)) records.items }
+        ensures ok { OnOk result (self.new ≡ self.old ++ records.items) }
+        ensures err { OnErr result (self.new ≡ self.old) }
+    {
+        let mut records = records;
+        self.records.reserve(records.len())?;
+        self.operations.add_all(alloc, &records)?;
+        self.records.append(&mut records)?;
+        Ok(())
     }
 }
 

@@ -1,12 +1,14 @@
 //! The operations of a copy in order of number, found by number and by id without a walk.
-ghost use Rattle.std.specs.Prelude.{◌≡◌, ◌<◌, ◌^◌, ◌&&◌, not, Bool, None, Some, [], if◌then◌else◌, IfOk, OnOk, OnErr, false};
-ghost use Rattle.std.specs.Option.{option_copied, option_map};
+ghost use Rattle.std.specs.Prelude.{◌≡◌, ◌<◌, ◌^◌, ◌&&◌, ℕ, Option, not, Bool, None, Some, [], fold, if◌then◌else◌, IfOk, OnOk, OnErr, false};
+ghost use Rattle.std.specs.Option.{option_copied, option_map, option_or};
 ghost use Rattle.std.specs.HashMap.{get_by_text};
 ghost use Rattle.std.specs.Str.{bytes_eq};
 ghost use Rattle.doc.specs.Id.{Id, is_id};
-ghost use Rattle.op.specs.Operations.{IsAscending, add, is_newer, is_on, is_stale, last_on, local_count, op_at};
+ghost use Rattle.op.specs.Operations.{IsAscending, add, is_newer, is_on, is_stale, last_on, local_count, next_seq, op_at};
 ghost use Rattle.op.specs.Records.{IsRecord, after_record};
 ghost use Rattle.engine.specs.Applied as spec;
+ghost use Rattle.engine.specs.Applied.{RiseFrom};
+ghost use Rattle.engine.specs.OperationIndex.{noted, operations_in};
 
 use crate::history::Applied;
 use crate::operations;
@@ -193,6 +195,63 @@ impl OperationIndex {
             }
         }
     }
+
+    /// Adds the operations of these records behind all, or, where memory is wanting, none.
+    pub(crate) fn add_all(&mut self, alloc: Global, records: &[Record]) -> Result<(), AllocError>
+        requires { RiseFrom (next_seq self.old) records.now }
+        ensures ok { OnOk result (self.new ≡ fold after_record self.old records.now) }
+        ensures err { OnErr result (self.new ≡ self.old) }
+    {
+        let mut added = copied(alloc, records)?;
+        let numbers = numbers_of(alloc, &added)?;
+        self.operations.reserve(added.len())?;
+        note_all(&mut self.latest, numbers)?;
+        self.operations.append(&mut added)?;
+        self.local = operations::local_count_on(&self.operations, self.local);
+        Ok(())
+    }
+}
+
+/// The operations that stand in records.
+fn copied(alloc: Global, records: &[Record]) -> Result<Vec<Op>, AllocError>
+    ensures { IfOk result (λ v. v.items ≡ operations_in records.now) }
+{
+    let mut operations = Vec::new(alloc);
+    for kept in records {
+        match kept {
+            Record::Op(_, op) => operations.push(op.copy(alloc)?)?,
+            Record::Resync(_, _, _) => {}
+            Record::Recover(_, _) => {}
+        }
+    }
+    Ok(operations)
+}
+
+/// The ids of operations, each with its number.
+fn numbers_of(alloc: Global, operations: &[Op]) -> Result<Vec<(String, u64)>, AllocError>
+    ensures { IfOk result (λ v. (id : Id) (n : Option ℕ) → noted v.items id n ≡ option_or (option_map (λ o. o.seq) (last_on operations.now id)) n) }
+{
+    let mut numbers = Vec::new(alloc);
+    for op in operations {
+        match &op.body {
+            Body::Index(id, _) => numbers.push((String::from_str(alloc, id.as_str())?, op.seq))?,
+            Body::Delete(id) => numbers.push((String::from_str(alloc, id.as_str())?, op.seq))?,
+            Body::NoOp => {}
+        }
+    }
+    Ok(numbers)
+}
+
+/// Notes numbers at ids in turn, all of them or, where memory is wanting, none.
+fn note_all(latest: &mut Latest, numbers: Vec<(String, u64)>) -> Result<(), AllocError>
+    ensures ok { OnOk result ((id : Id) → get_by_text latest.new id ≡ noted numbers.items id (get_by_text latest.old id)) }
+    ensures err { OnErr result ((id : Id) → get_by_text latest.new id ≡ get_by_text latest.old id) }
+{
+    latest.reserve(numbers.len())?;
+    for (id, seq) in numbers {
+        latest.insert(id, seq)?;
+    }
+    Ok(())
 }
 
 /// By id, the number of the last of these operations.

@@ -1,5 +1,5 @@
 //! Searches in a list of operations in ascending order of their numbers.
-ghost use Rattle.std.specs.Prelude.{◌≡◌, ◌≤◌, ◌<◌, ◌+◌, ◌^◌, ◌++◌, suc, length, slice_get, None, IfOk, IfErr, OnOk, OnErr};
+ghost use Rattle.std.specs.Prelude.{◌≡◌, ◌≤◌, ◌<◌, ◌+◌, ◌^◌, ◌++◌, suc, length, drop, slice_get, None, IfOk, IfErr, OnOk, OnErr};
 ghost use Rattle.std.specs.Option.{option_copied};
 ghost use Rattle.op.specs.Operations.{IsAscending, op_at, add, below, from_number, last_on, local_count, next_seq, reached, is_stale};
 ghost use Rattle.op.specs.Records.{after_record};
@@ -86,6 +86,14 @@ pub(crate) fn local_count_with(operations: &[Op], count: u64, op: &Op) -> u64
         return count;
     }
     reached(count + 1, &operations[count as usize..])
+}
+
+/// The same where operations came behind those that it was counted in.
+pub(crate) fn local_count_on(operations: &[Op], count: u64) -> u64
+    requires { count ≤ length operations.now }
+    ensures { result ≡ reached count (drop count operations.now) }
+{
+    reached(count, &operations[count as usize..])
 }
 
 /// The operations from a number on.

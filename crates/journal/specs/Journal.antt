@@ -6,7 +6,7 @@ use Rattle.replica.specs.declared.fault.CopyFault.TheVariants.{NotPrimary, Versi
 use Rattle.replica.specs.declared.input.Input.{Input}
 use Rattle.replica.specs.declared.input.Input.TheVariants.{Write as Client, Take, Report as Reporting, Refresh as Refreshing, Get as Getting, Restart as Restarting}
 use Rattle.replica.specs.declared.output.Answer.{Answer}
-use Rattle.replica.specs.declared.output.Answer.TheVariants.{Wrote, Taken, Stale, Repeated, Reported, Found, Missing, Point}
+use Rattle.replica.specs.declared.output.Answer.TheVariants.{Wrote, Bulked, Taken, Stale, Repeated, Reported, Found, Missing, Point}
 use Rattle.replica.specs.declared.output.Output.{Output}
 use Rattle.replica.specs.Copy.{Copy, opened}
 use Rattle.replica.specs.Fault.{fault_of, is_log}
@@ -50,6 +50,7 @@ keeps_record c (Err e) = false
 abbrev pub is_point : Answer → ℕ → Bool
 is_point (Point n) m = n == m
 is_point (Wrote w) m = false
+is_point (Bulked items) m = false
 is_point Taken m = false
 is_point Stale m = false
 is_point Repeated m = false

@@ -1,11 +1,12 @@
 -- What a node was asked, as JSON.
-use Rattle.std.specs.Prelude.{ℕ, List, [], ◌∷◌, ◌++◌, codes, Option, Some, None}
+use Rattle.std.specs.Prelude.{ℕ, List, [], ◌∷◌, ◌++◌, map, codes, Option, Some, None}
 use Rattle.serde_json.specs.Data.{Data, string}
 use Rattle.replica.specs.declared.input.Condition.{Condition}
 use Rattle.replica.specs.declared.input.OpType.{OpType}
 use Rattle.replica.specs.declared.input.OpType.TheVariants.{Index, Create, Delete}
+use Rattle.replica.specs.declared.input.Write.{Write}
 use Rattle.replica.specs.declared.input.Input.{Input}
-use Rattle.replica.specs.declared.input.Input.TheVariants.{Write as Client, Take, Report, Refresh, Get, Restart}
+use Rattle.replica.specs.declared.input.Input.TheVariants.{Write as Client, Bulk, Take, Report, Refresh, Get, Restart}
 use Rattle.master.specs.declared.state.Request.{Request}
 use Rattle.master.specs.declared.state.Request.TheVariants.{Promote, Allocate, Synced, Fail}
 use Rattle.journals.specs.Items.{worded, natural, message_data}
@@ -33,8 +34,13 @@ write_data id (Index source condition) = condition_data condition ++ (string id 
 write_data id (Create source) = string id ∷ string source ∷ []
 write_data id (Delete condition) = condition_data condition ++ (string id ∷ [])
 
+-- a write of a bulk, as a copy that is asked it alone
+unfoldable pub client_data : Write → Data
+client_data w = worded (write_word w.kind) (write_data w.id w.kind)
+
 abbrev pub input_word : Input → List ℕ
 input_word (Client w) = write_word w.kind
+input_word (Bulk ws) = codes "bulk"
 input_word (Take m) = codes "take"
 input_word (Report id) = codes "report"
 input_word Refresh = codes "refresh"
@@ -43,6 +49,7 @@ input_word Restart = codes "restart"
 
 abbrev pub input_items : Input → List Data
 input_items (Client w) = write_data w.id w.kind
+input_items (Bulk ws) = map client_data ws
 input_items (Take m) = message_data m ∷ []
 input_items (Report id) = natural id ∷ []
 input_items Refresh = []

@@ -6,17 +6,18 @@ use Rattle.doc.specs.Outcome.{Fails}
 use Rattle.op.specs.declared.record.Record.{Record}
 use Rattle.translog.specs.Kept.{kept}
 use Rattle.translog.specs.declared.fault.LogFault.TheVariants.{Device}
-use Rattle.translog.proofs.RecordsLaws.{kept_stays}
+use Rattle.translog.proofs.KeptLaws.{kept_stays}
+use Rattle.op.specs.Records.{AreOfOneFrame}
 use Rattle.replica.specs.declared.fault.CopyFault.{CopyFault}
 use Rattle.replica.specs.declared.fault.CopyFault.TheVariants.{Closed, Log, NoMemory}
 use Rattle.replica.specs.declared.input.Input.{Input}
-use Rattle.replica.specs.declared.input.Input.TheVariants.{Write, Take, Report, Refresh, Get, Restart}
+use Rattle.replica.specs.declared.input.Input.TheVariants.{Write, Bulk, Take, Report, Refresh, Get, Restart}
 use Rattle.replica.specs.declared.output.Output.{Output}
 use Rattle.replica.specs.declared.prepared.Prepared.{Prepared}
-use Rattle.replica.specs.declared.prepared.Prepared.TheVariants.{Answered, Settled, Kept, Shown, Restarted}
+use Rattle.replica.specs.declared.prepared.Prepared.TheVariants.{Answered, Settled, Kept, KeptAll, Shown, Restarted}
 use Rattle.replica.specs.Copy.{Copy}
 use Rattle.replica.specs.Fault.{fault_of, is_log}
-use Rattle.replica.specs.Logged.{Logged, IsPrepared, IsRefused, IsUntouched, is_kept, is_restart, is_restarted, output_of, prepared_copy, prepared_step}
+use Rattle.replica.specs.Logged.{Logged, IsPrepared, IsReady, IsRefused, IsUntouched, is_kept, is_restart, is_restarted, output_of, prepared_copy, prepared_step}
 use Rattle.replica.specs.Step.{Step, Stepped, copy_step, members_of, stepped}
 use Rattle.replica.proofs.Accepted.{restart_keeps}
 use Rattle.replica.proofs.Failures.{refused_at_once, refused_in}
@@ -48,14 +49,20 @@ no_fault e step (inr is) = subst (λ f. Fails fault_of f step) (sym is) tt
 longer : (rs : List Record) (r : Record) → nat_lt (length rs) (length (rs ++ r ∷ [])) ≡ true
 longer rs r = let n = length-append rs (r ∷ []) in grind (arith, nat_tests)
 
--- only a step that keeps a record fails where it is done
-keeps : (T : Type 0) (c : Copy) (p : Prepared) (e : CopyFault) → (is_kept p ≡ false → IsOk {T = T} (Err e))
+-- some records more
+longer_all : (rs new : List Record) → AreOfOneFrame new → nat_lt (length rs) (length (rs ++ new)) ≡ true
+longer_all rs [] frame = absurd frame
+longer_all rs (r ∷ more) frame = let n = length-append rs (r ∷ more) in grind (arith, nat_tests)
+
+-- only a step that keeps records fails where it is done
+keeps : (T : Type 0) (c : Copy) (l : Logged) (p : Prepared) (e : CopyFault) → IsReady l p → (is_kept p ≡ false → IsOk {T = T} (Err e))
     → (nat_lt (length c.records) (length (prepared_copy c p).records) ≡ true) × StartsWith (prepared_copy c p).records c.records
-keeps T c (Answered output) e sure = absurd (let no = sure refl in cc)
-keeps T c (Settled s) e sure = absurd (let no = sure refl in cc)
-keeps T c (Kept frame planned) e sure = (longer c.records planned.next_record, (planned.next_record ∷ [], refl))
-keeps T c (Shown staged output) e sure = absurd (let no = sure refl in cc)
-keeps T c (Restarted reopened output) e sure = absurd (let no = sure refl in cc)
+keeps T c l (Answered output) e ready sure = absurd (let no = sure refl in cc)
+keeps T c l (Settled s) e ready sure = absurd (let no = sure refl in cc)
+keeps T c l (Kept frame planned) e ready sure = (longer c.records planned.next_record, (planned.next_record ∷ [], refl))
+keeps T c l (KeptAll frame planned) e ready sure = (longer_all c.records planned.records.items ready.2.spelt.rules, (planned.records.items, refl))
+keeps T c l (Shown staged output) e ready sure = absurd (let no = sure refl in cc)
+keeps T c l (Restarted reopened output) e ready sure = absurd (let no = sure refl in cc)
 
 may_fail : (c : Copy) (input : Input) (p : Prepared) → copy_step c input ≡ Ok (prepared_step c p)
     → (nat_lt (length c.records) (length (prepared_copy c p).records) ≡ true) × StartsWith (prepared_copy c p).records c.records → MayFail c input (copy_step c input)
@@ -71,6 +78,7 @@ restarts c (Err f) e = ([], sym (append-nil c.records))
 
 restart_may : (c : Copy) (input : Input) → is_restart input ≡ true → MayFail c input (copy_step c input)
 restart_may c (Write w) e = absurd (let no : false ≡ true = e in cc)
+restart_may c (Bulk ws) e = absurd (let no : false ≡ true = e in cc)
 restart_may c (Take m) e = absurd (let no : false ≡ true = e in cc)
 restart_may c (Report r) e = absurd (let no : false ≡ true = e in cc)
 restart_may c Refresh e = absurd (let no : false ≡ true = e in cc)
@@ -89,6 +97,7 @@ unkept : (T : Type 0) (p : Prepared) (e : CopyFault) → (is_kept p ≡ false �
 unkept T (Answered output) e sure r = absurd (let no : false ≡ true = r in cc)
 unkept T (Settled s) e sure r = absurd (let no : false ≡ true = r in cc)
 unkept T (Kept frame planned) e sure r = absurd (let no : false ≡ true = r in cc)
+unkept T (KeptAll frame planned) e sure r = absurd (let no : false ≡ true = r in cc)
 unkept T (Shown staged output) e sure r = absurd (let no : false ≡ true = r in cc)
 unkept T (Restarted reopened output) e sure r = absurd (let no = sure refl in cc)
 
@@ -120,7 +129,7 @@ committed old mid new input p (Err e) is left done = record {
   closed = λ o n. absurd (not_refused input p (is.closed o) n);
   opened = tt;
   refused = refused_in {T = Output} (Err e) old mid new input p done.cause done.closed done.memory done.counts done.sure is.kind is.closed left.copy left.stays left.log left.counts is.step;
-  fails = λ o l. may_fail old.copy input p (is.step o) (keeps Output old.copy p e done.sure);
+  fails = λ o l. may_fail old.copy input p (is.step o) (keeps Output old.copy mid p e is.ready done.sure);
   found = λ n. tt;
   unread = λ n. absurd (unkept Output p e done.sure (is.kind ∙ n));
 }

@@ -7,7 +7,7 @@ use Rattle.doc.specs.Mapping.{MappingData}
 use Rattle.op.specs.declared.record.Record.{Record}
 use Rattle.translog.specs.Fault as log
 use Rattle.translog.specs.Kept.{kept}
-use Rattle.translog.proofs.RecordsLaws.{whole_kept}
+use Rattle.translog.proofs.KeptLaws.{whole_kept}
 use Rattle.replica.specs.declared.fault.CopyFault.{CopyFault}
 use Rattle.replica.specs.declared.fault.CopyFault.TheVariants.{NotPrimary, VersionConflict, WindowFull, OldTerm, NotSynced, BeyondWindow, Mismatch, Closed, Log, NoMemory, WrongAddress, Exhausted}
 use Rattle.replica.specs.declared.input.Input.{Input}
@@ -46,7 +46,7 @@ failed_log : (c : Copy) (input : Input) (place : ℕ) (old new : Logged) (e : Co
     → StartsWith (left_by c (copy_step c input)).records c.records
     → IsReplayed (refused_at c place input true) new
 failed_log c input place old new e opened copy logged f grows =
-    let whole : kept old.log ≡ Ok c.records = whole_kept old.log old.copy.records (logged opened) ∙ ap (λ (x : Copy). Ok x.records) copy in
+    let whole : kept old.log ≡ Ok c.records = whole_kept old.log old.copy.records old.groups (logged opened) ∙ ap (λ (x : Copy). Ok x.records) copy in
     record {
       closed = f.closed;
       same = subst (λ (x : Copy). IsSameCopy x new.copy) copy f.copy;

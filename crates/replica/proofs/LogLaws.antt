@@ -1,56 +1,99 @@
 -- What a copy asks of its log.
-use Rattle.std.proofs.Common.{◌≡◌, inl, inr, refl, ℕ, Bool, true, false, List, [], ◌∷◌, ◌++◌, sym, ap, subst, ◌∙◌, None, Ok, Err}
-use Rattle.std.specs.Prelude.{◌⊎◌, take, Result, IfOk, IfErr, if◌then◌else◌}
+use Rattle.std.proofs.Common.{◌≡◌, inl, inr, refl, ℕ, Bool, true, false, ◌||◌, List, [], ◌∷◌, ◌++◌, length, sym, ap, subst, ◌∙◌, None, Ok, Err, arith}
+use Rattle.std.specs.Prelude.{◌⊎◌, nat_lt, take, Result, IfOk, IfErr, if◌then◌else◌}
 use Rattle.doc.specs.Outcome.{Fails, Gives}
 use Rattle.op.specs.declared.record.Record.{Record}
-use Rattle.op.specs.Format.{spelling, is_too_large}
+use Rattle.op.specs.Format.{frame_spelling}
 use Rattle.translog.specs.declared.fault.LogFault.{LogFault}
 use Rattle.translog.specs.declared.fault.LogFault.TheVariants.{BadMagic, Damaged, Device, NoMemory, TooLarge}
-use Rattle.translog.specs.Fault.{Fault, too_large, fault_of, is_device}
+use Rattle.translog.specs.Fault.{Fault, bad_magic, damaged, too_large, fault_of, is_device}
 use Rattle.translog.specs.declared.frames.Torn.{Torn}
-use Rattle.translog.specs.Frames.{framed, mended, IsTorn, LosesNothing}
+use Rattle.translog.specs.Frames.{mended, IsTorn, LosesNothing}
 use Rattle.translog.specs.Device.{AddsFront}
-use Rattle.translog.specs.Kept.{header, kept, record_frame, IsSpelt, IsTranslog}
-use Rattle.translog.proofs.RecordsLaws.{one_more, whole_kept, torn_or_whole, kept_not_large, translog_stays}
-use Rattle.translog.proofs.FramesLaws.{opened_of}
+use Rattle.translog.specs.Kept.{frames_of, frames_or, has_upgrade, kept, IsTornLog, IsTranslog}
+use Rattle.translog.specs.Pieces.{own_header}
+use Rattle.translog.proofs.KeptLaws.{whole_kept, kept_not_large, read_whole, translog_stays}
+use Rattle.translog.proofs.PieceReading.{reopened}
+use Rattle.translog.proofs.PieceWriting.{more_together, torn_more}
+use Rattle.engine.specs.Staged.{IsStagedFrom}
 use Rattle.replica.specs.declared.fault.CopyFault.{CopyFault}
 use Rattle.replica.specs.declared.fault.CopyFault.TheVariants.{Log, NoMemory as OutOfMemory}
+use Rattle.replica.specs.declared.output.Output.{Output}
 use Rattle.replica.specs.declared.planned.Planned.{Planned}
+use Rattle.replica.specs.declared.planned.Reopened.{Reopened}
 use Rattle.replica.specs.declared.prepared.Prepared.{Prepared}
+use Rattle.replica.specs.declared.prepared.Prepared.TheVariants.{Restarted}
 use Rattle.replica.specs.Copy.{Copy}
 use Rattle.replica.specs.Fault.{of_log, has_failed, is_log, fault_of as copy_fault}
-use Rattle.replica.specs.Logged.{Logged, IsLogged, IsUnread, prepared_step}
+use Rattle.replica.specs.Logged.{Logged, IsFramed, IsLogged, IsReady, IsUnread, prepared_step}
 use Rattle.replica.specs.Planned.{stepped_by}
+use Rattle.replica.specs.Staged.{contents, reopened_by}
+use Rattle.replica.specs.Standing.{IsStanding}
 use Rattle.replica.specs.Step.{Step, Stepped}
 
 same_frame : (b : Bool) (f g : List ℕ) → (let r : Result (List ℕ) Fault = if b then Err too_large else Ok g in r) ≡ Ok f → f ≡ g
 same_frame true f g e = absurd cc
 same_frame false f g e = cc
 
--- the frame of a record is that of its spelling
-pub frame_is : (r : Record) (frame : List ℕ) → record_frame r ≡ Ok frame → frame ≡ framed (spelling r)
-frame_is r frame e = same_frame (is_too_large r) frame (framed (spelling r)) e
+-- what is appended for records of one frame is that frame, and before a first group the upgrade's
+pub frame_is : (groups : Bool) (new : List Record) (frame : List ℕ) → frames_or groups new ≡ Ok frame → frame ≡ frames_of groups new
+frame_is groups new frame e = same_frame (nat_lt 4294967295 (length (frame_spelling new))) frame (frames_of groups new) e
 
 same_ok : (rs found : List Record) → (let r : Result (List Record) Fault = Ok rs in r) ≡ Ok found → found ≡ rs
 same_ok rs found e = cc
 
--- a log has the bytes of its records
-pub same_bytes : (a b : List ℕ) (rs : List Record) → IsTranslog a rs → IsTranslog b rs → a ≡ b
-same_bytes a b rs one other = one.whole ∙ sym other.whole
+pub no_records : (rs : List Record) → length rs ≡ 0 → rs ≡ []
+no_records [] none = refl
+no_records (r ∷ rs) none = absurd (omega (arith, none))
 
-pub same_records : (bytes : List ℕ) (rs found : List Record) → IsTranslog bytes rs → kept bytes ≡ Ok found → found ≡ rs
-same_records bytes rs found log e = same_ok rs found (sym (whole_kept bytes rs log) ∙ e)
+pub same_records : (bytes : List ℕ) (rs found : List Record) (groups : Bool) → IsTranslog bytes rs groups → kept bytes ≡ Ok found → found ≡ rs
+same_records bytes rs found groups log e = same_ok rs found (sym (whole_kept bytes rs groups log) ∙ e)
 
--- a log with the frame of one record more
-pub grown : (l : Logged) (r : Record) (frame : List ℕ) → IsLogged l → l.closed ≡ false → record_frame r ≡ Ok frame → IsSpelt r → IsTranslog (l.log ++ frame) (l.copy.records ++ r ∷ [])
-grown l r frame logged opened spelt one = rw (frame_is r frame spelt) (one_more l.log l.copy.records r (logged opened) one)
+-- a log of whole frames stays
+pub stays_logged : (l : Logged) (new : List ℕ) → IsLogged l → l.closed ≡ false → LosesNothing (own_header l.log) l.log new → new ≡ l.log
+stays_logged l new logged opened left = translog_stays l.log new l.copy.records l.groups (logged opened) left
 
--- after an append that failed the log keeps what it kept before, or also the new record
-pub torn_at : (new held bytes : List ℕ) (rs : List Record) (r : Record) (frame : List ℕ) → held ≡ bytes → IsTranslog bytes rs → record_frame r ≡ Ok frame → IsSpelt r → AddsFront held frame new
-    → (kept new ≡ kept bytes) ⊎ (kept new ≡ Ok (rs ++ r ∷ []))
-torn_at new held bytes rs r frame is log spelt one added =
-    let same : new ≡ bytes ++ take added.0 (framed (spelling r)) = added.1 ∙ ap (λ (x : List ℕ). x ++ take added.0 frame) is ∙ ap (λ (x : List ℕ). bytes ++ take added.0 x) (frame_is r frame spelt) in
-    rw same (as_before (kept bytes) rs _ _ (whole_kept bytes rs log) (torn_or_whole bytes rs r added.0 log one))
+pub stays_translog : (old new : List ℕ) (rs : List Record) (groups : Bool) → IsTranslog old rs groups → LosesNothing (own_header old) old new → IsTranslog new rs groups
+stays_translog old new rs groups log left = subst (λ (x : List ℕ). IsTranslog x rs groups) (sym (translog_stays old new rs groups log left)) log
+
+-- the log of an open copy that was read is that of its records still
+pub read_logged : (l : Logged) (found : List Record) (torn : Torn) (groups : Bool) → IsLogged l → l.closed ≡ false → IsTornLog l.log found torn groups → kept l.log ≡ Ok found → IsTranslog l.log l.copy.records groups
+read_logged l found torn groups logged opened read gives =
+    subst (λ (rs : List Record). IsTranslog l.log rs groups) (same_records l.log l.copy.records found l.groups (logged opened) gives) (read_whole l.log l.copy.records found l.groups groups torn (logged opened) read)
+
+-- and so is one that was mended
+pub mended_logged : (held old new : List ℕ) (contents : List (List ℕ)) (torn : Torn) (rs : List Record) (groups after : Bool) → held ≡ old → IsTorn (own_header old) old contents torn → new ≡ mended (own_header held) held torn → after ≡ groups
+    → IsTranslog held rs groups → IsTranslog new rs after
+mended_logged held old new contents torn rs groups after is found made same log =
+    let left : LosesNothing (own_header old) old new = subst (λ (x : List ℕ). LosesNothing (own_header old) old x) (sym (made ∙ ap (λ l. mended (own_header l) l torn) is)) found.left in
+    subst (λ (b : Bool). IsTranslog new rs b) (sym same) (stays_translog old new rs groups (subst (λ (x : List ℕ). IsTranslog x rs groups) is log) left)
+
+-- a restart is ready once its log was read and mended
+pub ready_again : (old mid new : Logged) (rs : List Record) (torn : Torn) (r : Reopened) (output : Output) → mid.log ≡ old.log → IsTornLog old.log rs torn mid.groups → new.log ≡ mended (own_header mid.log) mid.log torn → new.groups ≡ mid.groups
+    → new.copy ≡ mid.copy → IsStagedFrom (contents mid.copy) r.staged → IsStanding (reopened_by mid.copy r) → (reopened_by mid.copy r).records ≡ rs → IsReady new (Restarted r output)
+ready_again old mid new rs torn r output held log made same copy staged standing records =
+    let whole = reopened old.log mid.log new.log rs torn mid.groups new.groups held log made same in
+    subst (λ (c : Copy). IsStagedFrom (contents c) r.staged × IsStanding (reopened_by c r) × IsTranslog new.log (reopened_by c r).records new.groups) (sym copy)
+    (staged, standing, subst (λ (l : List Record). IsTranslog new.log l new.groups) (sym records) whole)
+
+-- a log with the frame of some records more
+pub grown : (l : Logged) (new : List Record) (frame : List ℕ) → IsLogged l → l.closed ≡ false → IsFramed l new frame → IsTranslog (l.log ++ frame) (l.copy.records ++ new) (l.groups || has_upgrade frame)
+grown l new frame logged opened framed = rw (frame_is l.groups new frame framed.frame_is) (more_together l.log l.copy.records l.groups new (logged opened) framed.spelt)
+
+-- the same, where the log, the records and whether groups may follow are known by other names
+pub grown_by : (inside l : Logged) (new : List Record) (frame log : List ℕ) (rs : List Record) (groups : Bool) → inside ≡ l → IsLogged inside → inside.closed ≡ false → IsFramed l new frame
+    → log ≡ inside.log ++ frame → rs ≡ l.copy.records ++ new → groups ≡ (inside.groups || has_upgrade frame) → IsTranslog log rs groups
+grown_by inside l new frame log rs groups is logged opened framed added records after =
+    let more = grown inside new frame logged opened (subst (λ (x : Logged). IsFramed x new frame) (sym is) framed) in
+    let same : rs ≡ inside.copy.records ++ new = records ∙ ap (λ (x : Logged). x.copy.records ++ new) (sym is) in
+    rw (added, same, after) more
+
+-- after an append that failed the log keeps what it kept before, or also the new records
+pub torn_at : (l : Logged) (held left : List ℕ) (new : List Record) (frame : List ℕ) → held ≡ l.log → IsLogged l → l.closed ≡ false → IsFramed l new frame → AddsFront held frame left
+    → (kept left ≡ kept l.log) ⊎ (kept left ≡ Ok (l.copy.records ++ new))
+torn_at l held left new frame is logged opened framed added =
+    let same : left ≡ l.log ++ take added.0 (frames_of l.groups new) = added.1 ∙ ap (λ (x : List ℕ). x ++ take added.0 frame) is ∙ ap (λ (x : List ℕ). l.log ++ take added.0 x) (frame_is l.groups new frame framed.frame_is) in
+    rw same (as_before (kept l.log) l.copy.records _ _ (whole_kept l.log l.copy.records l.groups (logged opened)) (torn_more l.log l.copy.records l.groups new added.0 (logged opened) framed.spelt))
   where
     as_before : (before : Result (List Record) Fault) (rs more : List Record) (now : Result (List Record) Fault) → before ≡ Ok rs → (now ≡ Ok rs) ⊎ (now ≡ Ok more) → (now ≡ before) ⊎ (now ≡ Ok more)
     as_before before rs more now was (inl e) = inl (e ∙ sym was)
@@ -68,12 +111,12 @@ unread bytes NoMemory fails = tt
 unread bytes TooLarge fails = absurd (kept_not_large bytes fails)
 
 -- a log of records is read, unless memory is wanting or its device fails
-pub sound_log : (bytes : List ℕ) (rs : List Record) (f : LogFault) → IsTranslog bytes rs → Fails fault_of f (kept bytes) → is_device f ≡ false → is_log (of_log f) ≡ false
-sound_log bytes rs BadMagic log fails other = absurd (let e = sym (whole_kept bytes rs log) ∙ fails in cc)
-sound_log bytes rs (Damaged offset) log fails other = absurd (let e = sym (whole_kept bytes rs log) ∙ fails in cc)
-sound_log bytes rs Device log fails other = absurd cc
-sound_log bytes rs NoMemory log fails other = refl
-sound_log bytes rs TooLarge log fails other = refl
+pub sound_log : (bytes : List ℕ) (rs : List Record) (groups : Bool) (f : LogFault) → IsTranslog bytes rs groups → Fails fault_of f (kept bytes) → is_device f ≡ false → is_log (of_log f) ≡ false
+sound_log bytes rs groups BadMagic log fails other = absurd (let e = sym (whole_kept bytes rs groups log) ∙ fails in cc)
+sound_log bytes rs groups (Damaged offset) log fails other = absurd (let e = sym (whole_kept bytes rs groups log) ∙ fails in cc)
+sound_log bytes rs groups Device log fails other = absurd cc
+sound_log bytes rs groups NoMemory log fails other = refl
+sound_log bytes rs groups TooLarge log fails other = refl
 
 -- only a failure of the device is a fault of the log
 pub not_log : (f : LogFault) → fault_of f ≡ None → is_device f ≡ false → is_log (of_log f) ≡ false
@@ -106,24 +149,18 @@ failed_as Device = refl
 failed_as NoMemory = refl
 failed_as TooLarge = refl
 
--- what is left of a log that was read and mended
-pub left_of : (old mid new : List ℕ) (contents : List (List ℕ)) (torn : Torn) → mid ≡ old → IsTorn header old contents torn → new ≡ mended header mid torn → LosesNothing header old new
-left_of old mid new contents torn is found made = (opened_of header header old mid new contents torn 0 0 0 refl is found made refl refl).left
+-- records of one frame are refused for no other fault than that they are too large
+is_sound : (b : Bool) (frames : List ℕ) (d : Fault) → (d ≡ too_large → ⊥) → (let r : Result (List ℕ) Fault = if b then Err too_large else Ok frames in r) ≡ Err d → ⊥
+is_sound true frames d other e = other cc
+is_sound false frames d other e = absurd cc
 
--- a log of whole frames stays
-pub stays_logged : (l : Logged) (new : List ℕ) → IsLogged l → l.closed ≡ false → LosesNothing header l.log new → new ≡ l.log
-stays_logged l new logged opened left = translog_stays l.log new l.copy.records (logged opened) left
-
-pub stays_translog : (old new : List ℕ) (rs : List Record) → IsTranslog old rs → LosesNothing header old new → IsTranslog new rs
-stays_translog old new rs log left = subst (λ (x : List ℕ). IsTranslog x rs) (sym (translog_stays old new rs log left)) log
-
--- a record that can be spelled is refused for want of memory alone
-pub memory_alone : (r : Record) (f : LogFault) → is_too_large r ≡ false → Fails fault_of f (record_frame r) → is_device f ≡ false → of_log f ≡ OutOfMemory
-memory_alone r BadMagic small fails other = absurd (let h = rw small at fails in cc)
-memory_alone r (Damaged offset) small fails other = absurd (let h = rw small at fails in cc)
-memory_alone r Device small fails other = absurd cc
-memory_alone r NoMemory small fails other = refl
-memory_alone r TooLarge small fails other = absurd (let h = rw small at fails in cc)
+-- records that fit one frame are refused for want of memory alone
+pub memory_alone : (new : List Record) (groups : Bool) (f : LogFault) → Fails fault_of f (frames_or groups new) → (f ≡ TooLarge → ⊥) → is_device f ≡ false → of_log f ≡ OutOfMemory
+memory_alone new groups BadMagic fails small other = absurd (is_sound (nat_lt 4294967295 (length (frame_spelling new))) (frames_of groups new) bad_magic (λ e. absurd cc) fails)
+memory_alone new groups (Damaged offset) fails small other = absurd (is_sound (nat_lt 4294967295 (length (frame_spelling new))) (frames_of groups new) (damaged offset) (λ e. absurd cc) fails)
+memory_alone new groups Device fails small other = absurd cc
+memory_alone new groups NoMemory fails small other = refl
+memory_alone new groups TooLarge fails small other = absurd (small refl)
 
 -- the step of a record that is ready
 pub recorded : (c : Copy) (p : Planned) (r : Result Prepared CopyFault) (step : Step) → step ≡ Ok (stepped_by c p) → IfOk r (λ q. prepared_step c q ≡ stepped_by c p) → IfErr r (λ e. e ≡ OutOfMemory) → Gives copy_fault (prepared_step c) r step

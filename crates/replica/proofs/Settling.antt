@@ -41,7 +41,7 @@ fails_on e test step h fails = elim (fault_of e) as (λ o. IfSome o (λ f. test 
 
 -- ---- records that are too large
 
-large_or : (r : Record) (s : Step) (b : Bool) → is_too_large r ≡ b → settled (unless (spellable r) s) ≡ (if b then Err Exhausted else settled s)
+pub large_or : (r : Record) (s : Step) (b : Bool) → is_too_large r ≡ b → settled (unless (spellable r) s) ≡ (if b then Err Exhausted else settled s)
 unfolding unless
 large_or r s true is = rw is refl
 large_or r s false is = rw is refl

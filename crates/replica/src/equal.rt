@@ -1,6 +1,8 @@
 //! Whether messages, operations and faults of a log are the same.
 ghost use Rattle.std.specs.Prelude.{◌≡◌, ◌↔◌, IsTrue};
 
+use crate::input::Write;
+use crate::output::Item;
 use op::{Content, Msg, Op};
 use translog::LogFault;
 
@@ -28,6 +30,36 @@ pub fn equal_operations(operations: &[Op], others: &[Op]) -> bool
     }
     for place in 0..operations.len() {
         if !operations[place].is(&others[place]) {
+            return false;
+        }
+    }
+    true
+}
+
+/// Whether writes are the same.
+pub fn equal_writes(writes: &[Write], others: &[Write]) -> bool
+    ensures { IsTrue result ↔ (writes.now ≡ others.now) }
+{
+    if writes.len() != others.len() {
+        return false;
+    }
+    for place in 0..writes.len() {
+        if !writes[place].is(&others[place]) {
+            return false;
+        }
+    }
+    true
+}
+
+/// Whether what became of some writes is the same.
+pub fn equal_items(items: &[Item], others: &[Item]) -> bool
+    ensures { IsTrue result ↔ (items.now ≡ others.now) }
+{
+    if items.len() != others.len() {
+        return false;
+    }
+    for place in 0..items.len() {
+        if !items[place].is(&others[place]) {
             return false;
         }
     }

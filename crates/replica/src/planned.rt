@@ -38,6 +38,37 @@ impl Planned {
     }
 }
 
+/// A bulk that keeps records: they, the checkpoint and the role that they leave, and what the bulk gives.
+#[derive(Drop)]
+pub struct PlannedAll {
+    pub(crate) records: Vec<Record>,
+    pub(crate) known: u64,
+    pub(crate) role: Role,
+    pub(crate) output: Output,
+}
+
+impl PlannedAll {
+    /// The same step without the records.
+    pub(crate) fn into_settled(self) -> Settled
+        ensures known { result.known ≡ self.known }
+        ensures role { result.role ≡ self.role }
+        ensures output { result.output ≡ self.output }
+    {
+        let PlannedAll {
+            records,
+            known,
+            role,
+            output,
+        } = self;
+        drop(records);
+        Settled {
+            known,
+            role,
+            output,
+        }
+    }
+}
+
 /// A step of a primary that keeps no record: the checkpoint and the role that it leaves, and what it gives.
 #[derive(Drop)]
 pub struct Settled {

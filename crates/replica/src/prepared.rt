@@ -2,10 +2,10 @@
 ghost use Rattle.std.specs.Prelude.{◌≡◌};
 ghost use Rattle.std.specs.Option.{option_map};
 ghost use Rattle.std.specs.Arc.{arc_value};
-ghost use Rattle.replica.specs.Logged.{new_snapshot, output_of};
+ghost use Rattle.replica.specs.Logged.{added, new_snapshot, output_of};
 
 use crate::output::Output;
-use crate::planned::{Planned, Reopened, Settled};
+use crate::planned::{Planned, PlannedAll, Reopened, Settled};
 use engine::{Snapshot, Staged};
 use std::alloc::Global;
 use std::sync::Arc;
@@ -20,6 +20,8 @@ pub enum Prepared {
     Settled(Settled),
     /// A write or a message whose record is kept, with the frame of the record.
     Kept(Frame, Planned),
+    /// A bulk whose records are kept, with their frame.
+    KeptAll(Frame, PlannedAll),
     /// A refresh.
     Shown(Staged, Output),
     /// A restart.
@@ -35,8 +37,20 @@ impl Prepared {
             Prepared::Answered(output) => output,
             Prepared::Settled(settled) => &settled.output,
             Prepared::Kept(_, planned) => &planned.output,
+            Prepared::KeptAll(_, planned) => &planned.output,
             Prepared::Shown(_, output) => output,
             Prepared::Restarted(_, output) => output,
+        }
+    }
+
+    /// How many records the step keeps.
+    pub fn added(&self) -> usize
+        ensures { result ≡ added self.now }
+    {
+        match self {
+            Prepared::Kept(_, _) => 1,
+            Prepared::KeptAll(_, planned) => planned.records.len(),
+            _ => 0,
         }
     }
 
@@ -48,6 +62,7 @@ impl Prepared {
             Prepared::Answered(_) => None,
             Prepared::Settled(_) => None,
             Prepared::Kept(_, _) => None,
+            Prepared::KeptAll(_, _) => None,
             Prepared::Shown(staged, _) => Some(staged.snapshot()),
             Prepared::Restarted(reopened, _) => Some(reopened.staged.snapshot()),
         }

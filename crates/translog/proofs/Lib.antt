@@ -2,4 +2,5 @@ pub mod FramesLaws
 pub mod RecordsLaws
 pub mod PiecesLaws
 pub mod PieceReading
+pub mod KeptLaws
 pub mod PieceWriting

@@ -1,7 +1,7 @@
 -- Pieces that are read one after the other, as a loop does.
-use Rattle.std.proofs.Common.{◌≡◌, Bool, true, false, ℕ, ◌+◌, ◌^◌, ◌<◌, List, [], ◌∷◌, ◌++◌, length, map, take, Option, Result, Ok, Err, refl, sym, ap, subst, ◌∙◌, append_assoc}
-use Rattle.std.specs.Prelude.{not, ◌||◌, nat_lt}
-use Rattle.std.specs.List.{flat_map, AllByRecursion}
+use Rattle.std.proofs.Common.{◌≡◌, Bool, true, false, ℕ, ◌+◌, ◌^◌, ◌<◌, List, [], ◌∷◌, ◌++◌, length, take, Option, Result, Ok, Err, refl, sym, ap, subst, ◌∙◌, append_assoc}
+use Rattle.std.specs.Prelude.{◌||◌, nat_lt}
+use Rattle.std.specs.List.{flat_map}
 use Rattle.std.specs.Str.{bytes_eq}
 use Rattle.std.proofs.lemmas.List.{append-nil, map_push}
 use Rattle.doc.specs.Outcome.{◌>>=◌, Fails}
@@ -15,7 +15,8 @@ use Rattle.translog.specs.Fault.{Fault, damaged}
 use Rattle.translog.specs.declared.frames.Torn.{Torn}
 use Rattle.translog.specs.declared.frames.Torn.TheVariants.{Header}
 use Rattle.translog.specs.Frames.{log_of, contents_in, mended, IsTorn, LosesNothing}
-use Rattle.translog.specs.Pieces.{Form, first, second, header_of, form_of, own_header, has_groups, kept_in_pieces, IsPieceLog, IsTornLog, IsTranslogOfPieces, Piece, some_records, upgrade, content, records_in, piece_of, is_due, groups_after, groups_behind, due_or_damaged, piece_records, AreInOrder, IsSpeltPiece, IsPieceAt, ArePieces}
+use Rattle.translog.specs.Kept.{kept, IsPieceLog, IsTornLog, IsTranslog}
+use Rattle.translog.specs.Pieces.{Form, first, second, header_of, form_of, own_header, has_groups, some_records, upgrade, content, records_in, piece_of, is_due, groups_after, groups_behind, due_or_damaged, piece_records, IsSpeltPiece, IsPieceAt, ArePieces}
 use Rattle.translog.proofs.RecordsLaws.{with_front}
 use Rattle.translog.proofs.PiecesLaws.{order_more, each_more, behind_more, records_more, form_of_short, form_stays}
 
@@ -94,17 +95,17 @@ torn_log_of bytes cs rs torn groups at are = record {
   behind = are.behind;
 }
 
-pub kept_of : (bytes : List ℕ) (cs : List (List ℕ)) → contents_in (own_header bytes) bytes ≡ Ok cs → kept_in_pieces bytes ≡ piece_records (has_groups (form_of bytes)) 4 cs
-unfolding kept_in_pieces
+pub kept_of : (bytes : List ℕ) (cs : List (List ℕ)) → contents_in (own_header bytes) bytes ≡ Ok cs → kept bytes ≡ piece_records (has_groups (form_of bytes)) 4 cs
+unfolding kept
 kept_of bytes cs e = rw e refl
 
-kept_none : (bytes : List ℕ) (d : Fault) → contents_in (own_header bytes) bytes ≡ Err d → kept_in_pieces bytes ≡ Err d
-unfolding kept_in_pieces
+kept_none : (bytes : List ℕ) (d : Fault) → contents_in (own_header bytes) bytes ≡ Err d → kept bytes ≡ Err d
+unfolding kept
 kept_none bytes d e = rw e refl
 
-pub fails_kept : {E : Type 0} (fault : E → Option Fault) (e : E) (h bytes : List ℕ) → h ≡ own_header bytes → Fails fault e (contents_in h bytes) → Fails fault e (kept_in_pieces bytes)
+pub fails_kept : {E : Type 0} (fault : E → Option Fault) (e : E) (h bytes : List ℕ) → h ≡ own_header bytes → Fails fault e (contents_in h bytes) → Fails fault e (kept bytes)
 fails_kept fault e h bytes named fails =
-    fault_ends (fault e) (contents_in (own_header bytes) bytes) (kept_in_pieces bytes) (λ d f. kept_none bytes d f) (subst (λ x. Fails fault e (contents_in x bytes)) named fails)
+    fault_ends (fault e) (contents_in (own_header bytes) bytes) (kept bytes) (λ d f. kept_none bytes d f) (subst (λ x. Fails fault e (contents_in x bytes)) named fails)
 
 -- a header is torn in the second form alone
 pub torn_second : (bytes : List ℕ) (m : ℕ) → m < 4 → bytes ≡ take m (own_header bytes) → form_of bytes ≡ second
@@ -114,7 +115,7 @@ torn_second bytes m lt is = short (form_of bytes) refl
     short first told = ap form_of (is ∙ ap (λ f. take m (header_of f)) told) ∙ form_of_short m lt
     short second told = told
 
-pub mended_log : (old new : List ℕ) (rs : List Record) (torn : Torn) (groups : Bool) → IsTornLog old rs torn groups → new ≡ mended (own_header old) old torn → IsTranslogOfPieces new rs groups
+pub mended_log : (old new : List ℕ) (rs : List Record) (torn : Torn) (groups : Bool) → IsTornLog old rs torn groups → new ≡ mended (own_header old) old torn → IsTranslog new rs groups
 mended_log old new rs torn groups log is =
     let whole : IsPieceLog (form_of old) new log.pieces = subst (λ (x : List ℕ). IsPieceLog (form_of old) x log.pieces) (sym is) log.log in
     let left : LosesNothing (own_header old) old new = subst (λ (x : List ℕ). LosesNothing (own_header old) old x) (sym is) log.torn_at.left in
@@ -126,7 +127,7 @@ mended_log old new rs torn groups log is =
       behind = log.behind ∙ ap (λ f. groups_behind (has_groups f) log.pieces) told;
     }
 
-pub found_kept : (h bytes : List ℕ) (cs : List (List ℕ)) (groups : Bool) → h ≡ own_header bytes → contents_in h bytes ≡ Ok cs → groups ≡ has_groups (form_of bytes) → kept_in_pieces bytes ≡ piece_records groups 4 cs
+pub found_kept : (h bytes : List ℕ) (cs : List (List ℕ)) (groups : Bool) → h ≡ own_header bytes → contents_in h bytes ≡ Ok cs → groups ≡ has_groups (form_of bytes) → kept bytes ≡ piece_records groups 4 cs
 found_kept h bytes cs groups named found told = kept_of bytes cs (subst (λ x. contents_in x bytes ≡ Ok cs) named found) ∙ ap (λ g. piece_records g 4 cs) (sym told)
 
 -- a torn header is a front of that of the second form, which is its own
@@ -139,6 +140,6 @@ torn_header_front bytes cs torn at is = let s = at.short is in (s.0, s.1, s.2 �
 pub torn_mended : (bytes : List ℕ) (cs : List (List ℕ)) (torn : Torn) → IsTorn (own_header bytes) bytes cs torn → torn ≡ Header → header_of second ≡ mended (own_header bytes) bytes torn
 torn_mended bytes cs torn at is = sym (torn_front bytes cs torn at is) ∙ sym (ap (mended (own_header bytes) bytes) is)
 
-pub reopened : (old mid new : List ℕ) (rs : List Record) (torn : Torn) (groups after : Bool) → mid ≡ old → IsTornLog old rs torn groups → new ≡ mended (own_header mid) mid torn → after ≡ groups → IsTranslogOfPieces new rs after
+pub reopened : (old mid new : List ℕ) (rs : List Record) (torn : Torn) (groups after : Bool) → mid ≡ old → IsTornLog old rs torn groups → new ≡ mended (own_header mid) mid torn → after ≡ groups → IsTranslog new rs after
 reopened old mid new rs torn groups after held log made same =
-    subst (λ b. IsTranslogOfPieces new rs b) (sym same) (mended_log old new rs torn groups log (made ∙ ap (λ l. mended (own_header l) l torn) held))
+    subst (λ b. IsTranslog new rs b) (sym same) (mended_log old new rs torn groups log (made ∙ ap (λ l. mended (own_header l) l torn) held))

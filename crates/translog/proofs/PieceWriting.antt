@@ -1,24 +1,28 @@
 -- Records of one frame that are written, and the log with them.
-use Rattle.std.proofs.Common.{◌≡◌, ◌≢◌, ◌⊎◌, append_assoc, map, if◌then◌else◌, Bool, true, false, cond, ltb, ℕ, ◌+◌, ◌^◌, ◌<◌, ◌≤◌, List, [], ◌∷◌, ◌++◌, length, take, Option, Result, Ok, Err, refl, sym, ap, subst, ◌∙◌, arith}
-use Rattle.std.specs.Prelude.{◌||◌, OnOk, nat_lt}
-use Rattle.std.specs.List.{flat_map}
+use Rattle.std.proofs.Common.{◌≡◌, ◌≢◌, ◌⊎◌, append_assoc, map, if◌then◌else◌, Bool, true, false, cond, ltb, ℕ, ◌^◌, ◌<◌, ◌≤◌, List, [], ◌∷◌, ◌++◌, length, take, Result, Ok, Err, refl, sym, ap, subst, ◌∙◌, arith}
+use Rattle.std.specs.Prelude.{◌||◌, IfErr, nat_lt}
+use Rattle.std.specs.List.{flat_map, list_all, AllByRecursion}
 use Rattle.std.specs.Str.{bytes_eq}
-use Rattle.std.proofs.lemmas.Bool.{ltb-false}
+use Rattle.std.proofs.lemmas.Bool.{le-ltb, ltb-false}
 use Rattle.std.proofs.lemmas.Bool.Decides.{nat_tests}
 use Rattle.std.proofs.lemmas.Slice.Eq.{bytes_eq-Decides}
-use Rattle.doc.specs.Outcome.{◌>>=◌, Fails, Gives}
+use Rattle.doc.specs.Outcome.{Fails, Gives}
 use Rattle.doc.proofs.Fronts.{fault_ends}
 use Rattle.op.specs.declared.record.Record.{Record}
 use Rattle.op.specs.declared.record.Record.TheVariants.{Op as Kept, Resync, Recover}
-use Rattle.op.specs.Records.{AreOfOneFrame}
+use Rattle.op.specs.Records.{AreOfOneFrame, IsOfGroup}
+use Rattle.op.specs.Rules.{is_group_count, is_of_group}
 use Rattle.op.specs.FormatFault as op
-use Rattle.op.specs.Format.{frame_spelling, frame_encoded, spelling}
-use Rattle.op.proofs.Groups.{encoded_ok, encoded_large}
+use Rattle.op.specs.Format.{frame_spelling, frame_encoded, group_spelling, is_too_large, spelling, AreBytes}
+use Rattle.op.proofs.Groups.{encoded_ok, encoded_large, frame_spelt}
+use Rattle.op.proofs.RulesLaws.{record_test}
 use Rattle.op.specs.Reading.{records_of}
 use Rattle.translog.specs.declared.fault.LogFault.{LogFault}
-use Rattle.translog.specs.Fault.{Fault, fault_of, too_large}
+use Rattle.translog.specs.declared.fault.LogFault.TheVariants.{BadMagic, Damaged, Device, NoMemory, TooLarge}
+use Rattle.translog.specs.Fault.{Fault, fault_of, is_device, too_large}
 use Rattle.translog.specs.Frames.{framed, frame_of}
-use Rattle.translog.specs.Pieces.{form_of, header_of, has_groups, Piece, some_records, upgrade, content, records_in, piece_of, is_due, groups_behind, kept_in_pieces, frames_of, frames_or, has_upgrade, IsSpeltPiece, IsPieceLog, IsTranslogOfPieces}
+use Rattle.translog.specs.Kept.{kept, frames_of, frames_or, has_upgrade, IsPieceLog, IsTranslog}
+use Rattle.translog.specs.Pieces.{form_of, header_of, has_groups, Piece, some_records, upgrade, content, records_in, piece_of, is_due, groups_behind, IsSpeltPiece}
 use Rattle.translog.proofs.PiecesLaws.{not_upgrade, not_due, upgraded, group_due, no_records_more, records_more, behind_more, piece_more, form_of_log, frames_torn}
 
 -- ---- the frames of records
@@ -41,11 +45,50 @@ none_spelt e groups rs fails = fault_ends (fault_of e) (frame_of (frame_spelling
 pub spelling_is : (rs : List Record) (spelt : List ℕ) → AreOfOneFrame rs → frame_encoded rs ≡ Ok spelt → spelt ≡ frame_spelling rs
 spelling_is rs spelt rules e = encoded_ok rs spelt rules e
 
-pub spelling_reads : (rs : List Record) (spelt : List ℕ) → AreOfOneFrame rs → frame_encoded rs ≡ Ok spelt → records_of spelt ≡ Ok rs → records_of (frame_spelling rs) ≡ Ok rs
-spelling_reads rs spelt rules e reads = ap records_of (sym (encoded_ok rs spelt rules e)) ∙ reads
+pub spelling_again : (rs : List Record) (spelt : List ℕ) → spelt ≡ frame_spelling rs → records_of spelt ≡ Ok rs → records_of (frame_spelling rs) ≡ Ok rs
+spelling_again rs spelt is reads = ap records_of (sym is) ∙ reads
 
 pub not_spelt : (rs : List Record) (d : op.Fault) → AreOfOneFrame rs → frame_encoded rs ≡ Err d → frame_of (frame_spelling rs) ≡ Err too_large
 not_spelt rs d rules e = rw (encoded_large rs d rules e) refl
+
+-- ---- one record alone may be too large
+
+of_group_test : (r : Record) → IsOfGroup r → is_of_group r ≡ true
+of_group_test (Kept g o) h = record_test (Kept g o) h
+of_group_test (Resync term g os) h = absurd h
+of_group_test (Recover term os) h = absurd h
+
+all_test : (rs : List Record) → AllByRecursion IsOfGroup rs → list_all is_of_group rs ≡ true
+all_test [] h = refl
+all_test (r ∷ rs) h = rw (of_group_test r h.0) (all_test rs h.1)
+
+count_test : (n : ℕ) → 2 ≤ n → n ≤ 1024 → is_group_count n ≡ true
+count_test n several few = grind (arith, nat_tests)
+
+no_fault : (x : List ℕ) (d : op.Fault) → (let y : Result (List ℕ) op.Fault = Ok x in y) ≡ Err d → ⊥
+no_fault x d e = absurd cc
+
+pub large_alone : (rs : List Record) (d : op.Fault) → AreOfOneFrame rs → frame_encoded rs ≡ Err d → (r : Record) × (rs ≡ r ∷ []) × (is_too_large r ≡ true)
+large_alone [] d h e = absurd h
+large_alone (r ∷ []) d h e = (r, refl, encoded_large (r ∷ []) d h e)
+large_alone (r ∷ s ∷ rs) d h e = absurd (no_fault (group_spelling (r ∷ s ∷ rs)) d (rw (count_test (length (r ∷ s ∷ rs)) h.several h.few, all_test (r ∷ s ∷ rs) h.each) at e))
+
+pub small_content : (rs : List Record) (content : List ℕ) → AreBytes content → records_of content ≡ Ok rs → length content < 2 ^ 32
+small_content rs content fits reads = (frame_spelt content rs fits reads).3
+
+no_memory : (b : Bool) (x : List ℕ) (e : LogFault) → b ≡ false → Fails fault_of e (let r : Result (List ℕ) Fault = if b then Err too_large else Ok x in r) → is_device e ≡ false → e ≡ NoMemory
+no_memory true x e few fails other = absurd cc
+no_memory false x BadMagic few fails other = absurd cc
+no_memory false x (Damaged offset) few fails other = absurd cc
+no_memory false x Device few fails other = absurd cc
+no_memory false x NoMemory few fails other = refl
+no_memory false x TooLarge few fails other = absurd cc
+
+-- what fits is refused for want of memory alone
+pub memory_alone : (content frames : List ℕ) (r : Result (List ℕ) LogFault) → length content < 2 ^ 32 → Gives fault_of (λ f. f) r (let made : Result (List ℕ) Fault = if nat_lt 4294967295 (length content) then Err too_large else Ok frames in made)
+    → IfErr r (λ e. is_device e ≡ false) → IfErr r (λ e. e ≡ NoMemory)
+memory_alone content frames (Ok f) few gives other = tt
+memory_alone content frames (Err e) few gives other = no_memory (nat_lt 4294967295 (length content)) frames e (le-ltb _ _ (omega arith)) gives other
 
 -- ---- records that were written are a piece that is spelt
 
@@ -93,7 +136,7 @@ same_form bytes tail ps log =
 
 -- pieces that stand behind the header of some bytes
 of_pieces : (old new : List ℕ) (qs : List Piece) (rs : List Record) (groups : Bool) → form_of old ≡ form_of new → IsPieceLog (form_of old) new qs → rs ≡ flat_map records_in qs → groups ≡ groups_behind (has_groups (form_of old)) qs
-    → IsTranslogOfPieces new rs groups
+    → IsTranslog new rs groups
 of_pieces old new qs rs groups told log records behind = record {
   pieces = qs;
   log = subst (λ f. IsPieceLog f new qs) told log;
@@ -101,12 +144,12 @@ of_pieces old new qs rs groups told log records behind = record {
   behind = behind ∙ ap (λ f. groups_behind (has_groups f) qs) told;
 }
 
-pub more_together : (bytes : List ℕ) (rs : List Record) (groups : Bool) (new : List Record) → IsTranslogOfPieces bytes rs groups → IsSpeltPiece (some_records new)
-    → IsTranslogOfPieces (bytes ++ frames_of groups new) (rs ++ new) (groups || has_upgrade (frames_of groups new))
+pub more_together : (bytes : List ℕ) (rs : List Record) (groups : Bool) (new : List Record) → IsTranslog bytes rs groups → IsSpeltPiece (some_records new)
+    → IsTranslog (bytes ++ frames_of groups new) (rs ++ new) (groups || has_upgrade (frames_of groups new))
 more_together bytes rs groups new log is = by_due (is_due groups (some_records new)) refl
   where
     by_due : (b : Bool) → is_due groups (some_records new) ≡ b
-        → IsTranslogOfPieces (bytes ++ (if b then framed (frame_spelling new) else framed (content upgrade) ++ framed (frame_spelling new))) (rs ++ new) (groups || has_upgrade (if b then framed (frame_spelling new) else framed (content upgrade) ++ framed (frame_spelling new)))
+        → IsTranslog (bytes ++ (if b then framed (frame_spelling new) else framed (content upgrade) ++ framed (frame_spelling new))) (rs ++ new) (groups || has_upgrade (if b then framed (frame_spelling new) else framed (content upgrade) ++ framed (frame_spelling new)))
     by_due true due =
         let due_there : is_due (groups_behind (has_groups (form_of bytes)) log.pieces) (some_records new) ≡ true = subst (λ b. is_due b (some_records new) ≡ true) log.behind due in
         of_pieces bytes (bytes ++ framed (frame_spelling new)) (log.pieces ++ some_records new ∷ []) (rs ++ new) _ (same_form bytes (framed (frame_spelling new)) log.pieces log.log)
@@ -123,10 +166,10 @@ more_together bytes rs groups new log is = by_due (is_due groups (some_records n
         (ap (λ l. l ++ new) log.records ∙ sym (records_more (log.pieces ++ upgrade ∷ []) (some_records new) ∙ ap (λ (l : List Record). l ++ new) (no_records_more log.pieces)))
         (rw none refl ∙ sym (behind_more (has_groups (form_of bytes)) (log.pieces ++ upgrade ∷ []) (some_records new) ∙ behind_more (has_groups (form_of bytes)) log.pieces upgrade))
 
-pub torn_more : (bytes : List ℕ) (rs : List Record) (groups : Bool) (new : List Record) (k : ℕ) → IsTranslogOfPieces bytes rs groups → IsSpeltPiece (some_records new)
-    → (kept_in_pieces (bytes ++ take k (frames_of groups new)) ≡ Ok rs) ⊎ (kept_in_pieces (bytes ++ take k (frames_of groups new)) ≡ Ok (rs ++ new))
+pub torn_more : (bytes : List ℕ) (rs : List Record) (groups : Bool) (new : List Record) (k : ℕ) → IsTranslog bytes rs groups → IsSpeltPiece (some_records new)
+    → (kept (bytes ++ take k (frames_of groups new)) ≡ Ok rs) ⊎ (kept (bytes ++ take k (frames_of groups new)) ≡ Ok (rs ++ new))
 torn_more bytes rs groups new k log is =
     let there = groups_behind (has_groups (form_of bytes)) log.pieces in
-    subst (λ g. (kept_in_pieces (bytes ++ take k (frames_of g new)) ≡ Ok rs) ⊎ (kept_in_pieces (bytes ++ take k (frames_of g new)) ≡ Ok (rs ++ new))) (sym log.behind)
-    (subst (λ (l : List Record). (kept_in_pieces (bytes ++ take k (frames_of there new)) ≡ Ok l) ⊎ (kept_in_pieces (bytes ++ take k (frames_of there new)) ≡ Ok (l ++ new))) (sym log.records)
+    subst (λ g. (kept (bytes ++ take k (frames_of g new)) ≡ Ok rs) ⊎ (kept (bytes ++ take k (frames_of g new)) ≡ Ok (rs ++ new))) (sym log.behind)
+    (subst (λ (l : List Record). (kept (bytes ++ take k (frames_of there new)) ≡ Ok l) ⊎ (kept (bytes ++ take k (frames_of there new)) ≡ Ok (l ++ new))) (sym log.records)
     (frames_torn (form_of bytes) bytes log.pieces new k log.log is))

@@ -1,5 +1,5 @@
 -- What a log of pieces keeps, with one piece more, and with a front of one.
-use Rattle.std.proofs.Common.{◌≡◌, Bool, true, false, ◌⊎◌, inl, inr, ℕ, suc, ◌+◌, ◌-◌, ◌^◌, ◌<◌, ◌≤◌, List, [], ◌∷◌, ◌++◌, length, take, map, length-append, zero, None, Ok, refl, sym, ap, subst, ◌∙◌, append_assoc, arith, if◌then◌else◌}
+use Rattle.std.proofs.Common.{◌≡◌, Bool, true, false, ◌⊎◌, inl, inr, ℕ, suc, ◌+◌, ◌-◌, ◌<◌, List, [], ◌∷◌, ◌++◌, length, take, map, zero, None, Ok, refl, sym, ap, subst, ◌∙◌, append_assoc, arith, if◌then◌else◌}
 use Rattle.std.specs.Str.{bytes_eq}
 use Rattle.std.specs.List.{flat_map, AllByRecursion}
 use Rattle.std.proofs.lemmas.List.{append-nil, map_push, take_all, take-append-le}
@@ -8,14 +8,11 @@ use Rattle.std.proofs.lemmas.Bool.{cases_lt}
 use Rattle.std.proofs.lemmas.Grind.{flat_map-append}
 use Rattle.op.specs.declared.record.Record.{Record}
 use Rattle.op.specs.declared.record.Record.TheVariants.{Op as Kept, Resync, Recover}
-use Rattle.op.specs.Records.{AreOfOneFrame}
 use Rattle.op.specs.Format.{frame_spelling, spelling}
-use Rattle.op.specs.Reading.{records_of}
-use Rattle.op.proofs.Groups.{alone_read}
-use Rattle.translog.specs.Frames.{framed, log_of, first_frame, contents_in, AreContents, IsLog, LosesNothing, stays, ends, begins}
-use Rattle.translog.specs.Kept.{IsSpelt, IsTranslog}
-use Rattle.translog.specs.Pieces.{Form, first, second, header_of, has_groups, form_of, Piece, some_records, upgrade, content, records_in, piece_of, is_due, groups_after, groups_behind, piece_records, kept_in_pieces, AreInOrder, IsSpeltPiece, IsPieceLog, frames_of}
-use Rattle.translog.proofs.FramesLaws.{contents_in_log, contents_stay, torn_frame}
+use Rattle.translog.specs.Frames.{framed, log_of, first_frame, contents_in, AreContents, LosesNothing, stays, ends, begins}
+use Rattle.translog.specs.Kept.{kept, IsPieceLog, frames_of}
+use Rattle.translog.specs.Pieces.{Form, first, second, header_of, has_groups, form_of, Piece, some_records, upgrade, content, records_in, piece_of, is_due, groups_after, groups_behind, piece_records, AreInOrder, IsSpeltPiece}
+use Rattle.translog.proofs.FramesLaws.{contents_in_log, torn_frame}
 
 -- ---- whole pieces
 
@@ -32,13 +29,13 @@ pub form_of_log : (form : Form) (tail : List ℕ) → form_of (header_of form ++
 form_of_log first tail = refl
 form_of_log second tail = refl
 
-four : (form : Form) → length (header_of form) ≡ 4
+pub four : (form : Form) → length (header_of form) ≡ 4
 four first = refl
 four second = refl
 
 -- a log of pieces, and less than a frame behind it
-pub torn_pieces : (form : Form) (bytes rest : List ℕ) (ps : List Piece) → IsPieceLog form bytes ps → first_frame rest ≡ None → kept_in_pieces (bytes ++ rest) ≡ Ok (flat_map records_in ps)
-unfolding kept_in_pieces
+pub torn_pieces : (form : Form) (bytes rest : List ℕ) (ps : List Piece) → IsPieceLog form bytes ps → first_frame rest ≡ None → kept (bytes ++ rest) ≡ Ok (flat_map records_in ps)
+unfolding kept
 torn_pieces form bytes rest ps log none =
     let cs = map content ps in
     let held : bytes ++ rest ≡ header_of form ++ (flat_map framed cs ++ rest) = ap (λ l. l ++ rest) log.whole ∙ append_assoc (header_of form) (flat_map framed cs) rest in
@@ -46,8 +43,8 @@ torn_pieces form bytes rest ps log none =
     let found : contents_in (header_of form) (bytes ++ rest) ≡ Ok cs = ap (λ l. contents_in (header_of form) (l ++ rest)) log.whole ∙ contents_in_log (header_of form) cs rest (four form) (small_pieces ps log.each) none in
     rw (told, found) (spelt_pieces (has_groups form) 4 ps log.order log.each)
 
-pub whole_pieces : (form : Form) (bytes : List ℕ) (ps : List Piece) → IsPieceLog form bytes ps → kept_in_pieces bytes ≡ Ok (flat_map records_in ps)
-whole_pieces form bytes ps log = ap kept_in_pieces (sym (append-nil bytes)) ∙ torn_pieces form bytes [] ps log refl
+pub whole_pieces : (form : Form) (bytes : List ℕ) (ps : List Piece) → IsPieceLog form bytes ps → kept bytes ≡ Ok (flat_map records_in ps)
+whole_pieces form bytes ps log = ap kept (sym (append-nil bytes)) ∙ torn_pieces form bytes [] ps log refl
 
 -- ---- one piece more
 
@@ -80,11 +77,11 @@ piece_more form bytes ps p log is due =
 -- ---- a front of a piece, and of an upgrade with a group
 
 pub piece_torn : (form : Form) (bytes : List ℕ) (ps : List Piece) (p : Piece) (k : ℕ) → IsPieceLog form bytes ps → IsSpeltPiece p → is_due (groups_behind (has_groups form) ps) p ≡ true
-    → (kept_in_pieces (bytes ++ take k (framed (content p))) ≡ Ok (flat_map records_in ps)) ⊎ (kept_in_pieces (bytes ++ take k (framed (content p))) ≡ Ok (flat_map records_in ps ++ records_in p))
+    → (kept (bytes ++ take k (framed (content p))) ≡ Ok (flat_map records_in ps)) ⊎ (kept (bytes ++ take k (framed (content p))) ≡ Ok (flat_map records_in ps ++ records_in p))
 piece_torn form bytes ps p k log is due =
     elim (cases_lt k (4 + length (content p))) [
       | inl lt ↦ inl (torn_pieces form bytes (take k (framed (content p))) ps log (torn_frame (content p) k is.small lt))
-      | inr le ↦ inr (ap (λ l. kept_in_pieces (bytes ++ l)) (take_all k (framed (content p)) (omega arith)) ∙ whole_pieces form (bytes ++ framed (content p)) (ps ++ p ∷ []) (piece_more form bytes ps p log is due) ∙ ap (λ (l : List Record). Ok l) (records_more ps p))
+      | inr le ↦ inr (ap (λ l. kept (bytes ++ l)) (take_all k (framed (content p)) (omega arith)) ∙ whole_pieces form (bytes ++ framed (content p)) (ps ++ p ∷ []) (piece_more form bytes ps p log is due) ∙ ap (λ (l : List Record). Ok l) (records_more ps p))
     ]
 
 pub upgrade_is_spelt : IsSpeltPiece upgrade
@@ -106,29 +103,29 @@ no_records_more ps = records_more ps upgrade ∙ append-nil (flat_map records_in
 
 -- an upgrade and what is behind it
 upgrade_and_group : (form : Form) (bytes : List ℕ) (ps : List Piece) (rs : List Record) (k : ℕ) → IsPieceLog form bytes ps → IsSpeltPiece (some_records rs) → groups_behind (has_groups form) ps ≡ false
-    → (kept_in_pieces (bytes ++ take k (framed (content upgrade) ++ framed (frame_spelling rs))) ≡ Ok (flat_map records_in ps)) ⊎ (kept_in_pieces (bytes ++ take k (framed (content upgrade) ++ framed (frame_spelling rs))) ≡ Ok (flat_map records_in ps ++ rs))
+    → (kept (bytes ++ take k (framed (content upgrade) ++ framed (frame_spelling rs))) ≡ Ok (flat_map records_in ps)) ⊎ (kept (bytes ++ take k (framed (content upgrade) ++ framed (frame_spelling rs))) ≡ Ok (flat_map records_in ps ++ rs))
 upgrade_and_group form bytes ps rs k log is none =
     let mark = framed (content upgrade) in
     let group = framed (frame_spelling rs) in
     elim (cases_lt k 5) [
-      | inl lt ↦ inl (ap (λ l. kept_in_pieces (bytes ++ l)) (take-append-le k mark group (omega arith)) ∙ torn_pieces form bytes (take k mark) ps log (torn_frame (content upgrade) k (omega arith) (omega arith)))
+      | inl lt ↦ inl (ap (λ l. kept (bytes ++ l)) (take-append-le k mark group (omega arith)) ∙ torn_pieces form bytes (take k mark) ps log (torn_frame (content upgrade) k (omega arith) (omega arith)))
       | inr le ↦
           let same : k ≡ 5 + (k - 5) = omega arith in
           let parts : bytes ++ take k (mark ++ group) ≡ (bytes ++ mark) ++ take (k - 5) group = ap (λ n. bytes ++ take n (mark ++ group)) same ∙ ap (λ l. bytes ++ l) (take-append-add mark group (k - 5)) ∙ sym (append_assoc bytes mark (take (k - 5) group)) in
           let either = piece_torn form (bytes ++ mark) (ps ++ upgrade ∷ []) (some_records rs) (k - 5) (upgraded form bytes ps log none) is (group_due form ps rs) in
           elim either [
-            | inl e ↦ inl (ap kept_in_pieces parts ∙ e ∙ ap (λ (l : List Record). Ok l) (no_records_more ps))
-            | inr e ↦ inr (ap kept_in_pieces parts ∙ e ∙ ap (λ (l : List Record). Ok (l ++ rs)) (no_records_more ps))
+            | inl e ↦ inl (ap kept parts ∙ e ∙ ap (λ (l : List Record). Ok l) (no_records_more ps))
+            | inr e ↦ inr (ap kept parts ∙ e ∙ ap (λ (l : List Record). Ok (l ++ rs)) (no_records_more ps))
           ]
     ]
 
 pub frames_torn : (form : Form) (bytes : List ℕ) (ps : List Piece) (rs : List Record) (k : ℕ) → IsPieceLog form bytes ps → IsSpeltPiece (some_records rs)
-    → (kept_in_pieces (bytes ++ take k (frames_of (groups_behind (has_groups form) ps) rs)) ≡ Ok (flat_map records_in ps)) ⊎ (kept_in_pieces (bytes ++ take k (frames_of (groups_behind (has_groups form) ps) rs)) ≡ Ok (flat_map records_in ps ++ rs))
+    → (kept (bytes ++ take k (frames_of (groups_behind (has_groups form) ps) rs)) ≡ Ok (flat_map records_in ps)) ⊎ (kept (bytes ++ take k (frames_of (groups_behind (has_groups form) ps) rs)) ≡ Ok (flat_map records_in ps ++ rs))
 frames_torn form bytes ps rs k log is = by_due (is_due (groups_behind (has_groups form) ps) (some_records rs)) refl
   where
     by_due : (b : Bool) → is_due (groups_behind (has_groups form) ps) (some_records rs) ≡ b
-        → (kept_in_pieces (bytes ++ take k (if b then framed (frame_spelling rs) else framed (content upgrade) ++ framed (frame_spelling rs))) ≡ Ok (flat_map records_in ps))
-        ⊎ (kept_in_pieces (bytes ++ take k (if b then framed (frame_spelling rs) else framed (content upgrade) ++ framed (frame_spelling rs))) ≡ Ok (flat_map records_in ps ++ rs))
+        → (kept (bytes ++ take k (if b then framed (frame_spelling rs) else framed (content upgrade) ++ framed (frame_spelling rs))) ≡ Ok (flat_map records_in ps))
+        ⊎ (kept (bytes ++ take k (if b then framed (frame_spelling rs) else framed (content upgrade) ++ framed (frame_spelling rs))) ≡ Ok (flat_map records_in ps ++ rs))
     by_due true due = piece_torn form bytes ps (some_records rs) k log is due
     by_due false due = upgrade_and_group form bytes ps rs k log is (not_due (groups_behind (has_groups form) ps) rs due)
 
@@ -150,41 +147,12 @@ frames_more form bytes ps rs log is = by_due (is_due (groups_behind (has_groups 
           records_more (ps ++ upgrade ∷ []) (some_records rs) ∙ ap (λ (l : List Record). l ++ rs) (no_records_more ps),
         )
 
--- ---- a translog of the first form without groups
-
-abbrev alone : Record → Piece
-alone r = some_records (r ∷ [])
+-- ---- the first byte of a record is no upgrade's
 
 pub not_upgrade : (r : Record) → bytes_eq (spelling r) (5 ∷ []) ≡ false
 not_upgrade (Kept g o) = refl
 not_upgrade (Resync term g os) = refl
 not_upgrade (Recover term os) = refl
-
-alone_is_spelt : (r : Record) → IsSpelt r → IsSpeltPiece (alone r)
-unfolding piece_of
-alone_is_spelt r is = record { rules = is.rules; small = is.small; reads = rw (not_upgrade r, alone_read (spelling r) r is.reads) refl }
-
-all_alone : (rs : List Record) → AllByRecursion IsSpelt rs → AllByRecursion IsSpeltPiece (map alone rs)
-all_alone [] each = tt
-all_alone (r ∷ rs) each = (alone_is_spelt r each.0, all_alone rs each.1)
-
-order_alone : (rs : List Record) → AreInOrder false (map alone rs)
-order_alone [] = tt
-order_alone (r ∷ rs) = (refl, order_alone rs)
-
-contents_alone : (rs : List Record) → map content (map alone rs) ≡ map spelling rs
-contents_alone [] = refl
-contents_alone (r ∷ rs) = ap (λ l. spelling r ∷ l) (contents_alone rs)
-
-records_alone : (rs : List Record) → flat_map records_in (map alone rs) ≡ rs
-records_alone [] = refl
-records_alone (r ∷ rs) = ap (λ l. r ∷ l) (records_alone rs)
-
-pub translog_is : (bytes : List ℕ) (rs : List Record) → IsTranslog bytes rs → IsPieceLog first bytes (map (λ r. some_records (r ∷ [])) rs)
-translog_is bytes rs log = record { whole = log.whole ∙ ap (log_of (header_of first)) (sym (contents_alone rs)); order = order_alone rs; each = all_alone rs log.each }
-
-pub translog_kept : (bytes : List ℕ) (rs : List Record) → IsTranslog bytes rs → kept_in_pieces bytes ≡ Ok rs
-translog_kept bytes rs log = whole_pieces first bytes (map alone rs) (translog_is bytes rs log) ∙ ap (λ (l : List Record). Ok l) (records_alone rs)
 
 -- ---- what stays where nothing is lost
 
@@ -210,10 +178,3 @@ form_stays form old new told (stays e) = ap form_of e ∙ told
 form_stays form old new told (ends cs rest log is none) = ap form_of log.whole ∙ form_of_log form (flat_map framed cs)
 form_stays first old new told (begins m n lt was is) = absurd (other_form (sym told ∙ ap form_of was ∙ form_of_short m lt))
 form_stays second old new told (begins m n lt was is) = ap form_of is ∙ form_of_front n
-
-pub pieces_stay : (old new : List ℕ) → LosesNothing (header_of (form_of old)) old new → kept_in_pieces new ≡ kept_in_pieces old
-unfolding kept_in_pieces
-pieces_stay old new left =
-    let told : form_of new ≡ form_of old = form_stays (form_of old) old new refl left in
-    let same : contents_in (header_of (form_of old)) new ≡ contents_in (header_of (form_of old)) old = contents_stay (header_of (form_of old)) old new (four (form_of old)) left in
-    rw (told, same) refl

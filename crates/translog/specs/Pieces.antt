@@ -1,5 +1,5 @@
--- The records that a log of pieces keeps, in either form of the translog. The header is `RSX1` or `RSX2`; each frame is a piece: one record, a group of
--- records, or the upgrade, which has none. A log that begins `RSX1` has groups only behind an upgrade, and one that begins `RSX2` has no upgrade.
+-- The pieces that a translog is made of. Its header is `RSX1` or `RSX2`; each frame is a piece: one record, a group of records, or the upgrade, which has
+-- none. A log that begins `RSX1` has groups only behind an upgrade, and one that begins `RSX2` has no upgrade.
 use Rattle.std.specs.Prelude.{◌≡◌, ℕ, ◌+◌, ◌<◌, ◌^◌, Bool, true, false, not, ◌||◌, nat_lt, List, [], ◌∷◌, ◌++◌, length, map, take, Result, Ok, Err, codes, if◌then◌else◌}
 use Rattle.std.specs.List.{flat_map, AllByRecursion}
 use Rattle.std.specs.Str.{bytes_eq}
@@ -9,9 +9,7 @@ use Rattle.op.specs.Records.{AreOfOneFrame}
 use Rattle.op.specs.FormatFault as op
 use Rattle.op.specs.Format.{frame_spelling}
 use Rattle.op.specs.Reading.{records_of}
-use Rattle.translog.specs.Fault.{Fault, damaged, too_large}
-use Rattle.translog.specs.declared.frames.Torn.{Torn}
-use Rattle.translog.specs.Frames.{framed, log_of, contents_in, mended, IsTorn}
+use Rattle.translog.specs.Fault.{Fault, damaged}
 
 -- the form of a log, the one that its header tells
 pub data Form : Type 0 where
@@ -81,12 +79,6 @@ piece_records groups offset (c ∷ cs) = do
   rs ← piece_records (groups_after groups p) (offset + (4 + length c)) cs
   Ok (records_in p ++ rs)
 
--- the records that opening a log of pieces gives, or why it gives none
-unfoldable pub kept_in_pieces : List ℕ → Result (List Record) Fault
-kept_in_pieces bytes = do
-  contents ← contents_in (own_header bytes) bytes
-  piece_records (has_groups (form_of bytes)) 4 contents
-
 -- each piece may stand behind those before it
 abbrev pub AreInOrder : Bool → List Piece → Type 0
 AreInOrder groups [] = Unit {0}
@@ -102,12 +94,6 @@ pub record IsSpeltPiece (p : Piece) : Type 0 where
   pub rules : HasRules p
   pub small : length (content p) < 2 ^ 32
   pub reads : piece_of (content p) ≡ Ok p
-
--- the bytes are the header of this form and the frames of these pieces
-pub record IsPieceLog (form : Form) (bytes : List ℕ) (ps : List Piece) : Type 0 where
-  pub whole : bytes ≡ log_of (header_of form) (map content ps)
-  pub order : AreInOrder (has_groups form) ps
-  pub each : AllByRecursion IsSpeltPiece ps
 
 -- a content is a piece with these records, due where groups may stand or don't yet; and whether groups may stand behind it
 pub record IsPieceAt (groups : Bool) (bytes : List ℕ) (rs : List Record) (after : Bool) : Type 0 where
@@ -127,35 +113,3 @@ pub record ArePieces (groups : Bool) (contents : List (List ℕ)) (rs : List Rec
   pub each : AllByRecursion IsSpeltPiece pieces
   pub records : rs ≡ flat_map records_in pieces
   pub behind : after ≡ groups_behind groups pieces
-
--- the bytes are a log of pieces with these records; and whether groups may stand behind them
-pub record IsTranslogOfPieces (bytes : List ℕ) (rs : List Record) (groups : Bool) : Type 0 where
-  pub pieces : List Piece
-  pub log : IsPieceLog (form_of bytes) bytes pieces
-  pub records : rs ≡ flat_map records_in pieces
-  pub behind : groups ≡ groups_behind (has_groups (form_of bytes)) pieces
-
--- the bytes are a log of pieces with these records, but for what is torn; and whether groups may stand behind them
-pub record IsTornLog (bytes : List ℕ) (rs : List Record) (torn : Torn) (groups : Bool) : Type 0 where
-  pub pieces : List Piece
-  pub torn_at : IsTorn (own_header bytes) bytes (map content pieces) torn
-  pub log : IsPieceLog (form_of bytes) (mended (own_header bytes) bytes torn) pieces
-  pub records : rs ≡ flat_map records_in pieces
-  pub behind : groups ≡ groups_behind (has_groups (form_of bytes)) pieces
-
--- a log of pieces as it is seen: the device that holds it, and whether groups may stand behind what it holds
-pub record Pieced (D : Type 0) : Type 0 where
-  pub device : D
-  pub groups : Bool
-
--- what is appended for records that one frame has: that frame, and before a first group the upgrade's
-abbrev pub frames_of : Bool → List Record → List ℕ
-frames_of groups rs = if is_due groups (some_records rs) then framed (frame_spelling rs) else framed (content upgrade) ++ framed (frame_spelling rs)
-
--- that, or that the frame is too large, as one record's may be
-abbrev pub frames_or : Bool → List Record → Result (List ℕ) Fault
-frames_or groups rs = if nat_lt 4294967295 (length (frame_spelling rs)) then Err too_large else Ok (frames_of groups rs)
-
--- whether an upgrade's frame stands in front
-abbrev pub has_upgrade : List ℕ → Bool
-has_upgrade bytes = bytes_eq (take 5 bytes) (framed (content upgrade))

@@ -1,27 +1,31 @@
 //! Laws of translogs. The functions do nothing: each has a law as its contract.
 
-ghost use Rattle.std.specs.Prelude.{◌≡◌, ◌⊎◌, ◌||◌, Bool, ℕ, List, [], ◌∷◌, ◌++◌, length, map, take, Ok};
+ghost use Rattle.std.specs.Prelude.{◌≡◌, ◌⊎◌, ◌||◌, Bool, false, ℕ, List, ◌++◌, length, take, Ok};
 ghost use Rattle.op.specs.declared.record.Record.{Record};
-ghost use Rattle.op.specs.Format.{spelling};
-ghost use Rattle.translog.specs.Frames.{framed, IsLog, LosesNothing};
-ghost use Rattle.std.specs.List.{flat_map};
-ghost use Rattle.translog.specs.Kept.{header, kept, IsSpelt, IsTranslog};
-ghost use Rattle.translog.specs.Pieces.{first, form_of, frames_of, has_upgrade, header_of, kept_in_pieces, records_in, some_records, Form, IsPieceLog, IsSpeltPiece, IsTranslogOfPieces, Piece};
+ghost use Rattle.translog.specs.Frames.{IsLog, LosesNothing};
+ghost use Rattle.translog.specs.Kept.{frames_of, has_upgrade, kept, IsFirstLog, IsTranslog};
+ghost use Rattle.translog.specs.Pieces.{own_header, some_records, IsSpeltPiece};
 
 /// A translog of whole frames keeps the records that it was made of.
 pub fn whole_frames_are_kept()
-    ensures { (bytes : List ℕ) (rs : List Record) → IsTranslog bytes rs → kept bytes ≡ Ok rs }
+    ensures { (bytes : List ℕ) (rs : List Record) (groups : Bool) → IsTranslog bytes rs groups → kept bytes ≡ Ok rs }
 {}
 
-/// A frame that was added is one record more.
-pub fn one_record_more()
-    ensures { (bytes : List ℕ) (rs : List Record) (r : Record) → IsTranslog bytes rs → IsSpelt r → IsTranslog (bytes ++ framed (spelling r)) (rs ++ r ∷ []) }
+/// What was written in the first form, one record a frame, keeps its records.
+pub fn the_first_form_is_kept()
+    ensures { (bytes : List ℕ) (rs : List Record) → IsFirstLog bytes rs → IsTranslog bytes rs false }
 {}
 
-/// After an append that failed, the next opening gives the records without the new one or with it.
+/// The frames that were added for some records, a group's with an upgrade before it where none may stand yet, are those records more.
+pub fn records_more()
+    ensures { (bytes : List ℕ) (rs : List Record) (groups : Bool) (new : List Record) → IsTranslog bytes rs groups → IsSpeltPiece (some_records new)
+        → IsTranslog (bytes ++ frames_of groups new) (rs ++ new) (groups || has_upgrade (frames_of groups new)) }
+{}
+
+/// After an append that failed, the next opening gives the records without the new ones or with all of them.
 pub fn torn_append()
-    ensures { (bytes : List ℕ) (rs : List Record) (r : Record) (k : ℕ) → IsTranslog bytes rs → IsSpelt r
-        → (kept (bytes ++ take k (framed (spelling r))) ≡ Ok rs) ⊎ (kept (bytes ++ take k (framed (spelling r))) ≡ Ok (rs ++ r ∷ [])) }
+    ensures { (bytes : List ℕ) (rs : List Record) (groups : Bool) (new : List Record) (k : ℕ) → IsTranslog bytes rs groups → IsSpeltPiece (some_records new)
+        → (kept (bytes ++ take k (frames_of groups new)) ≡ Ok rs) ⊎ (kept (bytes ++ take k (frames_of groups new)) ≡ Ok (rs ++ new)) }
 {}
 
 /// What an opening leaves is a beginning of what was held, or of the header.
@@ -36,33 +40,5 @@ pub fn an_opening_leaves_whole_frames()
 
 /// What an opening leaves keeps the same records, or is refused for the same fault.
 pub fn an_opening_keeps_the_records()
-    ensures { (old new : List ℕ) → LosesNothing header old new → kept new ≡ kept old }
-{}
-
-/// A log of pieces keeps their records.
-pub fn whole_pieces_are_kept()
-    ensures { (form : Form) (bytes : List ℕ) (ps : List Piece) → IsPieceLog form bytes ps → kept_in_pieces bytes ≡ Ok (flat_map records_in ps) }
-{}
-
-/// A translog whose frames are records is a log of pieces, of the first form, and keeps the same records.
-pub fn a_translog_is_a_log_of_pieces()
-    ensures pieces { (bytes : List ℕ) (rs : List Record) → IsTranslog bytes rs → IsPieceLog first bytes (map (λ r. some_records (r ∷ [])) rs) }
-    ensures records { (bytes : List ℕ) (rs : List Record) → IsTranslog bytes rs → kept_in_pieces bytes ≡ Ok rs }
-{}
-
-/// The frames that were added for some records, a group's with an upgrade before it where none may stand yet, are those records more.
-pub fn records_more_together()
-    ensures { (bytes : List ℕ) (rs : List Record) (groups : Bool) (new : List Record) → IsTranslogOfPieces bytes rs groups → IsSpeltPiece (some_records new)
-        → IsTranslogOfPieces (bytes ++ frames_of groups new) (rs ++ new) (groups || has_upgrade (frames_of groups new)) }
-{}
-
-/// After an append for some records that failed, the next opening gives the records without them or with all of them.
-pub fn torn_together()
-    ensures { (bytes : List ℕ) (rs : List Record) (groups : Bool) (new : List Record) (k : ℕ) → IsTranslogOfPieces bytes rs groups → IsSpeltPiece (some_records new)
-        → (kept_in_pieces (bytes ++ take k (frames_of groups new)) ≡ Ok rs) ⊎ (kept_in_pieces (bytes ++ take k (frames_of groups new)) ≡ Ok (rs ++ new)) }
-{}
-
-/// What an opening leaves of a log of pieces keeps the same records, or is refused for the same fault.
-pub fn an_opening_keeps_the_pieces()
-    ensures { (old new : List ℕ) → LosesNothing (header_of (form_of old)) old new → kept_in_pieces new ≡ kept_in_pieces old }
+    ensures { (old new : List ℕ) → LosesNothing (own_header old) old new → kept new ≡ kept old }
 {}

@@ -8,7 +8,7 @@ pub mod frames;
 pub mod laws;
 pub mod log;
 pub mod memory;
-pub mod pieces;
+mod pieces;
 pub mod refused;
 pub mod synced;
 
@@ -18,6 +18,5 @@ pub use file::FileDevice;
 pub use frames::{Frame, Frames, Torn};
 pub use log::Translog;
 pub use memory::MemDevice;
-pub use pieces::PieceLog;
 pub use refused::Refused;
 pub use synced::Synced;

@@ -104,6 +104,10 @@ impl Nodes {
                 let write = write.copy(alloc)?;
                 self.at_copy(alloc, *copy, Input::Write(write))
             }
+            Event::Bulk(copy, writes) => {
+                let writes = writes.copy(alloc)?;
+                self.at_copy(alloc, *copy, Input::Bulk(writes))
+            }
             Event::Get(copy, id) => {
                 let id = id.copy(alloc)?;
                 self.at_copy(alloc, *copy, Input::Get(id))
@@ -117,6 +121,10 @@ impl Nodes {
             Event::TornWrite(copy, write, is_kept) => {
                 let write = write.copy(alloc)?;
                 self.tear_at(alloc, *copy, Input::Write(write), *is_kept)
+            }
+            Event::TornBulk(copy, writes, is_kept) => {
+                let writes = writes.copy(alloc)?;
+                self.tear_at(alloc, *copy, Input::Bulk(writes), *is_kept)
             }
             Event::TornDelivery(number, is_kept) => self.tear_delivery(alloc, *number, *is_kept),
         }

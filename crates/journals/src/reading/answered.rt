@@ -2,7 +2,7 @@
 ghost use Rattle.std.specs.Prelude.{◌≡◌, [], ◌∷◌, map, IfOk, IfSome};
 ghost use Rattle.serde_json.specs.View.{view};
 ghost use Rattle.journals.specs.Answered as spec;
-ghost use Rattle.replica.specs.declared.output.Answer.TheVariants.{Wrote, Found};
+ghost use Rattle.replica.specs.declared.output.Answer.TheVariants.{Found};
 ghost use Rattle.replica.specs.Fault.{name_of};
 ghost use Rattle.master.specs.Fault.{name_of as master_name};
 ghost use Rattle.serde_json.specs.Data.{string};
@@ -10,7 +10,7 @@ ghost use Rattle.serde_json.specs.Data.{string};
 use crate::reading::items::{natural_of, source_of, text_of, worded};
 use crate::reading::wrong::Wrong;
 use master::MasterFault;
-use replica::{Answer, CopyFault, Document, Outcome, Written};
+use replica::{Answer, CopyFault, Document, Item, Items, Outcome, Written};
 use serde_json::Value;
 use std::alloc::Global;
 use translog::LogFault;
@@ -23,6 +23,7 @@ pub(crate) fn answer_of(alloc: Global, value: &Value) -> Result<Answer, Wrong>
     let (word, rest) = worded(value)?;
     match (word, rest) {
         ("wrote", numbers) => Ok(Answer::Wrote(written_of(numbers)?)),
+        ("bulked", items) => Ok(Answer::Bulked(bulked_of(alloc, items)?)),
         ("found", numbers) => Ok(Answer::Found(document_of(alloc, numbers)?)),
         ("point", [point]) => Ok(Answer::Point(natural_of(point)?)),
         (word, []) => bare_of(word),
@@ -31,7 +32,7 @@ pub(crate) fn answer_of(alloc: Global, value: &Value) -> Result<Answer, Wrong>
 }
 
 fn written_of(items: &[Value]) -> Result<Written, Wrong>
-    ensures { IfOk result (λ w. map view items.now ≡ spec.answer_items (Wrote w)) }
+    ensures { IfOk result (λ w. map view items.now ≡ spec.written_data w) }
 {
     match items {
         [seq, term, version, outcome] => Ok(Written {
@@ -41,6 +42,42 @@ fn written_of(items: &[Value]) -> Result<Written, Wrong>
             outcome: outcome_of(text_of(outcome)?)?,
         }),
         _ => Err(Wrong::Wanted("no copy answers this")),
+    }
+}
+
+/// What became of the writes of a bulk.
+fn bulked_of(alloc: Global, items: &[Value]) -> Result<Items, Wrong>
+    ensures { IfOk result (λ all. map view items.now ≡ map spec.item_data all) }
+{
+    let mut found = Vec::new(alloc);
+    'items: for item in items {
+        found.push(item_of(item)?)?;
+    }
+    Ok(Items::from_vec(found))
+}
+
+#[tactic(auto, unfolding(crate::specs::Answered::item_data, crate::specs::Answered::fault_data))]
+fn item_of(value: &Value) -> Result<Item, Wrong>
+    ensures { IfOk result (λ item. view value.now ≡ spec.item_data item) }
+{
+    let (word, rest) = worded(value)?;
+    match (word, rest) {
+        ("wrote", numbers) => Ok(Item::Wrote(written_of(numbers)?)),
+        ("refused", [name]) => Ok(Item::Refused(item_fault_named(text_of(name)?)?)),
+        _ => Err(Wrong::Wanted("no write of a bulk is answered so")),
+    }
+}
+
+/// What a write of a bulk is refused for.
+fn item_fault_named(name: &str) -> Result<CopyFault, Wrong>
+    ensures name { IfOk result (λ f. name.now ≡ name_of f) }
+    ensures bare { IfOk result (λ f. spec.copy_log f ≡ []) }
+{
+    match name {
+        "VersionConflict" => Ok(CopyFault::VersionConflict),
+        "WindowFull" => Ok(CopyFault::WindowFull),
+        "Exhausted" => Ok(CopyFault::Exhausted),
+        _ => Err(Wrong::Wanted("no write of a bulk is refused so")),
     }
 }
 

@@ -7,7 +7,7 @@ ghost use Rattle.journals.specs.Items.{natural};
 use crate::reading::items::{copy_of, id_of, message_of, natural_of, source_of, worded};
 use crate::reading::wrong::{Wrong, both};
 use master::Request;
-use replica::{Condition, Input, OpType, Write};
+use replica::{Condition, Input, OpType, Write, Writes};
 use serde_json::Value;
 use std::alloc::Global;
 
@@ -20,11 +20,34 @@ pub(crate) fn input_of(alloc: Global, value: &Value) -> Result<Input, Wrong>
     match (word, rest) {
         ("get", [id]) => Ok(Input::Get(id_of(alloc, id)?)),
         ("take", [message]) => Ok(Input::Take(message_of(alloc, message)?)),
+        ("bulk", writes) => Ok(Input::Bulk(writes_of(alloc, writes)?)),
         ("report", [id]) => Ok(Input::Report(copy_of(id)?)),
         ("refresh", []) => Ok(Input::Refresh),
         ("restart", []) => Ok(Input::Restart),
         _ => Ok(Input::Write(write_of(alloc, word, rest)?)),
     }
+}
+
+/// The writes of a bulk, each an array as where it is asked alone.
+fn writes_of(alloc: Global, items: &[Value]) -> Result<Writes, Wrong>
+    ensures { IfOk result (λ ws. map view items.now ≡ map spec.client_data ws) }
+{
+    let mut found = Vec::new(alloc);
+    'writes: for item in items {
+        found.push(client_of(alloc, item)?)?;
+    }
+    match Writes::of(found) {
+        Some(writes) => Ok(writes),
+        None => Err(Wrong::Wanted("a bulk of 1 to 1,024 writes is wanted")),
+    }
+}
+
+#[tactic(auto, unfolding(crate::specs::Asked::client_data))]
+fn client_of(alloc: Global, value: &Value) -> Result<Write, Wrong>
+    ensures { IfOk result (λ w. view value.now ≡ spec.client_data w) }
+{
+    let (word, rest) = worded(value)?;
+    write_of(alloc, word, rest)
 }
 
 fn write_of(alloc: Global, word: &str, rest: &[Value]) -> Result<Write, Wrong>

@@ -7,7 +7,7 @@ ghost use Rattle.journals.specs.Items.{natural};
 
 use crate::writing::items::{add_text, worded};
 use master::MasterFault;
-use replica::{Answer, CopyFault, Outcome};
+use replica::{Answer, CopyFault, Item, Outcome, Written};
 use serde_json::Value;
 use std::alloc::{AllocError, Global};
 use translog::LogFault;
@@ -19,10 +19,8 @@ pub(crate) fn answer_value(alloc: Global, answer: &Answer) -> Result<Value, Allo
 {
     let mut items = worded(alloc, answer_word(answer))?;
     match answer {
-        Answer::Wrote(written) => {
-            add_numbers(&mut items, written.seq, written.term, written.version)?;
-            add_text(alloc, &mut items, outcome_word(written.outcome))?;
-        }
+        Answer::Wrote(written) => add_written(alloc, &mut items, *written)?,
+        Answer::Bulked(all) => add_items(alloc, &mut items, all.as_slice())?,
         Answer::Found(document) => {
             add_numbers(&mut items, document.seq, document.term, document.version)?;
             add_text(alloc, &mut items, document.source.as_str())?;
@@ -38,6 +36,7 @@ fn answer_word(answer: &Answer) -> &'static str
 {
     match answer {
         Answer::Wrote(_) => "wrote",
+        Answer::Bulked(_) => "bulked",
         Answer::Taken => "taken",
         Answer::Stale => "stale",
         Answer::Repeated => "repeated",
@@ -45,6 +44,37 @@ fn answer_word(answer: &Answer) -> &'static str
         Answer::Found(_) => "found",
         Answer::Missing => "missing",
         Answer::Point(_) => "point",
+    }
+}
+
+fn add_written(alloc: Global, items: &mut Vec<Value>, written: Written) -> Result<(), AllocError>
+    ensures { OnOk result (map view items.new.items ≡ map view items.old.items ++ spec.written_data written) }
+{
+    add_numbers(items, written.seq, written.term, written.version)?;
+    add_text(alloc, items, outcome_word(written.outcome))
+}
+
+/// What became of the writes of a bulk.
+fn add_items(alloc: Global, items: &mut Vec<Value>, all: &[Item]) -> Result<(), AllocError>
+    ensures { OnOk result (map view items.new.items ≡ map view items.old.items ++ map spec.item_data all.now) }
+{
+    'items: for item in all {
+        items.push(item_value(alloc, item)?)?;
+    }
+    Ok(())
+}
+
+#[tactic(auto, unfolding(crate::specs::Answered::item_data))]
+fn item_value(alloc: Global, item: &Item) -> Result<Value, AllocError>
+    ensures { IfOk result (λ v. view v ≡ spec.item_data item.now) }
+{
+    match item {
+        Item::Wrote(written) => {
+            let mut items = worded(alloc, "wrote")?;
+            add_written(alloc, &mut items, *written)?;
+            Ok(Value::Array(items))
+        }
+        Item::Refused(fault) => fault_value(alloc, fault),
     }
 }
 

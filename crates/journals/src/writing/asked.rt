@@ -18,6 +18,7 @@ pub(crate) fn input_value(alloc: Global, input: &Input) -> Result<Value, AllocEr
     let mut items = worded(alloc, input_word(input))?;
     match input {
         Input::Write(write) => add_write(alloc, &mut items, write)?,
+        Input::Bulk(writes) => add_clients(alloc, &mut items, writes.as_slice())?,
         Input::Take(message) => items.push(message_value(alloc, message)?)?,
         Input::Report(id) => items.push(Value::from(*id))?,
         Input::Get(id) => add_text(alloc, &mut items, id.as_str())?,
@@ -31,6 +32,7 @@ fn input_word(input: &Input) -> &'static str
 {
     match input {
         Input::Write(write) => write_word(&write.kind),
+        Input::Bulk(_) => "bulk",
         Input::Take(_) => "take",
         Input::Report(_) => "report",
         Input::Refresh => "refresh",
@@ -96,6 +98,25 @@ fn add_write(alloc: Global, items: &mut Vec<Value>, write: &Write) -> Result<(),
             add_text(alloc, items, write.id.as_str())
         }
     }
+}
+
+/// The writes of a bulk, each an array as where it is asked alone.
+fn add_clients(alloc: Global, items: &mut Vec<Value>, writes: &[Write]) -> Result<(), AllocError>
+    ensures { OnOk result (map view items.new.items ≡ map view items.old.items ++ map spec.client_data writes.now) }
+{
+    'writes: for write in writes {
+        items.push(client_value(alloc, write)?)?;
+    }
+    Ok(())
+}
+
+#[tactic(auto, unfolding(crate::specs::Asked::client_data))]
+fn client_value(alloc: Global, write: &Write) -> Result<Value, AllocError>
+    ensures { IfOk result (λ v. view v ≡ spec.client_data write.now) }
+{
+    let mut items = worded(alloc, write_word(&write.kind))?;
+    add_write(alloc, &mut items, write)?;
+    Ok(Value::Array(items))
 }
 
 /// What the master was asked.

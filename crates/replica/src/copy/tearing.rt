@@ -8,7 +8,7 @@ ghost use Rattle.replica.specs.Step.{copy_step, torn};
 use crate::copy::Copy;
 use crate::fault::CopyFault;
 use crate::input::Input;
-use crate::planned::Planned;
+use crate::planned::{Planned, PlannedAll};
 use crate::prepared::Prepared;
 use op::Record;
 use std::alloc::{AllocError, Global};
@@ -45,6 +45,9 @@ impl<D: LogDevice> Copy<D> {
         match self.prepare(alloc, input) {
             Ok(Prepared::Kept(frame, planned)) => {
                 self.restart_with(alloc, records, frame, planned)
+            }
+            Ok(Prepared::KeptAll(frame, planned)) => {
+                self.restart_with_all(alloc, records, frame, planned)
             }
             Ok(prepared) => {
                 drop(prepared);
@@ -112,6 +115,57 @@ impl<D: LogDevice> Copy<D> {
         let mut records = records;
         if let Err(refused) = records.push(next_record) {
             drop(refused);
+            drop(records);
+            drop(frame);
+            return Err(AllocError);
+        }
+        let Ok((reopened, output)) = self.state.stage_reopen(alloc, records) else {
+            drop(frame);
+            return Err(AllocError);
+        };
+        drop(output);
+        match self.log.append(frame) {
+            Ok(()) => {
+                self.state.reopen(reopened);
+                Ok(())
+            }
+            Err(_) => {
+                drop(reopened);
+                Err(AllocError)
+            }
+        }
+    }
+
+    /// Keeps the records of a bulk that is ready, and restarts; everything that takes memory comes before the append.
+    fn restart_with_all(
+        &mut self,
+        alloc: Global,
+        records: Vec<Record>,
+        frame: Frame,
+        planned: PlannedAll,
+    ) -> Result<(), AllocError>
+        requires in_memory { D.in_memory ≡ true }
+        requires ready { IsReady self.old (Prepared.KeptAll frame planned) }
+        requires records { records.items ≡ self.old.copy.records }
+        requires rules { All IsRecord records.items }
+        ensures copy { OnOk result (self.new.copy ≡ opened self.old.copy.id self.old.copy.birth self.old.copy.mapping (self.old.copy.records ++ planned.records.items)) }
+        ensures id { OnOk result (self.new.copy.id ≡ self.old.copy.id) }
+        ensures stays { OnErr result (self.new.copy ≡ self.old.copy) }
+        ensures open { self.new.closed ≡ false }
+    {
+        let PlannedAll {
+            records: more,
+            role,
+            output,
+            ..
+        } = planned;
+        drop(role);
+        drop(output);
+        let mut more = more;
+        let mut records = records;
+        if let Err(refused) = records.append(&mut more) {
+            drop(refused);
+            drop(more);
             drop(records);
             drop(frame);
             return Err(AllocError);

@@ -1,5 +1,5 @@
 //! What a primary makes of a write.
-ghost use Rattle.std.specs.Prelude.{◌≡◌, ◌≤◌, ◌^◌, false, IfOk, IfErr};
+ghost use Rattle.std.specs.Prelude.{◌≡◌, ◌≤◌, ◌^◌, false, Some, IfOk, IfErr};
 ghost use Rattle.doc.specs.Outcome.{Gives};
 ghost use Rattle.op.specs.Checkpoint.{checkpoint_of};
 ghost use Rattle.replica.specs.Fault.{fault_of, is_log};
@@ -91,9 +91,15 @@ fn wrote(op: &Op, outcome: Outcome) -> Answer
 }
 
 /// Why a write is refused, by the checkpoint, its number, and the last operation on its id.
-fn check(known: u64, seq: u64, last: Option<Last>, kind: &OpType) -> Result<(), CopyFault>
+pub(super) fn check(
+    known: u64,
+    seq: u64,
+    last: Option<Last>,
+    kind: &OpType,
+) -> Result<(), CopyFault>
     requires { known ≤ 2 ^ 63 }
     ensures gives { Gives fault_of (λ u. u) result (first_fault (write_faults_by (is_allowed_by last kind.now) known seq (version_of last))) }
+    ensures told { IfErr result (λ e. fault_of e ≡ Some e) }
     ensures no_log { IfErr result (λ e. is_log e ≡ false) }
 {
     if !writing::is_allowed(last, kind) {
@@ -109,7 +115,7 @@ fn check(known: u64, seq: u64, last: Option<Last>, kind: &OpType) -> Result<(), 
 }
 
 /// The record of an operation, beside how many operations were known to be everywhere.
-fn kept_record(known: u64, op: Op) -> Record
+pub(super) fn kept_record(known: u64, op: Op) -> Record
     requires { known ≤ 2 ^ 63 }
     ensures { result ≡ Record.Op (checkpoint_of known) op }
 {

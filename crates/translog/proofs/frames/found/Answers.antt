@@ -1,5 +1,4 @@
-use Rattle.std.proofs.Common.{◌≡◌, ◌≤◌, ◌++◌, ◌∙◌, Ok, sym, length, map, arith}
-use Rattle.translog.specs.Frames.{contents_in, log_of}
+use Rattle.std.proofs.Common.{◌≤◌, ◌∙◌, sym, length, map, arith}
 use Rattle.translog.proofs.FramesLaws.{contents_in_other, contents_in_short, contents_in_read, torn_header, torn_log}
 use Rattle.translog.proofs.frames.found.Goals as goal
 

@@ -1,16 +1,18 @@
-use Rattle.std.proofs.Common.{◌≡◌, ◌++◌, ◌∷◌, [], List, ap, subst, ◌∙◌}
+use Rattle.std.proofs.Common.{◌≡◌, ◌++◌, ◌∷◌, [], List, ap, ◌∙◌}
+use Rattle.std.specs.Prelude.{All}
+use Rattle.std.proofs.lemmas.List.Elements.{All-push}
 use Rattle.op.specs.declared.record.Record.{Record}
+use Rattle.op.specs.Records.{IsRecord}
 use Rattle.replica.specs.Copy.{Copy}
-use Rattle.replica.specs.Logged.{Logged, IsLogged}
-use Rattle.replica.proofs.LogLaws.{grown}
+use Rattle.replica.proofs.LogLaws.{grown_by}
 use Rattle.replica.proofs.copy.Copy.restart_with.Goals as goal
+
+pub stage_reopen-requires : goal.stage_reopen-requires
+stage_reopen-requires g c = rw c.in_default.ensures.items (All-push IsRecord c.args.records.items c.args.planned.next_record c.requires.rules c.requires.ready.2.spelt.rules)
 
 pub invariant_of-self : goal.invariant_of-self
 invariant_of-self g c opened =
     let s = c.args.self.now in
-    let ready = c.requires.ready in
-    let logged : IsLogged s = subst (λ (l : Logged). IsLogged l) c.self.view_is c.self.invariant in
-    let log : g.D.LogDevice.bytes c.append.new.self ≡ s.log ++ c.args.frame = c.in-Ok-append.ensures.ok ∙ ap (λ (l : Logged). l.log ++ c.args.frame) c.self.view_is in
     let records : c.reopen.new.self.records ≡ s.copy.records ++ c.args.planned.next_record ∷ [] =
     ap (λ (x : Copy). x.records) (c.reopen.ensures ∙ c.in-Ok.ensures.opened) ∙ c.in_default.ensures.items ∙ ap (λ (rs : List Record). rs ++ c.args.planned.next_record ∷ []) c.requires.records in
-    rw (log, records) (grown s c.args.planned.next_record c.args.frame logged ready.0 ready.2 ready.3)
+    grown_by _ s (c.args.planned.next_record ∷ []) c.args.frame _ _ _ c.self.view_is c.self.invariant opened c.requires.ready.2 c.in-Ok-append.ensures.ok records c.in-Ok-append.ensures.groups

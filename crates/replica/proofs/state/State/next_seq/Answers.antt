@@ -3,7 +3,7 @@ use Rattle.std.proofs.lemmas.Int.{to_z-of_z}
 use Rattle.op.specs.Checkpoint.{known}
 use Rattle.op.specs.Operations.{next_seq}
 use Rattle.replica.specs.Copy.{Copy, operations}
-use Rattle.replica.proofs.Writes.{known-checkpoint}
+use Rattle.replica.proofs.WriteLaws.{known-checkpoint}
 use Rattle.replica.proofs.state.State.next_seq.Goals as goal
 
 pub returns-clause-next : goal.returns-clause-next

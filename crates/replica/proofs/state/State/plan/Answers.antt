@@ -10,7 +10,7 @@ use Rattle.replica.specs.Standing.{IsStanding}
 use Rattle.doc.specs.Outcome.{Fails}
 use Rattle.replica.specs.Fault.{fault_of}
 use Rattle.replica.specs.Step.{first_fault, write_faults, write_faults_by}
-use Rattle.replica.proofs.Writes.{write_refused, write_spelled, faults-last, next_op, version_of-last, is_live-last}
+use Rattle.replica.proofs.WriteLaws.{write_refused, write_spelled, faults-last, next_op, version_of-last, is_live-last}
 use Rattle.replica.proofs.state.State.plan.Goals as goal
 
 pub returns-in-Err-clause-gives : goal.returns-in-Err-clause-gives

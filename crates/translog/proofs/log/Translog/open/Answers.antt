@@ -1,4 +1,4 @@
 use Rattle.translog.proofs.log.Translog.open.Goals as goal
 
-pub returns-in-Ok-clause-opened : goal.returns-in-Ok-clause-opened
-returns-in-Ok-clause-opened g c = rw c.over-log.ensures at c.in-Ok.ensures.opened
+pub returns-in-Ok-clause-left : goal.returns-in-Ok-clause-left
+returns-in-Ok-clause-left g c = rw c.over-log.ensures at c.in-Ok.ensures.left

@@ -1,10 +1,14 @@
-use Rattle.std.proofs.Common.{refl}
-use Rattle.translog.specs.Kept.{header}
-use Rattle.translog.proofs.FramesLaws.{opened_of}
+use Rattle.translog.proofs.KeptLaws.{left_by}
+use Rattle.translog.proofs.PieceReading.{reopened}
 use Rattle.translog.proofs.log.Translog.reopen.Goals as goal
 
-pub returns-clause-opened : goal.returns-clause-opened
-returns-clause-opened g c =
+pub returns-clause-whole : goal.returns-clause-whole
+returns-clause-whole g c =
     let read = c.in_ok-records.ensures in
     let mended = c.in_ok-mend.ensures in
-    opened_of header header _ _ _ _ c.in_ok-records.torn _ _ _ refl read.held read.torn mended.ok mended.counts read.counts
+    reopened _ _ _ _ c.in_ok-records.torn _ _ read.held read.torn mended.ok mended.groups
+
+pub returns-clause-left : goal.returns-clause-left
+returns-clause-left g c =
+    let read = c.in_ok-records.ensures in
+    left_by _ _ _ _ c.in_ok-records.torn _ read.held read.torn c.in_ok-mend.ensures.ok

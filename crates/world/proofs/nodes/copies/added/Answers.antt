@@ -4,13 +4,14 @@ use Rattle.doc.specs.Mapping.{MappingData}
 use Rattle.op.specs.declared.record.Record.{Record}
 use Rattle.translog.specs.Fault.{Fault}
 use Rattle.translog.specs.Frames.{contents_in, contents_of}
-use Rattle.translog.specs.Kept.{kept, records_from}
+use Rattle.translog.specs.Kept.{kept}
+use Rattle.translog.specs.Pieces.{piece_records}
 use Rattle.replica.specs.Copy.{opened}
 use Rattle.replica.specs.declared.role.Birth.TheVariants.{Added}
 use Rattle.world.proofs.nodes.copies.added.Goals as goal
 
 kept_empty : kept [] ≡ Ok []
-unfolding kept contents_in contents_of records_from
+unfolding kept contents_in contents_of piece_records
 kept_empty = refl
 
 no_records : (rs : List Record) → kept [] ≡ Ok rs → rs ≡ []
