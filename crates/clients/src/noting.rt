@@ -31,7 +31,7 @@ impl Notes {
         match command {
             Command::Search(_) | Command::Count(_) => false,
             Command::Get(_) => self.refreshing.load(Ordering::SeqCst),
-            Command::Write(_) | Command::Refresh | Command::Promote(_) => true,
+            Command::Write(_) | Command::Bulk(_) | Command::Refresh | Command::Promote(_) => true,
         }
     }
 }
@@ -75,7 +75,7 @@ impl<'a, S: Service> Service for Noting<'a, S> {
         if self.lead.is_some() && self.holds_up(&command) {
             self.lead = None;
         }
-        let writes = matches!(&command, Command::Write(_));
+        let writes = matches!(&command, Command::Write(_) | Command::Bulk(_));
         let reply = self.service.call(command);
         // Behind the write, so that a refresh that takes the note back shows it.
         if writes {

@@ -1,2 +1,3 @@
+pub mod Bulks
 pub mod Handed
 pub mod Rulings

@@ -7,7 +7,7 @@ use Rattle.replica.specs.declared.input.Input.{Input}
 use Rattle.replica.specs.declared.input.Input.TheVariants.{Write as Client}
 use Rattle.replica.specs.declared.input.Write.{Write}
 use Rattle.replica.specs.declared.output.Answer.{Answer}
-use Rattle.replica.specs.declared.output.Answer.TheVariants.{Wrote, Taken, Stale, Repeated, Reported, Found, Missing, Point}
+use Rattle.replica.specs.declared.output.Answer.TheVariants.{Wrote, Bulked, Taken, Stale, Repeated, Reported, Found, Missing, Point}
 use Rattle.replica.specs.declared.output.Output.{Output}
 use Rattle.replica.specs.declared.output.Written.{Written}
 use Rattle.node.specs.declared.pass.Receipt.{Receipt}
@@ -23,6 +23,7 @@ pub record IsAnswerTo (node : ℕ) (asked : Input) (r : Receipt) : Type 0 where
 -- what a write was kept as
 abbrev pub written_as : Answer → Option Written
 written_as (Wrote w) = Some w
+written_as (Bulked items) = None
 written_as Taken = None
 written_as Stale = None
 written_as Repeated = None

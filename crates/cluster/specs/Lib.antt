@@ -1,3 +1,4 @@
+pub mod Bulks
 pub mod Confirmed
 pub mod Faults
 pub mod Ruled

@@ -74,13 +74,14 @@ fn serve<R: Wait, D: LogDevice, G: Gate>(
 ) -> Left {
     let mut worker = worker;
     for _ in rt.forever() {
-        let Ok(post) = inbox.recv(rt) else {
+        let Some(post) = worker.next(rt, inbox) else {
             break;
         };
         if !worker.serve_waiting(rt, inbox, post) {
             break;
         }
     }
+    worker.finish(rt);
     worker.into_left(rt)
 }
 

@@ -1,12 +1,13 @@
 //! What receipts are looked at for.
-ghost use Rattle.std.specs.Prelude.{◌≡◌, ◌↔◌, IsTrue, IfSome};
-ghost use Rattle.replica.specs.declared.input.Input.TheVariants.{Write as Client};
+ghost use Rattle.std.specs.Prelude.{◌≡◌, ◌↔◌, IsTrue, IfSome, IfNone, Some, None, option_copied};
+ghost use Rattle.replica.specs.declared.input.Input.TheVariants.{Write as Client, Bulk};
+ghost use Rattle.cluster.specs.Bulks.{bulked};
 ghost use Rattle.cluster.specs.Confirmed as spec;
 ghost use Rattle.cluster.specs.Confirmed.{Acknowledges, IsAcknowledged, IsAnswerTo, wrote};
 
 use node::Receipt;
 use op::Op;
-use replica::{Answer, CopyFault, Input, Output, Write, Written};
+use replica::{Answer, CopyFault, Input, Item, Output, Write, Writes, Written};
 
 /// Whether the receipt is of this node and this input.
 pub(crate) fn is_answer_to(receipt: &Receipt, node: u32, asked: &Input) -> bool
@@ -22,6 +23,32 @@ pub(crate) fn is_of_write(receipt: &Receipt, node: u32, write: &Write) -> bool
     match &receipt.deed.input {
         Input::Write(asked) => receipt.node == node && asked.is(write),
         _ => false,
+    }
+}
+
+/// Whether it is of this node and this bulk.
+pub(crate) fn is_of_bulk(receipt: &Receipt, node: u32, writes: &Writes) -> bool
+    ensures { IsTrue result ↔ IsAnswerTo node (Bulk writes.now) receipt.now }
+{
+    match &receipt.deed.input {
+        Input::Bulk(asked) => receipt.node == node && asked.is(writes),
+        _ => false,
+    }
+}
+
+/// What became of the writes of a receipt's bulk.
+pub(crate) fn items_in(receipt: &Receipt) -> Option<&[Item]>
+    ensures some { IfSome result (λ items. bulked receipt.now.deed.answer ≡ Some items.now) }
+    ensures none { IfNone result (bulked receipt.now.deed.answer ≡ None) }
+{
+    match &receipt.deed.answer {
+        Ok(
+            Output {
+                answer: Answer::Bulked(items),
+                ..
+            },
+        ) => Some(items.as_slice()),
+        _ => None,
     }
 }
 

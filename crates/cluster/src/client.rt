@@ -103,7 +103,7 @@ impl<D: LogDevice> Client<D> {
     }
 
     /// Hands a post to the worker of a copy.
-    fn send<R: Wait>(&self, rt: &R, copy: u32, post: Post) -> Result<(), ClusterFault>
+    pub(crate) fn send<R: Wait>(&self, rt: &R, copy: u32, post: Post) -> Result<(), ClusterFault>
         ensures { IfErr result IsBare }
     {
         if self.shared.hand(rt, copy, post) {
@@ -188,7 +188,10 @@ fn passed_over(fault: ClusterFault) -> Result<bool, ClusterFault> {
 }
 
 /// The entry that a worker answers with.
-fn received<R: Wait>(rt: &R, answers: &Receiver<Answered, Global>) -> Result<Receipt, ClusterFault>
+pub(crate) fn received<R: Wait>(
+    rt: &R,
+    answers: &Receiver<Answered, Global>,
+) -> Result<Receipt, ClusterFault>
     ensures { IfErr result IsBare }
 {
     match answers.recv(rt) {
@@ -244,8 +247,8 @@ fn confirmed<R: Wait>(
     }
 }
 
-/// Why a write that its copy answered isn't kept.
-fn refusal_of(receipt: Receipt) -> ClusterFault
+/// Why a write or a bulk that its copy answered isn't kept.
+pub(crate) fn refusal_of(receipt: Receipt) -> ClusterFault
     ensures { IsRefusalBy receipt result }
 {
     if is_no_primary(&receipt) {

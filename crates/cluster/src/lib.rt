@@ -1,7 +1,9 @@
 //! Copies that run beside one another, each on a thread of its own, and the master that tells them who leads.
 #![tactic(auto)]
 
+mod backlog;
 mod bench;
+mod bulk;
 mod channels;
 mod checks;
 pub mod client;
@@ -22,12 +24,13 @@ mod ready;
 mod releasing;
 pub mod ruled;
 mod shared;
+mod turns;
 mod waits;
 mod worker;
 
 pub use client::Client;
 pub use cluster::Cluster;
-pub use confirmed::Confirmed;
+pub use confirmed::{Confirmed, ConfirmedBulk};
 pub use devices::{Devices, InFolder, InMemory, Syncing};
 pub use fault::{ClusterFault, OpenFault, ShortLog, Unopened};
 pub use gate::{Gate, Open};

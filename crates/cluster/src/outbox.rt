@@ -2,7 +2,7 @@
 ghost use Rattle.std.specs.Prelude.{◌≡◌, [], ◌∷◌, ◌++◌, List, IfErr, IfNone, IfSome, OnOk, OnErr};
 
 use crate::durable::Durable;
-use crate::post::{Answered, Ending};
+use crate::post::{Answered, BulkEnding, Ending};
 use crossbeam_channel::Sender;
 use node::{Got, NodeFault, Receipt};
 use std::alloc::Global;
@@ -17,6 +17,8 @@ pub(crate) enum Asked {
     Call(Sender<Answered, Global>),
     /// A write: its entry is answered, and later how it ended.
     Write(Sender<Answered, Global>, Sender<Ending, Global>),
+    /// A bulk, in the same way.
+    Bulk(Sender<Answered, Global>, Sender<BulkEnding, Global>),
 }
 
 /// An entry that isn't told yet.

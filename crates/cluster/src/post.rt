@@ -6,7 +6,7 @@ use doc::DocId;
 use node::{Got, NodeFault, Receipt};
 use op::Msg;
 use published::{Searcher, Unnamed};
-use replica::{Input, Write};
+use replica::{Input, Write, Writes};
 use std::alloc::Global;
 
 /// The entry that a call made, also where the copy refused it; or why there is none.
@@ -24,12 +24,23 @@ pub(crate) enum Ending {
     Lost(Durable<Receipt>),
 }
 
+/// How the waiting for the acknowledgements of a bulk's writes ended.
+#[derive(Drop)]
+pub(crate) enum BulkEnding {
+    /// By the entries that acknowledge those that were kept, each once.
+    Acknowledged(Vec<Durable<Receipt>>),
+    /// By an entry after which the copy is the primary of that term no more.
+    Lost(Durable<Receipt>),
+}
+
 /// What a worker is sent.
 #[derive(Drop)]
 pub(crate) enum Post {
     Ask(Input, Sender<Answered, Global>),
     /// A write: its own entry is answered first, and how it ended when it has.
     Write(Write, Sender<Answered, Global>, Sender<Ending, Global>),
+    /// A bulk, in the same way.
+    Bulk(Writes, Sender<Answered, Global>, Sender<BulkEnding, Global>),
     /// A message, and how often it was refused for a while.
     Hand(Durable<Msg>, u32),
     /// A copy that the primary is to report.

@@ -4,12 +4,12 @@ ghost use Rattle.std.specs.Prelude.{◌<◌, length};
 ghost use Rattle.cluster.specs.Leaving.{sent_by};
 
 use crate::channels::sent;
-use crate::checks::{is_shut, written_in};
+use crate::checks::{is_shut, items_in, written_in};
 use crate::copies::copied;
 use crate::durable::Durable;
 use crate::gate::Gate;
 use crate::outbox::{Asked, Entry, Parcel};
-use crate::post::{Ending, Post};
+use crate::post::{BulkEnding, Ending, Post};
 use crate::worker::Worker;
 use crossbeam_channel::{Receiver, Sender};
 use node::{Got, NodeFault, OnDisk, Receipt};
@@ -19,7 +19,7 @@ use std::sync::Wait;
 use translog::{LogDevice, LogFault};
 
 /// How many posts are done at most before what they tell leaves.
-const TOGETHER: u32 = 1_024;
+pub(crate) const TOGETHER: u32 = 1_024;
 
 /// How often a log is synced that failed to.
 const SYNCS: u32 = 3;
@@ -43,7 +43,7 @@ impl<D: LogDevice, G: Gate> Worker<D, G> {
             if !goes_on || !self.is_open() || self.cell.is_synced() {
                 break;
             }
-            let Ok(post) = inbox.try_recv(rt) else {
+            let Some(post) = self.next_there(rt, inbox) else {
                 break;
             };
             goes_on = self.serve(rt, post);
@@ -114,7 +114,7 @@ impl<D: LogDevice, G: Gate> Worker<D, G> {
         match parcel {
             Parcel::Entry(entry) => self.tell(rt, entry, on_disk),
             Parcel::Got(got, to) => tell_got(rt, got, &to, on_disk),
-            Parcel::EndOfWaits => self.waits.end(),
+            Parcel::EndOfWaits => self.end_waits(),
         }
     }
 
@@ -154,6 +154,13 @@ impl<D: LogDevice, G: Gate> Worker<D, G> {
                 self.follow(rt, &entry, leads, term);
                 sent(rt, &first, Ok(entry));
             }
+            Asked::Bulk(first, second) => {
+                if term >= self.deposed {
+                    self.note_bulk(&entry, second);
+                }
+                self.follow(rt, &entry, leads, term);
+                sent(rt, &first, Ok(entry));
+            }
         }
     }
 
@@ -161,6 +168,13 @@ impl<D: LogDevice, G: Gate> Worker<D, G> {
     fn note(&mut self, entry: &Durable<Receipt>, to: Sender<Ending, Global>) {
         if let Some(written) = written_in(entry.what()) {
             self.waits.add(written, to);
+        }
+    }
+
+    /// The same of the writes of a bulk that are kept.
+    fn note_bulk(&mut self, entry: &Durable<Receipt>, to: Sender<BulkEnding, Global>) {
+        if let Some(items) = items_in(entry.what()) {
+            self.waits.add_bulk(items, to);
         }
     }
 
@@ -197,7 +211,7 @@ impl<D: LogDevice, G: Gate> Worker<D, G> {
             self.shared.hand(rt, to, Post::Report(id))
         };
         if !told {
-            self.waits.end();
+            self.end_waits();
         }
     }
 
@@ -207,6 +221,7 @@ impl<D: LogDevice, G: Gate> Worker<D, G> {
             for op in output.acknowledged.as_slice() {
                 self.waits.acknowledge(rt, op, entry);
             }
+            self.waits.acknowledge_bulks(rt, entry);
         }
     }
 
@@ -271,7 +286,7 @@ impl<D: LogDevice, G: Gate> Worker<D, G> {
             };
             self.withdraw(rt, parcel);
         }
-        self.waits.end();
+        self.end_waits();
     }
 
     fn withdraw<R: Wait>(&mut self, rt: &R, parcel: Parcel) {
@@ -284,7 +299,7 @@ impl<D: LogDevice, G: Gate> Worker<D, G> {
                 drop(got);
                 sent(rt, &to, Err(unsynced()));
             }
-            Parcel::EndOfWaits => self.waits.end(),
+            Parcel::EndOfWaits => self.end_waits(),
         }
     }
 }
@@ -304,6 +319,10 @@ fn refuse<R: Wait>(rt: &R, receipt: Receipt, asked: Asked) {
             sent(rt, &to, told);
         }
         Asked::Write(to, ending) => {
+            sent(rt, &to, told);
+            drop(ending);
+        }
+        Asked::Bulk(to, ending) => {
             sent(rt, &to, told);
             drop(ending);
         }

@@ -1,13 +1,14 @@
-//! Writes that wait for their acknowledgement.
+//! Writes and bulks that wait for their acknowledgements.
 
 use crate::channels::sent;
 use crate::durable::Durable;
-use crate::post::Ending;
+use crate::post::{BulkEnding, Ending};
 use crossbeam_channel::Sender;
 use node::Receipt;
 use op::Op;
-use replica::Written;
-use std::alloc::Global;
+use replica::{Item, Written};
+use std::alloc::{AllocError, Global};
+use std::mem;
 use std::sync::Wait;
 
 /// A write that waits for its acknowledgement.
@@ -18,11 +19,77 @@ struct Waiting {
     to: Sender<Ending, Global>,
 }
 
-/// The writes of a copy that wait. One that is let go without being told of its end is unconfirmed: whether it stands is open.
+/// A bulk that waits for the acknowledgements of its writes.
+#[derive(Drop)]
+struct WaitingBulk {
+    /// The writes that aren't acknowledged yet.
+    left: Vec<Written>,
+    /// The entries that acknowledge the others, each once.
+    entries: Vec<Durable<Receipt>>,
+    to: Sender<BulkEnding, Global>,
+}
+
+impl WaitingBulk {
+    /// Takes note of what an entry acknowledges, and tells whether the bulk goes on waiting. Where there is no memory for that its wait ends.
+    fn waits_on<R: Wait>(&mut self, rt: &R, alloc: Global, entry: &Durable<Receipt>) -> bool {
+        if !self.is_struck(entry) {
+            return true;
+        }
+        let Ok(()) = self.note(alloc, entry) else {
+            return false;
+        };
+        if !self.left.is_empty() {
+            return true;
+        }
+        let entries = mem::replace(&mut self.entries, Vec::new(alloc));
+        sent(rt, &self.to, BulkEnding::Acknowledged(entries));
+        false
+    }
+
+    /// Strikes out the writes that an entry acknowledges, and tells whether there are some.
+    fn is_struck(&mut self, entry: &Durable<Receipt>) -> bool {
+        let before = self.left.len();
+        if let Ok(output) = &entry.what().deed.answer {
+            for op in output.acknowledged.as_slice() {
+                self.strike(op);
+            }
+        }
+        self.left.len() < before
+    }
+
+    fn strike(&mut self, op: &Op) {
+        if let Some(place) = self
+            .left
+            .iter()
+            .position(|written| written.seq == op.seq && written.term == op.term)
+        {
+            self.left.swap_remove(place);
+        }
+    }
+
+    fn note(&mut self, alloc: Global, entry: &Durable<Receipt>) -> Result<(), AllocError> {
+        self.entries.push(entry.copy(alloc)?)?;
+        Ok(())
+    }
+}
+
+/// The writes among these that were kept.
+fn kept(alloc: Global, items: &[Item]) -> Result<Vec<Written>, AllocError> {
+    let mut kept = Vec::new(alloc);
+    for item in items {
+        if let Item::Wrote(written) = item {
+            kept.push(*written)?;
+        }
+    }
+    Ok(kept)
+}
+
+/// The writes and the bulks of a copy that wait. One that is let go without being told of its end is unconfirmed: whether it stands is open.
 #[derive(Drop)]
 pub(crate) struct Waits {
     alloc: Global,
     items: Vec<Waiting>,
+    bulks: Vec<WaitingBulk>,
 }
 
 impl Waits {
@@ -30,6 +97,7 @@ impl Waits {
         Waits {
             alloc,
             items: Vec::new(alloc),
+            bulks: Vec::new(alloc),
         }
     }
 
@@ -40,6 +108,28 @@ impl Waits {
             term: written.term,
             to,
         });
+    }
+
+    /// Notes who waits for the writes of a bulk that were kept. Where there is no memory for that, its wait ends.
+    pub(crate) fn add_bulk(&mut self, items: &[Item], to: Sender<BulkEnding, Global>) {
+        let Ok(left) = kept(self.alloc, items) else {
+            return;
+        };
+        if left.is_empty() {
+            return;
+        }
+        let _ = self.bulks.push(WaitingBulk {
+            left,
+            entries: Vec::new(self.alloc),
+            to,
+        });
+    }
+
+    /// Tells the bulks that wait what an entry acknowledges.
+    pub(crate) fn acknowledge_bulks<R: Wait>(&mut self, rt: &R, entry: &Durable<Receipt>) {
+        let alloc = self.alloc;
+        self.bulks
+            .retain_mut(|bulk| bulk.waits_on(rt, alloc, entry));
     }
 
     /// Tells who waits for an operation that an entry acknowledges it.
@@ -60,6 +150,7 @@ impl Waits {
     /// Whether all are of this term.
     pub(crate) fn are_of(&self, term: u64) -> bool {
         self.items.iter().all(|waiting| waiting.term == term)
+            && self.bulks.iter().all(|bulk| is_of(bulk, term))
     }
 
     /// Tells all that their copy is the primary of their term no more since this entry.
@@ -69,10 +160,25 @@ impl Waits {
                 sent(rt, &waiting.to, Ending::Lost(copied));
             }
         }
+        self.lose_bulks(rt, entry);
+    }
+
+    fn lose_bulks<R: Wait>(&mut self, rt: &R, entry: &Durable<Receipt>) {
+        for bulk in self.bulks.drain(..) {
+            if let Ok(copied) = entry.copy(self.alloc) {
+                sent(rt, &bulk.to, BulkEnding::Lost(copied));
+            }
+        }
     }
 
     /// Lets all go.
     pub(crate) fn end(&mut self) {
         self.items.clear();
+        self.bulks.clear();
     }
+}
+
+/// Whether what a bulk waits for is of this term.
+fn is_of(bulk: &WaitingBulk, term: u64) -> bool {
+    bulk.left.iter().all(|written| written.term == term)
 }

@@ -1,5 +1,6 @@
 //! What the thread of a copy does.
 
+use crate::backlog::Backlog;
 use crate::channels::sent;
 use crate::copies::copied;
 use crate::durable::Durable;
@@ -7,7 +8,7 @@ use crate::fate::{Fate, fate_of, is_of_primary};
 use crate::gate::Gate;
 use crate::left::Left;
 use crate::outbox::{Asked, Entry, Outbox, Parcel};
-use crate::post::{Answered, Ending, Post, Seated};
+use crate::post::{Answered, BulkEnding, Ending, Post, Seated};
 use crate::releasing::unsynced;
 use crate::shared::Shared;
 use crate::waits::Waits;
@@ -16,7 +17,7 @@ use crossbeam_channel::Sender;
 use doc::DocId;
 use node::{Got, NodeFault, Pass, Receipt};
 use op::Msg;
-use replica::{Copy, CopyFault, Input, Write};
+use replica::{Copy, CopyFault, Input, Write, Writes};
 use std::alloc::Global;
 use std::sync::{Arc, Wait};
 use translog::LogDevice;
@@ -32,7 +33,7 @@ pub(crate) struct Tools<D: LogDevice, G: Gate> {
     pub(crate) pass: Pass,
 }
 
-/// A copy, its pass, what it hasn't told yet, and who waits for it. It is not `Drop`: end it by `into_left`.
+/// A copy, its pass, what it hasn't told yet, who waits for it, and which posts are held back. It is not `Drop`: end it by `into_left`.
 pub(crate) struct Worker<D: LogDevice, G: Gate> {
     pub(crate) alloc: Global,
     pub(crate) number: u64,
@@ -42,6 +43,7 @@ pub(crate) struct Worker<D: LogDevice, G: Gate> {
     pub(crate) pass: Pass,
     pub(crate) outbox: Outbox,
     pub(crate) waits: Waits,
+    pub(crate) backlog: Backlog,
     /// The greatest term of which another copy was made the primary.
     pub(crate) deposed: u64,
     /// Whether the copy didn't open again, and was given up.
@@ -62,6 +64,7 @@ impl<D: LogDevice, G: Gate> Worker<D, G> {
             pass,
             outbox: Outbox::new(alloc),
             waits: Waits::new(alloc),
+            backlog: Backlog::new(alloc),
             deposed: 0,
             given_up: false,
             is_to_lead: false,
@@ -92,6 +95,7 @@ impl<D: LogDevice, G: Gate> Worker<D, G> {
         match post {
             Post::Ask(input, to) => self.ask(rt, input, to),
             Post::Write(write, first, second) => self.write(rt, write, first, second),
+            Post::Bulk(writes, first, second) => self.bulk(rt, writes, first, second),
             Post::Hand(message, tries) => self.take(rt, message, tries),
             Post::Report(copy) => self.report(rt, copy),
             Post::Depose(term) => self.depose(rt, term),
@@ -168,6 +172,27 @@ impl<D: LogDevice, G: Gate> Worker<D, G> {
         match self.made(rt, Input::Write(write)) {
             Ok(receipt) => {
                 let parcel = self.entry(receipt, Asked::Write(first, second));
+                self.keep(rt, parcel);
+            }
+            Err(fault) => {
+                sent(rt, &first, Err(fault));
+            }
+        }
+        self.mend_since(rt, was_open);
+    }
+
+    /// The same of a bulk.
+    fn bulk<R: Wait>(
+        &mut self,
+        rt: &R,
+        writes: Writes,
+        first: Sender<Answered, Global>,
+        second: Sender<BulkEnding, Global>,
+    ) {
+        let was_open = self.is_open();
+        match self.made(rt, Input::Bulk(writes)) {
+            Ok(receipt) => {
+                let parcel = self.entry(receipt, Asked::Bulk(first, second));
                 self.keep(rt, parcel);
             }
             Err(fault) => {
@@ -294,6 +319,7 @@ impl<D: LogDevice, G: Gate> Worker<D, G> {
             cell,
             pass,
             waits,
+            backlog,
             outbox,
             alloc: _,
             number: _,
@@ -305,6 +331,7 @@ impl<D: LogDevice, G: Gate> Worker<D, G> {
         } = self;
         drop(outbox);
         drop(waits);
+        drop(backlog);
         Left::served(rt, cell, pass)
     }
 }

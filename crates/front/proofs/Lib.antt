@@ -1,6 +1,8 @@
 pub mod BulkLines
+pub mod Parts
 pub mod Bulks
 pub mod Calls
+pub mod FullCommands
 pub mod Pages
 pub mod Paths
 pub mod Streams

@@ -5,7 +5,6 @@ pub mod Reply
 pub mod ReplyView
 pub mod Calls
 pub mod Item
-pub mod BulkView
 pub mod LineView
 pub mod AskedView
 pub mod RouteView
@@ -15,6 +14,7 @@ pub mod BulkReading
 pub mod Asking
 pub mod Page
 pub mod Bulk
+pub mod BulkView
 pub mod Work
 pub mod Serving
 pub mod Greeting

@@ -14,7 +14,7 @@ use Rattle.front.specs.declared.reply.Refusal.{Refusal}
 use Rattle.front.specs.declared.reply.Refusal.TheVariants.{NotPrimary, VersionConflict, WindowFull, OldTerm, NotSynced, BeyondWindow, Mismatch, Closed, Log, NoMemory, WrongAddress, Exhausted, NoSuchCopy, NoSuchMessage, NotInSync, Gone, IsPrimary, Full}
 use Rattle.front.specs.declared.target.Endpoint.{Endpoint}
 use Rattle.front.specs.declared.target.Endpoint.TheVariants.{Document, Create, Search, Count, Refresh, Bulk, Promote}
-use Rattle.front.specs.Command.{Command, write, get, search, count, refresh, promote}
+use Rattle.front.specs.Command.{Command, write, bulk, get, search, count, refresh, promote}
 use Rattle.wire.specs.Fault.{bad_head, transfer_coding, body_too_large}
 use Rattle.front.specs.Fault.{Fault, of_head, no_route, no_index, bad_method, bad_parameter, bad_bulk, of_document, of_query}
 use Rattle.front.specs.Reply.{Reply, wrote, got, hits, counted, refreshed, promoted, refused}
@@ -200,6 +200,7 @@ promoted_body copy term = codes "{\"acknowledged\":true,\"primary\":" ++ (decima
 -- what a page is about
 pub data Subject : Type 0 where
   written : List ℕ → Subject
+  bulking : Subject
   sought : List ℕ → Subject
   searching : Subject
   counting : Subject
@@ -208,6 +209,7 @@ pub data Subject : Type 0 where
 
 abbrev pub subject_of : Command → Subject
 subject_of (write w) = written w.id
+subject_of (bulk ws) = bulking
 subject_of (get id) = sought id
 subject_of (search q p) = searching
 subject_of (count q) = counting

@@ -1,15 +1,16 @@
 //! Many writes in one request, and their page.
-ghost use Rattle.std.specs.Prelude.{◌≡◌, map, bytes_eq, is_ok, IfOk, IfSome, OnErr, string_bytes};
+ghost use Rattle.std.specs.Prelude.{◌≡◌, ◌++◌, length, take, map, bytes_eq, IfOk, IfSome, OnOk, OnErr, string_bytes};
 ghost use Rattle.doc.specs.Outcome.{Gives};
 ghost use Rattle.front.specs.Bulk as spec;
-ghost use Rattle.front.specs.BulkView.{item_view, text_view};
+ghost use Rattle.front.specs.BulkView.{item_view, text_view, step_view};
+ghost use Rattle.front.specs.Calls.{Calls};
 ghost use Rattle.front.specs.Fault.{fault_of, no_index};
 ghost use Rattle.front.specs.Target.{check};
 ghost use Rattle.front.specs.ReplyView.{reply_view};
 
 use crate::command::{Change, Command, Condition, Write};
 use crate::page::{Status, error, kind_of, name_of, outcome_status, place, response, wrote_fields};
-use crate::reply::{Refusal, Reply, Wrote};
+use crate::reply::{ItemReply, Refusal, Reply, Wrote};
 use crate::request_fault::RequestFault;
 use crate::service::Service;
 use doc::{Doc, DocId, Mapping};
@@ -55,12 +56,22 @@ struct Written {
     is_any: bool,
 }
 
-/// An item that was done: its text, and whether it was a write.
+/// An item of a part: what is told of it, or that the reply to its write is to come, which has this place among the writes of the part.
 #[derive(Drop)]
-struct DoneItem {
-    text: ItemText,
-    is_write: bool,
+pub(crate) enum Step<'i, 'b> {
+    Told(ItemText),
+    Waits(&'i Item<'b>, usize),
 }
+
+/// The items of a part, before the service has them: the writes, and a step for each item.
+#[derive(Drop)]
+struct Part<'i, 'b> {
+    writes: Vec<Write>,
+    steps: Vec<Step<'i, 'b>>,
+}
+
+/// How many writes are handed over in one command.
+const MOST_WRITES: usize = 1024;
 
 /// Does the items of a bulk in order, and then one refresh, where that is wanted and any of them was a write.
 pub(crate) fn do_items<'b, S: Service>(
@@ -81,7 +92,7 @@ pub(crate) fn do_items<'b, S: Service>(
     Ok(Done { texts, refusal })
 }
 
-/// Does the writes of items in order. A refusal of one doesn't stop the others.
+/// Does the writes of items in order, each 1,024 of them with one command. A refusal of one doesn't stop the others.
 fn do_writes<'b, S: Service>(
     alloc: Global,
     service: &mut S,
@@ -89,19 +100,20 @@ fn do_writes<'b, S: Service>(
 ) -> Result<Written, StreamFault>
     ensures ok { IfOk result (λ w. spec.WritesDone S.answers (S.name service.old) (S.fields service.old) (map item_view items.now)
         service.old (map text_view w.texts.items) service.new) }
-    ensures any { IfOk result (λ w. w.is_any ≡ spec.is_any (spec.writes_of (S.name service.old) (S.fields service.old) (map item_view items.now))) }
-    ensures err { OnErr result (spec.BegunOf S.answers (spec.writes_of (S.name service.old) (S.fields service.old) (map item_view items.now))
+    ensures any { IfOk result (λ w. w.is_any ≡ spec.is_any (spec.write_commands (S.name service.old) (S.fields service.old) (map item_view items.now))) }
+    ensures err { OnErr result (spec.BegunOf S.answers (spec.write_commands (S.name service.old) (S.fields service.old) (map item_view items.now))
         service.old service.new) }
     ensures name { S.name service.new ≡ S.name service.old }
     ensures fields { S.fields service.new ≡ S.fields service.old }
 {
     let mut texts = Vec::new(alloc);
     let mut is_any = false;
-    for item in items {
-        texts.reserve(1)?;
-        let DoneItem { text, is_write } = do_item(alloc, service, item)?;
-        texts.push(text)?;
-        is_any = is_any || is_write;
+    let mut left = items;
+    while !left.is_empty() {
+        let mut done = do_part(alloc, service, left)?;
+        left = &left[done.texts.len()..];
+        texts.append(&mut done.texts)?;
+        is_any = is_any || done.is_any;
     }
     Ok(Written { texts, is_any })
 }
@@ -132,38 +144,128 @@ fn refusal_in(reply: &Reply) -> Option<Refusal>
     }
 }
 
-/// Does one item.
-fn do_item<'b, S: Service>(
+/// Does the first part of items, those up to the 1,024th write, with one command for its writes.
+fn do_part<'b, S: Service>(
     alloc: Global,
     service: &mut S,
-    item: &Item<'b>,
-) -> Result<DoneItem, StreamFault>
-    ensures ok { IfOk result (λ d. spec.ItemDone S.answers (item_view item.now) (spec.item_write (S.name service.old) (S.fields service.old) (item_view item.now))
-        service.old (text_view d.text) service.new) }
-    ensures write { IfOk result (λ d. d.is_write ≡ is_ok (spec.item_write (S.name service.old) (S.fields service.old) (item_view item.now))) }
-    ensures err { OnErr result (spec.BegunOf S.answers (spec.item_commands (spec.item_write (S.name service.old) (S.fields service.old) (item_view item.now)))
+    items: &[Item<'b>],
+) -> Result<Written, StreamFault>
+    ensures part { IfOk result (λ w. spec.IsPart (S.name service.old) (S.fields service.old) (map item_view items.now) (length w.texts.items)) }
+    ensures ok { IfOk result (λ w. spec.PartDone S.answers (S.name service.old) (S.fields service.old) (take (length w.texts.items) (map item_view items.now))
+        service.old (map text_view w.texts.items) service.new) }
+    ensures any { IfOk result (λ w. w.is_any ≡ spec.is_any (spec.batch (spec.writes_of (S.name service.old) (S.fields service.old) (take (length w.texts.items) (map item_view items.now))))) }
+    ensures err { OnErr result (spec.BegunOf S.answers (spec.write_commands (S.name service.old) (S.fields service.old) (map item_view items.now))
         service.old service.new) }
     ensures name { S.name service.new ≡ S.name service.old }
     ensures fields { S.fields service.new ≡ S.fields service.old }
 {
-    match item_write(alloc, service.index(), service.mapping(), item) {
+    let Part { writes, steps } = read_part(alloc, service.index(), service.mapping(), items)?;
+    let is_any = !writes.is_empty();
+    let reply = hand_over(alloc, service, writes);
+    let texts = texts_of(alloc, steps, &reply)?;
+    Ok(Written { texts, is_any })
+}
+
+/// Reads the sources of the first items, up to the 1,024th write.
+fn read_part<'i, 'b>(
+    alloc: Global,
+    served: &str,
+    mapping: &Mapping,
+    items: &'i [Item<'b>],
+) -> Result<Part<'i, 'b>, StreamFault>
+    ensures part { IfOk result (λ p. spec.IsPart served.now mapping.now (map item_view items.now) (length p.steps.items)) }
+    ensures writes { IfOk result (λ p. p.writes.items ≡ spec.writes_of served.now mapping.now (take (length p.steps.items) (map item_view items.now))) }
+    ensures steps { IfOk result (λ p. map step_view p.steps.items ≡ spec.steps_of served.now mapping.now 0 (take (length p.steps.items) (map item_view items.now))) }
+{
+    let mut writes = Vec::new(alloc);
+    let mut steps = Vec::new(alloc);
+    for item in items {
+        if writes.len() == MOST_WRITES {
+            break;
+        }
+        let step = read_item(alloc, served, mapping, item, &mut writes)?;
+        steps.push(step)?;
+    }
+    Ok(Part { writes, steps })
+}
+
+/// Reads an item's source, and puts its write behind those that are there, or has the text of its fault.
+fn read_item<'i, 'b>(
+    alloc: Global,
+    served: &str,
+    mapping: &Mapping,
+    item: &'i Item<'b>,
+    writes: &mut Vec<Write>,
+) -> Result<Step<'i, 'b>, StreamFault>
+    ensures step { IfOk result (λ s. step_view s ≡ spec.step_of (item_view item.now) (length writes.old.items) (spec.item_write served.now mapping.now (item_view item.now))) }
+    ensures writes { OnOk result (writes.new.items ≡ writes.old.items ++ spec.good (spec.item_write served.now mapping.now (item_view item.now))) }
+{
+    match item_write(alloc, served, mapping, item) {
         Ok(write) => {
-            let reply = service.call(Command::Write(write));
-            let text = reply_text(alloc, item, &reply)?;
-            Ok(DoneItem {
-                text,
-                is_write: true,
-            })
+            let place = writes.len();
+            writes.push(write)?;
+            Ok(Step::Waits(item, place))
         }
         Err(fault) => if fault.is_memory() {
             Err(StreamFault::NoMemory)
         } else {
-            let text = fault_text(alloc, item, &fault)?;
-            Ok(DoneItem {
-                text,
-                is_write: false,
-            })
+            Ok(Step::Told(fault_text(alloc, item, &fault)?))
         },
+    }
+}
+
+/// What the service says to the writes of a part. Where there are none it isn't called.
+fn hand_over<S: Service>(alloc: Global, service: &mut S, writes: Vec<Write>) -> Reply
+    ensures called { Calls S.answers service.old (spec.batch writes.items) (spec.said writes.items (reply_view result)) service.new }
+    ensures name { S.name service.new ≡ S.name service.old }
+    ensures fields { S.fields service.new ≡ S.fields service.old }
+{
+    if writes.is_empty() {
+        drop(writes);
+        return Reply::Bulked(Vec::new(alloc));
+    }
+    service.call(Command::Bulk(writes))
+}
+
+/// The texts of a part's items, by the reply to their writes.
+fn texts_of<'i, 'b>(
+    alloc: Global,
+    steps: Vec<Step<'i, 'b>>,
+    reply: &Reply,
+) -> Result<Vec<ItemText>, AllocError>
+    ensures { IfOk result (λ ts. map text_view ts.items ≡ map (spec.step_text (reply_view reply.now)) (map step_view steps.entry.items)) }
+{
+    let mut texts = Vec::new(alloc);
+    for step in steps {
+        texts.push(step_text(alloc, step, reply)?)?;
+    }
+    Ok(texts)
+}
+
+fn step_text<'i, 'b>(
+    alloc: Global,
+    step: Step<'i, 'b>,
+    reply: &Reply,
+) -> Result<ItemText, AllocError>
+    ensures { IfOk result (λ t. text_view t ≡ spec.step_text (reply_view reply.now) (step_view step.entry)) }
+{
+    match step {
+        Step::Told(text) => Ok(text),
+        Step::Waits(item, place) => reply_text(alloc, item, item_reply(reply, place)),
+    }
+}
+
+/// What the reply to many writes says of the one in a place.
+fn item_reply(reply: &Reply, place: usize) -> ItemReply
+    ensures { result ≡ spec.item_reply (reply_view reply.now) place }
+{
+    match reply {
+        Reply::Bulked(replies) => match replies.get(place) {
+            Some(one) => *one,
+            None => ItemReply::Refused(Refusal::Mismatch),
+        },
+        Reply::Refused(refusal) => ItemReply::Refused(*refusal),
+        _ => ItemReply::Refused(Refusal::Mismatch),
     }
 }
 
@@ -213,25 +315,21 @@ fn change_of<'b>(alloc: Global, mapping: &Mapping, item: &Item<'b>) -> Result<Ch
     }
 }
 
-fn reply_text<'b>(alloc: Global, item: &Item<'b>, reply: &Reply) -> Result<ItemText, AllocError>
-    ensures { IfOk result (λ t. text_view t ≡ spec.reply_text (item_view item.now) (reply_view reply.now)) }
+fn reply_text<'b>(alloc: Global, item: &Item<'b>, reply: ItemReply) -> Result<ItemText, AllocError>
+    ensures { IfOk result (λ t. text_view t ≡ spec.reply_text (item_view item.now) reply) }
 {
     match reply {
-        Reply::Wrote(wrote) => {
-            let inner = wrote_inner(alloc, item, *wrote)?;
+        ItemReply::Wrote(wrote) => {
+            let inner = wrote_inner(alloc, item, wrote)?;
             let text = item_text(alloc, item, inner.as_str())?;
             Ok(ItemText {
                 failed: false,
                 text,
             })
         }
-        Reply::Refused(refusal) => {
+        ItemReply::Refused(refusal) => {
             let (status, kind) = refusal.kind();
             refusal_text(alloc, item, refusal.name(), status, kind)
-        }
-        _ => {
-            let (status, kind) = Refusal::Mismatch.kind();
-            refusal_text(alloc, item, Refusal::Mismatch.name(), status, kind)
         }
     }
 }

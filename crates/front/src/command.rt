@@ -33,6 +33,8 @@ pub struct Write {
 #[derive(Drop)]
 pub enum Command {
     Write(Write),
+    /// Writes of one request, 1 to 1,024 and none of them with a refresh, in their order.
+    Bulk(Vec<Write>),
     Get(DocId),
     Search(SearchBody),
     /// How many documents a query means.

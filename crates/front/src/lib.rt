@@ -8,6 +8,7 @@ pub mod explaining;
 mod greeting;
 mod hits;
 mod json_text;
+pub mod laws;
 mod lines;
 mod page;
 mod parameters;

@@ -71,6 +71,7 @@ impl Status {
 #[derive(Drop)]
 pub(crate) enum Subject {
     Written(DocId),
+    Bulked,
     Sought(DocId),
     Searched,
     Counted,
@@ -85,6 +86,7 @@ impl Subject {
     {
         Ok(match command {
             Command::Write(write) => Subject::Written(write.id.copy(alloc)?),
+            Command::Bulk(_) => Subject::Bulked,
             Command::Get(id) => Subject::Sought(id.copy(alloc)?),
             Command::Search(_) => Subject::Searched,
             Command::Count(_) => Subject::Counted,

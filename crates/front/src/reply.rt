@@ -61,10 +61,19 @@ pub enum Refusal {
     Full,
 }
 
+/// What became of one of many writes.
+#[derive(Clone, Copy, Debug, PartialEq, Eq)]
+pub enum ItemReply {
+    Wrote(Wrote),
+    Refused(Refusal),
+}
+
 /// What a service answers.
 #[derive(Drop)]
 pub enum Reply {
     Wrote(Wrote),
+    /// What became of each of many writes, in their order.
+    Bulked(Vec<ItemReply>),
     Got(Option<Found>),
     /// The exact total, and the hits of the page.
     Hits(u64, Vec<Hit>),

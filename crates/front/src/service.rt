@@ -29,7 +29,8 @@ pub trait Service {
     fn mapping(&self) -> &Mapping
         ensures { result.now ≡ fields self.now };
 
-    /// Does what is asked. A reply of another kind than its command is told as the refusal `Mismatch`.
+    /// Does what is asked. A reply of another kind than its command is told as the refusal `Mismatch`; so is each of many writes of which a reply says nothing,
+    /// and a refusal of all of them is told of each.
     fn call(&mut self, command: Command) -> Reply
         ensures answers { answers self.old (command_view command) (reply_view result) self.new }
         ensures name { name self.new ≡ name self.old }

@@ -1,5 +1,5 @@
 -- What an index of several copies answers a command.
-use Rattle.std.specs.Prelude.{◌≡◌, ◌⊎◌, ◌<◌, ℕ, Some, Result, Ok, Err, length}
+use Rattle.std.specs.Prelude.{◌≡◌, ◌⊎◌, ◌<◌, ℕ, List, [], ◌∷◌, map, Option, Some, None, option_map, Result, Ok, Err, length, slice_get, unwrap_or}
 use Rattle.doc.specs.Id.{Id}
 use Rattle.op.specs.declared.message.Msg.{Msg}
 use Rattle.query.specs.Page.{PageData}
@@ -7,13 +7,17 @@ use Rattle.query.specs.Query.{Query}
 use Rattle.engine.specs.Answer.{SnapshotData, answer_of, found}
 use Rattle.replica.specs.declared.fault.CopyFault.{CopyFault}
 use Rattle.replica.specs.declared.output.Answer.{Answer}
+use Rattle.replica.specs.declared.output.Item.{Item}
 use Rattle.replica.specs.declared.output.Output.{Output}
 use Rattle.master.specs.declared.fault.MasterFault.{MasterFault}
 use Rattle.master.specs.declared.fault.MasterFault.TheVariants as master
 use Rattle.master.specs.declared.state.Decision.{Decision}
 use Rattle.master.specs.declared.state.Request.TheVariants.{Promote}
 use Rattle.node.specs.Reading.{IsGotAt}
+use Rattle.node.specs.declared.pass.Receipt.{Receipt}
 use Rattle.cluster.specs.declared.confirmed.Confirmed.{Confirmed}
+use Rattle.cluster.specs.declared.confirmed.ConfirmedBulk.{ConfirmedBulk}
+use Rattle.cluster.specs.Bulks.{bulked as items_in, IsBulkConfirmed}
 use Rattle.cluster.specs.Confirmed.{IsConfirmed}
 use Rattle.cluster.specs.Ruled.{IsDecided}
 use Rattle.op.specs.Documents.{documents}
@@ -22,9 +26,10 @@ use Rattle.published.specs.declared.listing.Listing.{Listing}
 use Rattle.front.specs.declared.command.Write.{Write}
 use Rattle.front.specs.declared.reply.Refusal.{Refusal}
 use Rattle.front.specs.declared.reply.Refusal.TheVariants.{OldTerm, NotInSync, IsPrimary, Gone, Log, NoMemory, Full}
-use Rattle.front.specs.Command.{Command, write, get, search, count, refresh, promote}
-use Rattle.front.specs.Reply.{Reply, counted, refreshed, promoted, refused}
-use Rattle.shard.specs.Answering.{hits_of, refusal_of, reply_of, write_of}
+use Rattle.front.specs.declared.reply.ItemReply.{ItemReply}
+use Rattle.front.specs.Command.{Command, write, bulk, get, search, count, refresh, promote}
+use Rattle.front.specs.Reply.{Reply, bulked, counted, refreshed, promoted, refused}
+use Rattle.shard.specs.Answering.{hits_of, item_reply_of, refusal_of, reply_of, write_of}
 
 -- how many copies an entry counts
 abbrev pub counted_in : Result Output CopyFault → ℕ
@@ -41,6 +46,33 @@ pub record IsWritten (w : Write) (r : Reply) : Type 0 where
   pub confirmed : Confirmed
   pub acknowledged : IsConfirmed (write_of w) confirmed
   pub told : r ≡ told_by confirmed.write.deed.answer (counted_in confirmed.acknowledgement.deed.answer)
+
+-- how many copies the entry at a place counts
+abbrev pub counted_at : List Receipt → ℕ → ℕ
+counted_at entries place = unwrap_or (option_map (λ r. counted_in r.deed.answer) (slice_get entries place)) 0
+
+-- the same of a place that may be wanting
+abbrev pub count_by : List Receipt → Option ℕ → ℕ
+count_by entries None = 0
+count_by entries (Some place) = counted_at entries place
+
+-- what is told of each write of a bulk, of the copies that the entry at its place counts
+abbrev pub replies_at : List Receipt → List Item → List ℕ → List ItemReply
+replies_at entries [] places = []
+replies_at entries (item ∷ items) [] = item_reply_of 0 item ∷ replies_at entries items []
+replies_at entries (item ∷ items) (place ∷ places) = item_reply_of (counted_at entries place) item ∷ replies_at entries items places
+
+-- the reply tells what became of each write of a bulk, and for one that was kept the copies that its acknowledgement counts
+pub record IsBulkTold (confirmed : ConfirmedBulk) (r : Reply) : Type 0 where
+  pub items : List Item
+  pub kept : items_in confirmed.bulk.deed.answer ≡ Some items
+  pub told : r ≡ bulked (replies_at confirmed.acknowledgements.items items confirmed.places.items)
+
+-- the bulk has an entry of its copy, and for each write that was kept one that acknowledges it, and the reply tells them
+pub record IsBulkWritten (ws : List Write) (r : Reply) : Type 0 where
+  pub confirmed : ConfirmedBulk
+  pub acknowledged : IsBulkConfirmed (map write_of ws) confirmed
+  pub told : IsBulkTold confirmed r
 
 -- the reply tells what a copy, after a legal journal, has of the id
 pub record IsGot (id : Id) (r : Reply) : Type 0 where
@@ -90,6 +122,7 @@ master_refusal master.Full = Full
 -- what is asked was done
 abbrev pub IsDone : Command → Reply → Type 0
 IsDone (write w) r = IsWritten w r
+IsDone (bulk ws) r = IsBulkWritten ws r
 IsDone (get id) r = IsGot id r
 IsDone (search q page) r = IsFound q page r
 IsDone (count q) r = IsCounted q r

@@ -5,8 +5,9 @@ ghost use Rattle.engine.specs.Shown.{hits_view};
 ghost use Rattle.front.specs.CommandView.{command_view};
 ghost use Rattle.front.specs.ReplyView.{reply_view};
 ghost use Rattle.shard.specs.Answering as spec;
-ghost use Rattle.group.specs.Group.{counted_in, told_by, IsCounted, IsDone, IsFound, IsGot, IsRefreshed, IsWritten};
+ghost use Rattle.group.specs.Group.{counted_in, told_by, IsBulkWritten, IsCounted, IsDone, IsFound, IsGot, IsRefreshed, IsWritten};
 
+use crate::bulks::told_bulk;
 use crate::promoting::{is_promotion, promote, refusal_to};
 use cluster::{Client, ClusterFault, Confirmed};
 use doc::{DocId, Mapping};
@@ -17,8 +18,8 @@ use front::reply::{Refusal, Reply};
 use node::Receipt;
 use published::{SearchFault, Searcher, Unnamed};
 use query::{Page, Query, SearchBody};
-use replica::{CopyFault, Output};
-use shard::answering::{hits_of, refusal_of, reply_in, write_of};
+use replica::{CopyFault, Output, Writes};
+use shard::answering::{hits_of, refusal_of, reply_in, write_of, writes_of};
 use std::alloc::{AllocError, Global};
 use std::sync::{Mutex, Wait};
 use translog::LogDevice;
@@ -99,6 +100,7 @@ impl<'a, R: Wait, D: LogDevice> Group<'a, R, D> {
     {
         match command {
             Command::Write(write) => self.write(write),
+            Command::Bulk(writes) => self.bulk(writes),
             Command::Get(id) => self.get(id),
             Command::Search(body) => self.search(&body),
             Command::Count(query) => self.count(&query),
@@ -117,6 +119,17 @@ impl<'a, R: Wait, D: LogDevice> Group<'a, R, D> {
             self.refresh_copies()?;
         }
         Ok(told(confirmed))
+    }
+
+    /// Has the primary do the writes of a bulk with one step, and waits until each member has those that were kept.
+    fn bulk(&self, writes: Vec<Write>) -> Result<Reply, ClusterFault>
+        ensures { IfOk result (λ r. IsBulkWritten writes.items (reply_view r)) }
+    {
+        let Some(writes) = Writes::of(writes_of(self.alloc, writes)?) else {
+            return Err(ClusterFault::Copy(CopyFault::Mismatch));
+        };
+        let confirmed = self.client.bulk(self.rt, writes)?;
+        told_bulk(self.alloc, confirmed)
     }
 
     fn get(&self, id: DocId) -> Result<Reply, ClusterFault>
@@ -194,7 +207,7 @@ fn told(confirmed: Confirmed) -> Reply
 }
 
 /// How many copies an entry counts.
-fn counted_in(receipt: &Receipt) -> u64
+pub(crate) fn counted_in(receipt: &Receipt) -> u64
     ensures { result ≡ counted_in receipt.now.deed.answer }
 {
     match &receipt.deed.answer {

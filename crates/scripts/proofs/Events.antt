@@ -8,7 +8,7 @@ use Rattle.master.specs.declared.state.Request.{Request}
 use Rattle.master.specs.declared.state.Request.TheVariants.{Promote as Promotion, Allocate as Allocation}
 use Rattle.master.specs.Decide.{MasterStep, master_step}
 use Rattle.world.specs.declared.event.Event.{Event}
-use Rattle.world.specs.declared.event.Event.TheVariants.{Write, Get, Refresh, Restart, Deliver, Report, Promote, Allocate, TornWrite, TornDelivery}
+use Rattle.world.specs.declared.event.Event.TheVariants.{Write, Bulk, Get, Refresh, Restart, Deliver, Report, Promote, Allocate, TornWrite, TornBulk, TornDelivery}
 use Rattle.world.specs.declared.event.EventAnswer.{EventAnswer}
 use Rattle.world.specs.World.{World, Happened, answering, copy_in, after_step, at_copy, torn_at, after_decision, decided, delivered, request_of, at_master, deliver_to, deliver, deliver_torn_to, deliver_torn, message_at, world_step}
 use Rattle.scripts.specs.declared.refusal.Refusal.{Refusal}
@@ -61,6 +61,7 @@ torn_delivery_stays w (Some m) kept r = torn_to_stays w m kept _ r
 
 event_stays : (w : World) (e : Event) → Stays w (world_step w e)
 event_stays w (Write c write) r = copy_stays w (copy_in w.copies c) _ r
+event_stays w (Bulk c writes) r = copy_stays w (copy_in w.copies c) _ r
 event_stays w (Get c id) r = copy_stays w (copy_in w.copies c) _ r
 event_stays w (Refresh c) r = copy_stays w (copy_in w.copies c) _ r
 event_stays w (Restart c) r = copy_stays w (copy_in w.copies c) _ r
@@ -69,6 +70,7 @@ event_stays w (Report c id) r = copy_stays w (copy_in w.copies c) _ r
 event_stays w (Promote c) r = decided_stays w (master_step w.master (Promotion c)) r
 event_stays w Allocate r = decided_stays w (master_step w.master Allocation) r
 event_stays w (TornWrite c write kept) r = torn_stays w (copy_in w.copies c) _ kept r
+event_stays w (TornBulk c writes kept) r = torn_stays w (copy_in w.copies c) _ kept r
 event_stays w (TornDelivery k kept) r = torn_delivery_stays w (message_at w k) kept r
 
 stays : (w v : World) (e : Event) (a : EventAnswer) → world_step w e ≡ answering v a → IsRefused a → v ≡ w

@@ -1,3 +1,5 @@
 mod Events
 mod FirstLine
 mod Played
+mod Puts
+mod Words

@@ -4,7 +4,7 @@ use Rattle.std.specs.Str.{bytes_eq}
 use Rattle.replica.specs.declared.input.Condition.{Condition}
 use Rattle.wire.specs.Number.{number_of}
 use Rattle.wire.specs.Pieces.{text_of}
-use Rattle.scripts.specs.Words.{split_word, one_word}
+use Rattle.scripts.specs.Words.{split_word, one_word, few_words}
 
 -- what a write does; documents are texts that are still to be read
 pub data LineWrite : Type 0 where
@@ -30,6 +30,9 @@ pub data Command : Type 0 where
   -- a delivery and a write whose append is cut, with the record kept or not
   torn_delivery : (message : ℕ) → (kept : Bool) → Command
   torn_put : (copy : ℕ) → (kept : Bool) → (id source : List ℕ) → Command
+  -- puts of `{}` whose records are kept together, and the same where the append is cut
+  bulk : (copy : ℕ) → (ids : List (List ℕ)) → Command
+  torn_bulk : (copy : ℕ) → (kept : Bool) → (ids : List (List ℕ)) → Command
 
 -- a number, and the text behind the space after it
 abbrev pub number_then : List ℕ → Option (ℕ × List ℕ)
@@ -115,6 +118,14 @@ torn_of text = option_and_then (λ at. option_map (λ kept. torn_delivery at.0 k
 abbrev pub tornput_of : List ℕ → Option Command
 tornput_of text = option_and_then (λ at. option_and_then (λ on. option_map (λ words. torn_put at.0 on.0 words.0 words.1) (split_word on.1)) (kept_then at.1)) (number_then text)
 
+-- `bulk C ID ..`
+abbrev pub bulk_of : List ℕ → Option Command
+bulk_of text = option_and_then (λ at. option_map (λ ids. bulk at.0 ids) (few_words at.1)) (number_then text)
+
+-- `tornbulk C 0 ID ..` and `tornbulk C 1 ID ..`
+abbrev pub tornbulk_of : List ℕ → Option Command
+tornbulk_of text = option_and_then (λ at. option_and_then (λ on. option_map (λ ids. torn_bulk at.0 on.0 ids) (few_words on.1)) (kept_then at.1)) (number_then text)
+
 -- the command of a word with the text behind it
 abbrev pub command_named : List ℕ → List ℕ → Option Command
 command_named word text =
@@ -134,7 +145,9 @@ command_named word text =
     if bytes_eq word (codes "promote") then promote_of text else (
     if bytes_eq word (codes "fail") then fail_of text else (
     if bytes_eq word (codes "torn") then torn_of text else (
-    if bytes_eq word (codes "tornput") then tornput_of text else None))))))))))))))))
+    if bytes_eq word (codes "tornput") then tornput_of text else (
+    if bytes_eq word (codes "bulk") then bulk_of text else (
+    if bytes_eq word (codes "tornbulk") then tornbulk_of text else None))))))))))))))))))
 
 -- a word alone
 abbrev pub command_alone : List ℕ → Option Command

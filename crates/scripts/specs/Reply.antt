@@ -6,12 +6,15 @@ use Rattle.op.specs.declared.message.Content.{Content}
 use Rattle.op.specs.declared.message.Content.TheVariants.{Op as Operation, Ack, Promoted, Resync, Track, Recover, Synced, Fail, Removed}
 use Rattle.op.specs.declared.message.Msg.{Msg}
 use Rattle.engine.specs.Answer as engine
+use Rattle.replica.specs.declared.output.Item.{Item}
+use Rattle.replica.specs.declared.output.Item.TheVariants.{Wrote as WroteItem, Refused as RefusedItem}
 use Rattle.replica.specs.declared.output.Answer.{Answer}
-use Rattle.replica.specs.declared.output.Answer.TheVariants.{Wrote, Taken, Stale, Repeated, Reported, Found, Missing, Point}
+use Rattle.replica.specs.declared.output.Answer.TheVariants.{Wrote, Bulked, Taken, Stale, Repeated, Reported, Found, Missing, Point}
 use Rattle.replica.specs.declared.output.Outcome.{Outcome}
 use Rattle.replica.specs.declared.output.Outcome.TheVariants.{Created, Updated, Deleted, NotFound}
 use Rattle.replica.specs.declared.output.Document.{Document}
 use Rattle.replica.specs.declared.output.Written.{Written}
+use Rattle.replica.specs.Fault.{name_of}
 
 -- messages are numbered from one past those that were sent before
 pub data Reply : Type 0 where
@@ -48,9 +51,23 @@ wrote_line w = codes "wrote " ++ (decimal w.seq ++ (codes " " ++ (decimal w.term
 abbrev pub found_line : Document → List ℕ
 found_line d = codes "found " ++ (decimal d.seq ++ (codes " " ++ (decimal d.term ++ (codes " " ++ (decimal d.version ++ (codes " " ++ (d.source ++ codes "\n")))))))
 
--- the line of a copy's answer; a report has none
+-- the line of a refusal
+abbrev pub refused : List ℕ → List ℕ
+refused name = codes "refused " ++ (name ++ codes "\n")
+
+-- the line of a write of a bulk
+abbrev pub item_line : Item → List ℕ
+item_line (WroteItem w) = wrote_line w
+item_line (RefusedItem f) = refused (name_of f)
+
+abbrev pub item_lines : List Item → List ℕ
+item_lines [] = []
+item_lines (i ∷ is) = item_line i ++ item_lines is
+
+-- the lines of a copy's answer; a report has none
 abbrev pub answer_line : Answer → List ℕ
 answer_line (Wrote w) = wrote_line w
+answer_line (Bulked items) = item_lines items
 answer_line Taken = codes "taken\n"
 answer_line Stale = codes "stale\n"
 answer_line Repeated = codes "repeated\n"
@@ -111,7 +128,3 @@ printed (torn n) = codes "torn\npoint " ++ (decimal n ++ codes "\n")
 printed merging = codes "merging\n"
 printed merged = codes "merged\n"
 printed (hits a) = codes "hits " ++ (decimal a.total ++ (ids_text a.hits ++ codes "\n"))
-
--- the line of a refusal
-abbrev pub refused : List ℕ → List ℕ
-refused name = codes "refused " ++ (name ++ codes "\n")

@@ -1,8 +1,8 @@
 -- What a command does to the copies of an index.
-use Rattle.std.specs.Prelude.{ℕ, Bool, nat_lt, ◌==◌, ◌||◌, List, length, Option, Some, None, Result, Ok, Err, if◌then◌else◌}
+use Rattle.std.specs.Prelude.{ℕ, Bool, nat_lt, ◌==◌, ◌||◌, List, length, codes, Option, Some, None, Result, Ok, Err, if◌then◌else◌}
 use Rattle.serde_json.specs.Data.{Data}
 use Rattle.serde_json.specs.Read.{read}
-use Rattle.doc.specs.Outcome.{◌>>=◌}
+use Rattle.doc.specs.Outcome.{◌>>=◌, try_map}
 use Rattle.doc.specs.Id.{id_of}
 use Rattle.doc.specs.Mapping.{MappingData, mapping_of}
 use Rattle.doc.specs.Document.{doc_of}
@@ -17,11 +17,11 @@ use Rattle.replica.specs.declared.input.OpType.TheVariants.{Index, Create, Delet
 use Rattle.replica.specs.declared.input.Write.{Write}
 use Rattle.replica.specs.Copy.{Copy}
 use Rattle.world.specs.declared.event.Event.{Event}
-use Rattle.world.specs.declared.event.Event.TheVariants.{Write as Writes, Get, Refresh, Restart, Deliver, Report, Promote, Allocate, TornWrite, TornDelivery}
+use Rattle.world.specs.declared.event.Event.TheVariants.{Write as Writes, Bulk, Get, Refresh, Restart, Deliver, Report, Promote, Allocate, TornWrite, TornBulk, TornDelivery}
 use Rattle.world.specs.declared.event.EventAnswer.{EventAnswer}
 use Rattle.world.specs.declared.event.EventAnswer.TheVariants.{Answered, Decided, Delivered, Torn, Refused, RefusedByMaster, NoSuchCopy, NoSuchMessage}
 use Rattle.world.specs.World.{World, copy_in, new_world, world_step}
-use Rattle.scripts.specs.Command.{Command, LineWrite, index, create, delete, opening, write, get, refresh, restart, merge, swap, search, deliver, promote, allocate, fail, torn_delivery, torn_put}
+use Rattle.scripts.specs.Command.{Command, LineWrite, index, create, delete, opening, write, get, refresh, restart, merge, swap, search, deliver, promote, allocate, fail, torn_delivery, torn_put, bulk, torn_bulk}
 use Rattle.scripts.specs.Refusal.{Refusal, not_open, already_open, bad_count, no_such_copy, no_such_message, of_doc, of_query, of_copy, of_master, in_doc, in_query}
 use Rattle.scripts.specs.Reply.{Reply, opened, answered, decided, delivered, torn, merging, merged, hits}
 
@@ -84,6 +84,28 @@ torn_put_at w copy kept id text = do
   change ← write_of c.mapping id (index text None)
   taken w (TornWrite copy change kept)
 
+-- a put of `{}`
+abbrev pub put_of : MappingData → List ℕ → Result Write Refusal
+put_of m id = write_of m id (index (codes "{}") None)
+
+-- one for each id
+abbrev pub puts_of : MappingData → List (List ℕ) → Result (List Write) Refusal
+puts_of m ids = try_map (put_of m) ids
+
+-- a bulk of them: the copy, then the ids in order, then the step
+unfoldable pub bulk_at : World → ℕ → List (List ℕ) → Step World
+bulk_at w copy ids = do
+  c ← there (copy_in w.copies copy)
+  puts ← puts_of c.mapping ids
+  taken w (Bulk copy puts)
+
+-- the same where the append is cut
+unfoldable pub torn_bulk_at : World → ℕ → Bool → List (List ℕ) → Step World
+torn_bulk_at w copy kept ids = do
+  c ← there (copy_in w.copies copy)
+  puts ← puts_of c.mapping ids
+  taken w (TornBulk copy puts kept)
+
 -- `get` shows all records
 unfoldable pub get_at : World → ℕ → List ℕ → Step World
 get_at w copy id = do
@@ -124,6 +146,8 @@ step_open w allocate = taken w Allocate
 step_open w (fail copy) = taken w (Report w.master.primary (id_named copy))
 step_open w (torn_delivery message kept) = taken w (TornDelivery message kept)
 step_open w (torn_put copy kept id text) = torn_put_at w (id_named copy) kept id text
+step_open w (bulk copy ids) = bulk_at w (id_named copy) ids
+step_open w (torn_bulk copy kept ids) = torn_bulk_at w (id_named copy) kept ids
 
 abbrev pub read_or_not_json : Option Data → Result Data Refusal
 read_or_not_json None = Err (of_doc not_json)
@@ -160,6 +184,8 @@ step_unopened allocate = Err not_open
 step_unopened (fail copy) = Err not_open
 step_unopened (torn_delivery message kept) = Err not_open
 step_unopened (torn_put copy kept id text) = Err not_open
+step_unopened (bulk copy ids) = Err not_open
+step_unopened (torn_bulk copy kept ids) = Err not_open
 
 abbrev pub in_state : Step World → Step State
 in_state (Ok r) = Ok (Some r.0, r.1)

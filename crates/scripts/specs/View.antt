@@ -9,7 +9,7 @@ use Rattle.master.specs.Fault as master
 use Rattle.scripts.specs.declared.command.LineWrite.{LineWrite}
 use Rattle.scripts.specs.declared.command.LineWrite.TheVariants.{Index, Create, Delete}
 use Rattle.scripts.specs.declared.command.Command.{Command}
-use Rattle.scripts.specs.declared.command.Command.TheVariants.{Open, Write, Get, Refresh, Restart, Merge, Swap, Search, Deliver, Promote, Allocate, Fail, TornDelivery, TornPut}
+use Rattle.scripts.specs.declared.command.Command.TheVariants.{Open, Write, Get, Refresh, Restart, Merge, Swap, Search, Deliver, Promote, Allocate, Fail, TornDelivery, TornPut, Bulk, TornBulk}
 use Rattle.scripts.specs.declared.refusal.Refusal.{Refusal}
 use Rattle.scripts.specs.declared.refusal.Refusal.TheVariants.{BadLine, NotOpen, AlreadyOpen, BadCount, NoSuchCopy, NoSuchMessage, Doc, Query, Copy, Master, NoMemory}
 use Rattle.scripts.specs.declared.reply.Reply.{Reply}
@@ -38,6 +38,8 @@ command_view Allocate = command.allocate
 command_view (Fail copy) = command.fail copy
 command_view (TornDelivery message kept) = command.torn_delivery message kept
 command_view (TornPut copy kept id source) = command.torn_put copy kept id.now source.now
+command_view (Bulk copy ids) = command.bulk copy ids
+command_view (TornBulk copy kept ids) = command.torn_bulk copy kept ids
 
 -- nothing for want of memory
 abbrev pub refusal_of : Refusal → Option refusal.Refusal

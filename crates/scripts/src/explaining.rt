@@ -14,13 +14,14 @@ use std::str;
 use world::World;
 
 /// The lines of a script, by their first word.
-const FORMS: [(&str, &str); 18] = [
+const FORMS: [(&str, &str); 20] = [
     ("open", "open COPIES MAPPING"),
     ("put", "put COPY ID JSON"),
     ("create", "create COPY ID JSON"),
     ("del", "del COPY ID"),
     ("putif", "putif COPY SEQ TERM ID JSON"),
     ("delif", "delif COPY SEQ TERM ID"),
+    ("bulk", "bulk COPY ID ..` with 1 to 100 ids, as `bulk 1 a b"),
     ("get", "get COPY ID"),
     ("refresh", "refresh COPY"),
     ("restart", "restart COPY"),
@@ -35,6 +36,10 @@ const FORMS: [(&str, &str); 18] = [
     (
         "tornput",
         "tornput COPY 0 ID JSON` or `tornput COPY 1 ID JSON",
+    ),
+    (
+        "tornbulk",
+        "tornbulk COPY 0 ID ..` or `tornbulk COPY 1 ID ..` with 1 to 100 ids, as `tornbulk 1 0 a b",
     ),
 ];
 
@@ -107,7 +112,7 @@ fn bad_line(alloc: Global, line: &[u8]) -> Result<String, AllocError> {
         None => {
             let word = cut(alloc, word)?;
             format!(in alloc;
-                "{word:?} is no word of a script; a line begins with open, put, create, del, putif, delif, get, refresh, restart, merge, swap, search, deliver, promote, allocate, fail, torn or tornput"
+                "{word:?} is no word of a script; a line begins with open, put, create, del, putif, delif, bulk, get, refresh, restart, merge, swap, search, deliver, promote, allocate, fail, torn, tornput or tornbulk"
             )
         }
     }

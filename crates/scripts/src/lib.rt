@@ -4,6 +4,7 @@
 mod command;
 mod explaining;
 mod fault;
+mod ids;
 mod names;
 mod playing;
 mod refusal;

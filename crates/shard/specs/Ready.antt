@@ -19,13 +19,14 @@ use Rattle.replica.specs.declared.role.Role.{Role}
 use Rattle.replica.specs.declared.role.Role.TheVariants.{Empty, Replica, Primary}
 use Rattle.replica.specs.Logged.{Logged, IsRefusal, IsReopened, IsSame}
 use Rattle.replica.specs.Step.{copy_step, stepped}
-use Rattle.front.specs.Command.{Command, write, get, search, count, refresh, promote}
+use Rattle.front.specs.Command.{Command, write, bulk, get, search, count, refresh, promote}
 use Rattle.front.specs.declared.reply.Refusal.TheVariants.{NoMemory}
 use Rattle.front.specs.Reply.{Reply, refused}
 use Rattle.shard.specs.Answering.{IsAnswered}
 
 abbrev pub is_write : Command → Bool
 is_write (write w) = true
+is_write (bulk ws) = true
 is_write (get id) = false
 is_write (search q page) = false
 is_write (count q) = false

@@ -13,9 +13,9 @@ ghost use Rattle.shard.specs.Answering as spec;
 
 use engine::{Hit as Found, Hits, Snapshot};
 use front::command::{Change, Command, Condition, Write};
-use front::reply::{Found as Document, Hit, Outcome, Refusal, Reply, Wrote};
+use front::reply::{Found as Document, Hit, ItemReply, Outcome, Refusal, Reply, Wrote};
 use query::{Page, Query, SearchBody};
-use replica::{Answer, Copy, CopyFault, Input, OpType, Output};
+use replica::{Answer, Copy, CopyFault, Input, Item, Items, OpType, Output, Writes, Written};
 use std::alloc::{AllocError, Global};
 use translog::LogDevice;
 
@@ -46,6 +46,7 @@ pub(crate) fn answer<D: LogDevice>(
 {
     match command {
         Command::Write(write) => do_write(alloc, copy, write),
+        Command::Bulk(writes) => do_bulk(alloc, copy, writes),
         Command::Get(id) => take(alloc, copy, Input::Get(id)),
         Command::Search(body) => search(alloc, copy, &body),
         Command::Count(query) => count(alloc, copy, &query),
@@ -87,7 +88,7 @@ fn do_write<D: LogDevice>(
     ensures gives { Gives fault_of (λ r. (copy.new.copy, reply_view r)) result (spec.written copy.old.copy write) }
     ensures open { OnOk result (copy.new.closed ≡ false) }
     ensures part { IfErr result (λ e. is_log e ≡ false → (copy.new.closed ≡ false) × spec.IsPartOf (command_view (Command.Write write)) copy.old.copy copy.new.copy) }
-    ensures failed { IfErr result (λ e. is_log e ≡ true → spec.HasFailed copy.old write copy.new) }
+    ensures failed { IfErr result (λ e. is_log e ≡ true → spec.HasFailed copy.old (spec.input_of write) copy.new) }
 {
     let refresh = write.refresh;
     let output = copy.step(alloc, input_of(write))?;
@@ -95,6 +96,36 @@ fn do_write<D: LogDevice>(
         copy.step(alloc, Input::Refresh)?;
     }
     Ok(reply_of(output))
+}
+
+/// Does the writes of a bulk, with one step.
+fn do_bulk<D: LogDevice>(
+    alloc: Global,
+    copy: &mut Copy<D>,
+    writes: Vec<Write>,
+) -> Result<Reply, CopyFault>
+    requires { copy.old.closed ≡ false }
+    ensures gives { Gives fault_of (λ r. (copy.new.copy, reply_view r)) result (spec.bulk_written copy.old.copy writes.items) }
+    ensures open { OnOk result (copy.new.closed ≡ false) }
+    ensures part { IfErr result (λ e. is_log e ≡ false → (copy.new.closed ≡ false) × spec.IsPartOf (command_view (Command.Bulk writes)) copy.old.copy copy.new.copy) }
+    ensures failed { IfErr result (λ e. is_log e ≡ true → spec.HasFailed copy.old (spec.bulk_of writes.items) copy.new) }
+{
+    let Some(writes) = Writes::of(writes_of(alloc, writes)?) else {
+        return Ok(Reply::Refused(Refusal::Mismatch));
+    };
+    let output = copy.step(alloc, Input::Bulk(writes))?;
+    Ok(bulk_reply(alloc, output)?)
+}
+
+/// The writes of a bulk, as a copy takes them.
+pub fn writes_of(alloc: Global, writes: Vec<Write>) -> Result<Vec<replica::Write>, AllocError>
+    ensures { IfOk result (λ ws. ws.items ≡ map spec.write_of writes.items) }
+{
+    let mut taken = Vec::with_capacity(alloc, writes.len())?;
+    for write in writes {
+        taken.push(write_of(write))?;
+    }
+    Ok(taken)
 }
 
 /// The input that a write is to its copy.
@@ -150,18 +181,82 @@ pub(crate) fn reply_of(output: Output) -> Reply
     reply_in(answer, members as u64)
 }
 
-/// The reply that tells an answer; so many copies have to acknowledge a write.
+/// The reply that tells what the step of a bulk answers.
+fn bulk_reply(alloc: Global, output: Output) -> Result<Reply, AllocError>
+    ensures { IfOk result (λ r. reply_view r ≡ spec.bulk_reply_of output.members output.answer) }
+{
+    let Output {
+        answer,
+        sent: _,
+        acknowledged: _,
+        members,
+    } = output;
+    bulk_reply_in(alloc, answer, members as u64)
+}
+
+/// The reply that tells the answer to a bulk; so many copies have to acknowledge its writes.
+pub fn bulk_reply_in(alloc: Global, answer: Answer, copies: u64) -> Result<Reply, AllocError>
+    ensures { IfOk result (λ r. reply_view r ≡ spec.bulk_reply_of copies answer) }
+{
+    match answer {
+        Answer::Bulked(items) => Ok(Reply::Bulked(replies_of(alloc, items, copies)?)),
+        Answer::Found(document) => {
+            drop(document);
+            Ok(Reply::Refused(Refusal::Mismatch))
+        }
+        Answer::Wrote(_)
+        | Answer::Missing
+        | Answer::Point(_)
+        | Answer::Taken
+        | Answer::Stale
+        | Answer::Repeated
+        | Answer::Reported => Ok(Reply::Refused(Refusal::Mismatch)),
+    }
+}
+
+/// The replies that tell what became of the writes of a bulk; so many copies have to acknowledge them.
+pub fn replies_of(alloc: Global, items: Items, copies: u64) -> Result<Vec<ItemReply>, AllocError>
+    ensures { IfOk result (λ rs. rs.items ≡ map (spec.item_reply_of copies) items) }
+{
+    let mut replies = Vec::new(alloc);
+    for item in items.into_vec() {
+        replies.push(item_reply_of(item, copies))?;
+    }
+    Ok(replies)
+}
+
+/// The reply that tells what became of a write of a bulk; so many copies have to acknowledge it.
+pub fn item_reply_of(item: Item, copies: u64) -> ItemReply
+    ensures { result ≡ spec.item_reply_of copies item }
+{
+    match item {
+        Item::Wrote(written) => ItemReply::Wrote(wrote_of(written, copies)),
+        Item::Refused(fault) => ItemReply::Refused(refusal_of(&fault)),
+    }
+}
+
+fn wrote_of(written: Written, copies: u64) -> Wrote
+    ensures { result ≡ spec.wrote_of copies written }
+{
+    Wrote {
+        seq: written.seq,
+        term: written.term,
+        version: written.version,
+        outcome: replied_outcome(written.outcome),
+        copies,
+    }
+}
+
+/// The reply that tells an answer to anything but a bulk; so many copies have to acknowledge a write.
 pub fn reply_in(answer: Answer, copies: u64) -> Reply
     ensures { reply_view result ≡ spec.reply_of copies answer }
 {
     match answer {
-        Answer::Wrote(written) => Reply::Wrote(Wrote {
-            seq: written.seq,
-            term: written.term,
-            version: written.version,
-            outcome: replied_outcome(written.outcome),
-            copies,
-        }),
+        Answer::Wrote(written) => Reply::Wrote(wrote_of(written, copies)),
+        Answer::Bulked(items) => {
+            drop(items);
+            Reply::Refused(Refusal::Mismatch)
+        }
         Answer::Found(document) => Reply::Got(Some(Document {
             seq: document.seq,
             term: document.term,

@@ -57,7 +57,11 @@ impl Seen {
         match command {
             Command::Search(body) => Some(or_refused(search_of(alloc, &self.snapshot, body))),
             Command::Count(query) => Some(or_refused(count_of(alloc, &self.snapshot, query))),
-            Command::Write(_) | Command::Get(_) | Command::Refresh | Command::Promote(_) => None,
+            Command::Write(_)
+            | Command::Bulk(_)
+            | Command::Get(_)
+            | Command::Refresh
+            | Command::Promote(_) => None,
         }
     }
 }

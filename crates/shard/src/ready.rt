@@ -32,7 +32,7 @@ pub(crate) fn is_write(command: &Command) -> bool
     ensures { result ≡ spec.is_write (command_view command.now) }
 {
     match command {
-        Command::Write(_) => true,
+        Command::Write(_) | Command::Bulk(_) => true,
         Command::Get(_)
         | Command::Search(_)
         | Command::Count(_)

@@ -9,6 +9,8 @@ pub(crate) const LINES: &str =
   del C ID                        the same with deleted or not_found
   putif C SEQ TERM ID JSON        the same, if the last change has both numbers
   delif C SEQ TERM ID             the same, if the last change has both numbers
+  bulk C ID ID ..                 puts of {}, 1 to 100, whose records are kept
+                                  together: wrote .. or refused NAME for each
   get C ID                        found SEQ TERM VERSION SOURCE, or missing
   refresh C                       point N: searches show the first N writes
   restart C                       point N: the copy is opened again
@@ -22,6 +24,7 @@ pub(crate) const LINES: &str =
   torn K 0, torn K 1              torn, point N: K arrives, and its append is cut
   tornput C 0 ID JSON             torn, point N: a put whose append is cut (0:
                                   its record is lost; 1: it is kept)
+  tornbulk C 0 ID ID ..           the same of a bulk and all its records
 C is a copy: 1 takes the writes at first. Behind what a line prints stand the
 messages that it sends, msg K KIND FROM TO (0 is the master), and the writes
 that it confirms, ack SEQ TERM: with one copy at once, with more copies when

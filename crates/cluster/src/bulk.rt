@@ -1,0 +1,240 @@
+//! Bulks that callers ask for.
+ghost use Rattle.std.specs.Prelude.{◌≡◌, true, IsTrue, IfOk, IfErr, IfSome, Some};
+ghost use Rattle.cluster.specs.Bulks.{bulked, has_kept, AreBulkSettledAt, AreSettledAt, HasKept, IsAcknowledgedAt, IsBulkConfirmed, IsBulkRefused, IsSettledAt, IsSettledBulk};
+ghost use Rattle.cluster.specs.Confirmed.{IsBare, IsEndOf};
+
+use crate::checks::{acknowledges, is_of_bulk, items_in};
+use crate::client::{Client, received, refusal_of};
+use crate::confirmed::ConfirmedBulk;
+use crate::durable::Durable;
+use crate::fault::ClusterFault;
+use crate::post::{BulkEnding, Post};
+use crossbeam_channel::{Receiver, bounded};
+use node::Receipt;
+use replica::{Item, Writes, Written};
+use std::alloc::{AllocError, Global};
+use std::sync::Wait;
+use translog::LogDevice;
+
+/// A bulk that its copy has answered, and where it is told how it ended.
+#[derive(Drop)]
+struct BegunBulk {
+    receipt: Receipt,
+    endings: Receiver<BulkEnding, Global>,
+}
+
+impl<D: LogDevice> Client<D> {
+    /// Has the primary do the writes of a bulk with one step, and waits until every member has those that were kept. A bulk for which the window of the
+    /// primary has no room waits for it, and what comes to that copy from callers behind it. Where there is no primary since the master could make
+    /// none, its fault says why.
+    pub fn bulk<R: Wait>(&self, rt: &R, writes: Writes) -> Result<ConfirmedBulk, ClusterFault>
+        ensures confirmed { IfOk result (IsBulkConfirmed writes) }
+        ensures refused { IfErr result (IsBulkRefused writes) }
+    {
+        let primary = self.shared.primary(rt);
+        let asked = writes.copy(self.alloc)?;
+        let begun = self.begin_bulk(rt, primary, asked)?;
+        match confirmed(rt, self.alloc, begun, primary, &writes) {
+            Ok(done) => Ok(done),
+            Err(fault) => Err(self.or_unled_bulk(rt, &writes, fault)),
+        }
+    }
+
+    /// A bulk's refusal; in place of one for want of a primary the master's fault, where it could make none.
+    fn or_unled_bulk<R: Wait>(&self, rt: &R, writes: &Writes, fault: ClusterFault) -> ClusterFault
+        requires { IsBulkRefused writes.now fault }
+        ensures { IsBulkRefused writes.now result }
+    {
+        if let ClusterFault::NoPrimary(_) = &fault {
+            if let Some(why) = self.shared.unled(rt) {
+                drop(fault);
+                return ClusterFault::from(why);
+            }
+        }
+        fault
+    }
+
+    /// Hands a bulk to a copy, and waits for its entry.
+    fn begin_bulk<R: Wait>(
+        &self,
+        rt: &R,
+        copy: u32,
+        writes: Writes,
+    ) -> Result<BegunBulk, ClusterFault>
+        ensures { IfErr result IsBare }
+    {
+        let (first, answers) = bounded(self.alloc, 1)?;
+        let (second, endings) = bounded(self.alloc, 1)?;
+        self.send(rt, copy, Post::Bulk(writes, first, second))?;
+        let receipt = received(rt, &answers)?;
+        Ok(BegunBulk { receipt, endings })
+    }
+}
+
+/// Waits until the writes of a bulk that were kept are acknowledged, or its copy leads no more.
+fn confirmed<R: Wait>(
+    rt: &R,
+    alloc: Global,
+    begun: BegunBulk,
+    copy: u32,
+    writes: &Writes,
+) -> Result<ConfirmedBulk, ClusterFault>
+    ensures confirmed { IfOk result (IsBulkConfirmed writes.now) }
+    ensures refused { IfErr result (IsBulkRefused writes.now) }
+{
+    let BegunBulk { receipt, endings } = begun;
+    if !is_of_bulk(&receipt, copy, writes) {
+        return Err(ClusterFault::Stray(receipt.place));
+    }
+    match is_kept_in(&receipt) {
+        Some(true) => ended(rt, alloc, receipt, &endings),
+        Some(false) => settled(alloc, receipt, Vec::new(alloc)),
+        None => Err(refusal_of(receipt)),
+    }
+}
+
+/// Whether something was kept of the bulk of a receipt.
+fn is_kept_in(receipt: &Receipt) -> Option<bool>
+    ensures { IfSome result (λ b. IsTrue b → HasKept receipt.now) }
+{
+    match items_in(receipt) {
+        Some(items) => Some(has_kept(items)),
+        None => None,
+    }
+}
+
+/// Whether a write among these was kept.
+fn has_kept(items: &[Item]) -> bool
+    ensures { result ≡ has_kept items.now }
+{
+    for item in items {
+        if let Item::Wrote(_) = item {
+            return true;
+        }
+    }
+    false
+}
+
+/// How a bulk ended of which something was kept.
+fn ended<R: Wait>(
+    rt: &R,
+    alloc: Global,
+    receipt: Receipt,
+    endings: &Receiver<BulkEnding, Global>,
+) -> Result<ConfirmedBulk, ClusterFault>
+    ensures kept { IfOk result (IsSettledBulk receipt) }
+    ensures lost { IfErr result (IsEndOf receipt) }
+{
+    match endings.recv(rt) {
+        Ok(BulkEnding::Acknowledged(entries)) => settled(alloc, receipt, entries),
+        Ok(BulkEnding::Lost(entry)) => Err(ClusterFault::Lost(receipt, entry.into_inner())),
+        Err(_) => Err(ClusterFault::Unconfirmed(receipt)),
+    }
+}
+
+/// A bulk whose writes these entries acknowledge.
+fn settled(
+    alloc: Global,
+    receipt: Receipt,
+    entries: Vec<Durable<Receipt>>,
+) -> Result<ConfirmedBulk, ClusterFault>
+    ensures settled { IfOk result (IsSettledBulk receipt) }
+    ensures bare { IfErr result IsBare }
+{
+    let acknowledgements = receipts_of(alloc, entries)?;
+    match places_in(alloc, &receipt, &acknowledgements)? {
+        Some(places) => Ok(ConfirmedBulk {
+            bulk: receipt,
+            acknowledgements,
+            places,
+        }),
+        None => Err(ClusterFault::Stray(receipt.place)),
+    }
+}
+
+/// The entries alone.
+fn receipts_of(alloc: Global, entries: Vec<Durable<Receipt>>) -> Result<Vec<Receipt>, AllocError> {
+    let mut receipts = Vec::with_capacity(alloc, entries.len())?;
+    for entry in entries {
+        receipts.push(entry.into_inner())?;
+    }
+    Ok(receipts)
+}
+
+/// For each item of a bulk's entry the place of an entry, which acknowledges the write where it was kept; nothing where one has none.
+fn places_in(
+    alloc: Global,
+    receipt: &Receipt,
+    entries: &[Receipt],
+) -> Result<Option<Vec<usize>>, AllocError>
+    ensures { IfOk result (λ o. IfSome o (λ ps. AreBulkSettledAt receipt.now entries.now ps.items)) }
+{
+    match items_in(receipt) {
+        Some(items) => places_of(alloc, items, entries),
+        None => Ok(None),
+    }
+}
+
+fn places_of(
+    alloc: Global,
+    items: &[Item],
+    entries: &[Receipt],
+) -> Result<Option<Vec<usize>>, AllocError>
+    ensures { IfOk result (λ o. IfSome o (λ ps. AreSettledAt entries.now items.now ps.items)) }
+{
+    let mut places = Vec::with_capacity(alloc, items.len())?;
+    let mut last = 0;
+    for item in items {
+        let Some(place) = place_of(item, entries, last) else {
+            return Ok(None);
+        };
+        places.push(place)?;
+        last = place;
+    }
+    Ok(Some(places))
+}
+
+/// The place of an entry that acknowledges the write of an item, from a place on; where the write was refused that place.
+fn place_of(item: &Item, entries: &[Receipt], from: usize) -> Option<usize>
+    ensures { IfSome result (IsSettledAt entries.now item.now) }
+{
+    match item {
+        Item::Wrote(written) => place_from(*written, entries, from),
+        Item::Refused(_) => Some(from),
+    }
+}
+
+/// The place of an entry that acknowledges a write: this one, the next, or the first.
+fn place_from(written: Written, entries: &[Receipt], from: usize) -> Option<usize>
+    ensures { IfSome result (λ p. IsAcknowledgedAt entries.now p written) }
+{
+    if is_acknowledged_at(written, entries, from) {
+        return Some(from);
+    }
+    let next = from.saturating_add(1);
+    if is_acknowledged_at(written, entries, next) {
+        return Some(next);
+    }
+    first_place(written, entries)
+}
+
+fn first_place(written: Written, entries: &[Receipt]) -> Option<usize>
+    ensures { IfSome result (λ p. IsAcknowledgedAt entries.now p written) }
+{
+    for place in 0..entries.len() {
+        if is_acknowledged_at(written, entries, place) {
+            return Some(place);
+        }
+    }
+    None
+}
+
+/// Whether the entry at a place acknowledges a write.
+fn is_acknowledged_at(written: Written, entries: &[Receipt], place: usize) -> bool
+    ensures { IsTrue result → IsAcknowledgedAt entries.now place written }
+{
+    match entries.get(place) {
+        Some(entry) => acknowledges(entry, written),
+        None => false,
+    }
+}

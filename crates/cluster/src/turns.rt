@@ -1,0 +1,108 @@
+//! Which post is done next: a bulk waits until the window of the copy that leads has room for it.
+
+use crate::gate::Gate;
+use crate::post::Post;
+use crate::releasing::TOGETHER;
+use crate::worker::Worker;
+use crossbeam_channel::Receiver;
+use std::alloc::Global;
+use std::sync::Wait;
+use translog::LogDevice;
+
+/// Whether a post is a caller's, and waits behind those of callers that came before it. A searcher waits for nobody.
+fn is_of_caller(post: &Post) -> bool {
+    match post {
+        Post::Ask(_, _) | Post::Write(_, _, _) | Post::Bulk(_, _, _) | Post::Get(_, _) => true,
+        Post::Hand(_, _) | Post::Report(_) | Post::Depose(_) | Post::Seat(_) | Post::Stop => false,
+    }
+}
+
+impl<D: LogDevice, G: Gate> Worker<D, G> {
+    /// The next post that is to be done: of those that are held back the oldest, where it may be done now; else one that comes, for which it waits.
+    /// Nothing where nobody can send one any more.
+    pub(crate) fn next<R: Wait>(&mut self, rt: &R, inbox: &Receiver<Post, Global>) -> Option<Post> {
+        if let Some(post) = self.next_held() {
+            return Some(post);
+        }
+        for _ in rt.forever() {
+            let Ok(post) = inbox.recv(rt) else {
+                return None;
+            };
+            if let Some(post) = self.admitted(post) {
+                return Some(post);
+            }
+        }
+        None
+    }
+
+    /// The same of those that are there.
+    pub(crate) fn next_there<R: Wait>(
+        &mut self,
+        rt: &R,
+        inbox: &Receiver<Post, Global>,
+    ) -> Option<Post> {
+        if let Some(post) = self.next_held() {
+            return Some(post);
+        }
+        for _ in 0..TOGETHER {
+            let Ok(post) = inbox.try_recv(rt) else {
+                return None;
+            };
+            if let Some(post) = self.admitted(post) {
+                return Some(post);
+            }
+        }
+        None
+    }
+
+    /// The oldest post that is held back, where it may be done now.
+    fn next_held(&mut self) -> Option<Post> {
+        let Some(post) = self.backlog.first() else {
+            return None;
+        };
+        if !self.backlog.is_freed() && self.is_to_wait(post) {
+            return None;
+        }
+        self.backlog.next()
+    }
+
+    /// A post that came, where it may be done now; else it is held back. Without memory for that it is let go, and its caller told so.
+    fn admitted(&mut self, post: Post) -> Option<Post> {
+        let waits = is_of_caller(&post) && (!self.backlog.is_empty() || self.is_to_wait(&post));
+        if !waits {
+            return Some(post);
+        }
+        let _ = self.backlog.push(post);
+        None
+    }
+
+    /// Whether a post is a bulk that is to wait: the copy leads, by all that it knows, and its window has no room for it.
+    fn is_to_wait(&self, post: &Post) -> bool {
+        match post {
+            Post::Bulk(writes, _, _) => {
+                self.is_open()
+                    && self.leads()
+                    && self.copy().term() >= self.deposed
+                    && self.copy().room() < writes.as_slice().len() as u64
+            }
+            _ => false,
+        }
+    }
+
+    /// Lets all go that wait for acknowledgements: of what is held back nothing waits any more either.
+    pub(crate) fn end_waits(&mut self) {
+        self.waits.end();
+        self.backlog.free();
+    }
+
+    /// Does all that is held back, for a worker that is to end.
+    pub(crate) fn finish<R: Wait>(&mut self, rt: &R) {
+        for _ in 0..self.backlog.len() {
+            let Some(post) = self.backlog.next() else {
+                break;
+            };
+            self.serve(rt, post);
+        }
+        self.release(rt);
+    }
+}

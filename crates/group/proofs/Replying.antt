@@ -1,0 +1,34 @@
+-- What became of the writes of a bulk, one more each.
+use Rattle.std.proofs.Common.{◌≡◌, ℕ, suc, List, [], ◌∷◌, ◌++◌, length, map, refl, ap, subst}
+use Rattle.std.specs.Prelude.{slice_get, Result, Ok, Err, IfOk}
+use Rattle.replica.specs.declared.output.Item.{Item}
+use Rattle.replica.specs.declared.input.Write as taken
+use Rattle.node.specs.declared.pass.Receipt.{Receipt}
+use Rattle.cluster.specs.Bulks.{IsBulkConfirmed}
+use Rattle.cluster.specs.declared.confirmed.ConfirmedBulk.{ConfirmedBulk}
+use Rattle.cluster.specs.declared.fault.ClusterFault.{ClusterFault}
+use Rattle.front.specs.declared.command.Write.{Write}
+use Rattle.front.specs.declared.reply.ItemReply.{ItemReply}
+use Rattle.front.specs.declared.reply.Reply.{Reply}
+use Rattle.front.specs.ReplyView.{reply_view}
+use Rattle.shard.specs.Answering.{item_reply_of, write_of}
+use Rattle.group.specs.Group.{count_by, counted_at, replies_at, IsBulkTold, IsBulkWritten}
+
+pub as_many : (entries : List Receipt) (items : List Item) (places : List ℕ) → length (replies_at entries items places) ≡ length items
+as_many entries [] places = refl
+as_many entries (one ∷ items) [] = ap suc (as_many entries items [])
+as_many entries (one ∷ items) (place ∷ places) = ap suc (as_many entries items places)
+
+pub replies_more : (entries : List Receipt) (items : List Item) (item : Item) (places : List ℕ)
+    → replies_at entries (items ++ item ∷ []) places ≡ replies_at entries items places ++ item_reply_of (count_by entries (slice_get places (length items))) item ∷ []
+replies_more entries [] item [] = refl
+replies_more entries [] item (place ∷ places) = refl
+replies_more entries (one ∷ items) item [] = ap (λ (rs : List ItemReply). item_reply_of 0 one ∷ rs) (replies_more entries items item [])
+replies_more entries (one ∷ items) item (place ∷ places) = ap (λ (rs : List ItemReply). item_reply_of (counted_at entries place) one ∷ rs) (replies_more entries items item places)
+
+-- a bulk that is confirmed and told is done
+pub told_written : (ws : List Write) (confirmed : ConfirmedBulk) (asked : List taken.Write) (answer : Result Reply ClusterFault) → asked ≡ map write_of ws → IsBulkConfirmed asked confirmed → IfOk answer (λ r. IsBulkTold confirmed (reply_view r))
+    → IfOk answer (λ r. IsBulkWritten ws (reply_view r))
+told_written ws confirmed asked (Ok r) is acknowledged told =
+    record { confirmed = confirmed; acknowledged = subst (λ (writes : List taken.Write). IsBulkConfirmed writes confirmed) is acknowledged; told = told }
+told_written ws confirmed asked (Err e) is acknowledged told = tt

@@ -1,0 +1,92 @@
+//! What a bulk is replied that is confirmed.
+ghost use Rattle.std.specs.Prelude.{◌≡◌, IfOk, IfSome, Some, slice_get};
+ghost use Rattle.cluster.specs.Bulks as cluster;
+ghost use Rattle.front.specs.ReplyView.{reply_view};
+ghost use Rattle.group.specs.Group.{count_by, counted_at, replies_at, IsBulkTold};
+
+use crate::group::counted_in;
+use cluster::{ClusterFault, ConfirmedBulk};
+use front::reply::{ItemReply, Reply};
+use node::Receipt;
+use replica::{Answer, CopyFault, Items, Output};
+use shard::answering::item_reply_of;
+use std::alloc::{AllocError, Global};
+
+/// The reply that tells a bulk that is confirmed.
+pub(crate) fn told_bulk(alloc: Global, confirmed: ConfirmedBulk) -> Result<Reply, ClusterFault>
+    ensures { IfOk result (λ r. IsBulkTold confirmed (reply_view r)) }
+{
+    let ConfirmedBulk {
+        bulk,
+        acknowledgements,
+        places,
+    } = confirmed;
+    let Some(items) = items_of(bulk) else {
+        return Err(ClusterFault::Stray(0));
+    };
+    let replies = replies_at(alloc, items, &places, &acknowledgements)?;
+    Ok(Reply::Bulked(replies))
+}
+
+/// What became of the writes of a receipt's bulk.
+fn items_of(bulk: Receipt) -> Option<Items>
+    ensures { IfSome result (λ items. cluster.bulked bulk.deed.answer ≡ Some items) }
+{
+    items_in(bulk.deed.answer)
+}
+
+fn items_in(answer: Result<Output, CopyFault>) -> Option<Items>
+    ensures { IfSome result (λ items. cluster.bulked answer ≡ Some items) }
+{
+    match answer {
+        Ok(output) => items_by(output.answer),
+        Err(_) => None,
+    }
+}
+
+fn items_by(answer: Answer) -> Option<Items>
+    ensures { IfSome result (λ items. cluster.bulked_as answer ≡ Some items) }
+{
+    match answer {
+        Answer::Bulked(items) => Some(items),
+        _ => None,
+    }
+}
+
+/// What became of each write of a bulk, with the copies that the entry at its place counts.
+#[tactic(auto, using(crate::proofs::Replying::replies_more, crate::proofs::Replying::as_many))]
+fn replies_at(
+    alloc: Global,
+    items: Items,
+    places: &[usize],
+    entries: &[Receipt],
+) -> Result<Vec<ItemReply>, AllocError>
+    ensures { IfOk result (λ rs. rs.items ≡ replies_at entries.now items places.now) }
+{
+    let mut replies = Vec::new(alloc);
+    for item in items.into_vec() {
+        let copies = count_by(entries, places, replies.len());
+        replies.push(item_reply_of(item, copies))?;
+    }
+    Ok(replies)
+}
+
+/// How many copies the entry counts whose place comes at some place; 0 where none comes there.
+fn count_by(entries: &[Receipt], places: &[usize], at: usize) -> u64
+    ensures { result ≡ count_by entries.now (slice_get places.now at) }
+{
+    match places.get(at) {
+        Some(place) => counted_at(entries, *place),
+        None => 0,
+    }
+}
+
+/// How many copies the entry at a place counts.
+fn counted_at(entries: &[Receipt], place: usize) -> u64
+    ensures { result ≡ counted_at entries.now place }
+{
+    match entries.get(place) {
+        Some(entry) => counted_in(entry),
+        None => 0,
+    }
+}
