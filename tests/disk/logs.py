@@ -67,9 +67,25 @@ def held(log):
             found = {seq: it for seq, it in found.items() if seq <= known}
         elif tag == 3:
             found = {}
-        for seq, _, name, source in operations(content[{1: 9, 2: 21, 3: 13}[tag]:]):
+        for seq, _, name, source in kept_by(content):
             found[seq] = (name, source)
     return found
+
+
+def kept_by(content):
+    """The operations of a frame; an upgrade has none, and in a group each stands behind how many were known to be everywhere."""
+    tag = content[0]
+    if tag == 4:
+        return grouped(content[5:])
+    return () if tag == 5 else operations(content[{1: 9, 2: 21, 3: 13}[tag]:])
+
+
+def grouped(bytes_):
+    while bytes_:
+        one = next(operations(bytes_[8:]))
+        _, _, name, source = one
+        bytes_ = bytes_[8 + 25 + (0 if name is None else 2 + len(name)) + (0 if source is None else 4 + len(source)):]
+        yield one
 
 
 def documents(log):

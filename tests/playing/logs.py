@@ -23,7 +23,7 @@ def translog():
     table = [(bytes.fromhex(log.strip("-")), gives) for log, gives in rows]
     inspected(f"the {len(table)} lines of translog/openings.txt below its comment", [(log, said(log, gives)) for log, gives in table])
     changed = [(log, said(log, opened(log))) for log in logs()]
-    inspected(f"a translog with each record that is cut or changed in {len(changed)} ways", changed)
+    inspected(f"translogs with each record that are cut or changed in {len(changed)} ways", changed)
     with tempfile.TemporaryDirectory() as folder:
         check("a log that is missing", not_one_complaint(run(["inspect", f"{folder}/missing.rsx"])))
         check("a log that is a folder", not_one_complaint(run(["inspect", folder])))

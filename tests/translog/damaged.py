@@ -1,5 +1,5 @@
 """Translogs that are cut or changed, and what opening each of them gives, by docs/FORMATS.md alone."""
-HEADER = b"RSX1"
+HEADER, FIRST = b"RSX2", b"RSX1"
 GREATEST = 2 ** 63 - 1
 
 
@@ -21,12 +21,16 @@ def frame(content):
 
 
 # An index, a delete, a resync with an operation that does nothing, and a recovery.
-WHOLE = HEADER + b"".join(map(frame, [
+RECORDS = b"".join(map(frame, [
     b"\1" + number(-1) + operation(0, 1, 1, "é".encode(), b'{"n":1}'),
     b"\1" + number(0) + operation(1, 1, 2, b"a"),
     b"\2" + number(2) + number(0) + number(2, 4) + operation(1, 2, 0) + operation(2, 1, 3, b"b", b"{}"),
     b"\3" + number(3) + number(2, 4) + operation(0, 1, 1, b"a", b"{}") + operation(1, 3, 0),
 ]))
+UPGRADE = frame(b"\5")
+GROUP = frame(b"\4" + number(2, 4) + number(-1) + operation(0, 1, 1, b"a", b"{}") + number(0) + operation(1, 1, 2, b"a"))
+# The first form, the same with the upgrade and a group, and the second form.
+WHOLE = [FIRST + RECORDS, FIRST + frame(b"\1" + number(0) + operation(1, 1, 2, b"a")) + UPGRADE + GROUP, HEADER + GROUP + frame(b"\1" + number(0) + operation(1, 1, 2, b"a"))]
 
 
 class NoRecord(Exception):
@@ -80,37 +84,49 @@ class Fields:
             if seq != first + at or older > term:
                 raise NoRecord
 
-    def record(self):
-        tag = self.number(1)
+    def kept(self):
+        """The fields of an operation's record."""
+        self.checkpoint()
+        if not self.operation()[2]:
+            raise NoRecord
+
+    def piece(self, groups):
+        """How many records a frame has, and whether groups may stand behind it, where they may stand there or don't yet."""
+        tag, count = self.number(1), 1
         if tag == 1:
-            self.checkpoint()
-            if not self.operation()[2]:
-                raise NoRecord
+            self.kept()
         elif tag == 2:
             term, known = self.number(least=1), self.checkpoint()
             self.history(term, known + 1)
         elif tag == 3:
             self.history(self.number(least=1), 0)
+        elif tag == 4 and groups:
+            count = self.number(4, 2, 1_024)
+            for _ in range(count):
+                self.kept()
+        elif tag == 5 and not groups:
+            count, groups = 0, True
         else:
             raise NoRecord
         if self.left:
             raise NoRecord
+        return count, groups
 
 
 def opened(log):
     """The number of records that opening gives, BadMagic, or Damaged and an offset."""
-    if log[:4] != HEADER[:len(log)]:
+    if log[:4] not in (HEADER[:len(log)], FIRST[:len(log)]):
         return "BadMagic"
-    at, records = 4, 0
+    at, records, groups = 4, 0, log[:4] == HEADER
     while len(log) - at >= 4:
         end = at + 4 + int.from_bytes(log[at:at + 4], "little")
         if end > len(log):
             break
         try:
-            Fields(log[at + 4:end]).record()
+            count, groups = Fields(log[at + 4:end]).piece(groups)
         except NoRecord:
             return f"Damaged {at}"
-        at, records = end, records + 1
+        at, records = end, records + count
     return str(records)
 
 
@@ -128,7 +144,8 @@ def torn_at(log):
 
 
 def logs():
-    """The log cut after each of its bytes, and with each of its bytes changed to every other value."""
-    yield from (WHOLE[:size] for size in range(len(WHOLE) + 1))
-    for at, byte in enumerate(WHOLE):
-        yield from (WHOLE[:at] + bytes([other]) + WHOLE[at + 1:] for other in range(256) if other != byte)
+    """Each log cut after each of its bytes, and with each of its bytes changed to every other value."""
+    for whole in WHOLE:
+        yield from (whole[:size] for size in range(len(whole) + 1))
+        for at, byte in enumerate(whole):
+            yield from (whole[:at] + bytes([other]) + whole[at + 1:] for other in range(256) if other != byte)

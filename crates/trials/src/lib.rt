@@ -2,6 +2,8 @@
 #![tactic(auto)]
 
 #[cfg(test)]
+mod bulks;
+#[cfg(test)]
 mod copies;
 #[cfg(test)]
 mod devices;

@@ -1,11 +1,11 @@
-//! Tests of logs of pieces: groups, the upgrade, and either form.
+//! Tests of translogs with groups, the upgrade, and either form.
 ghost use Rattle.std.specs.Prelude.{IfOk};
 ghost use Rattle.op.specs.Records.{AreOfOneFrame};
 
 use op::{Record, decode_frame};
 use std::alloc::Global;
 use std::test::Fail;
-use translog::{LogFault, MemDevice, PieceLog};
+use translog::{LogFault, MemDevice, Translog};
 
 // In hex, the index of `a` and its delete as one group, behind the header of the second form.
 const GROUP: &str =
@@ -53,7 +53,7 @@ fn front_of(alloc: Global, whole: &[u8], len: usize) -> Result<Vec<u8>, Fail> {
 
 /// How many records a log opens with, or none and the offset at which it is damaged.
 fn opened(alloc: Global, bytes: Vec<u8>) -> Result<(Option<usize>, u64), Fail> {
-    let mut log = PieceLog::over(MemDevice::new(bytes));
+    let mut log = Translog::over(MemDevice::new(bytes));
     match log.reopen(alloc) {
         Ok(records) => Ok((Some(records.len()), 0)),
         Err(LogFault::Damaged(offset)) => Ok((None, offset)),
@@ -90,7 +90,7 @@ fn group(alloc: Global, content: &[u8]) -> Result<Vec<Record>, Fail>
 }
 
 /// Adds the group, and tells how many records there are then.
-fn add_group(alloc: Global, log: &mut PieceLog<MemDevice>, content: &[u8]) -> Result<usize, Fail> {
+fn add_group(alloc: Global, log: &mut Translog<MemDevice>, content: &[u8]) -> Result<usize, Fail> {
     let records = group(alloc, content)?;
     let frame = log.prepare_group(alloc, records.as_slice())?;
     log.append(frame)?;
@@ -103,7 +103,7 @@ fn grown(alloc: Global, device: MemDevice) -> Result<((usize, usize, usize), Mem
         alloc,
         "0402000000ffffffffffffffff00000000000000000100000000000000010000000000000001010061020000007b7d000000000000000001000000000000000100000000000000020000000000000002010061",
     )?;
-    let mut log = PieceLog::over(device);
+    let mut log = Translog::over(device);
     let none = log.reopen(alloc)?.len();
     let one = add_group(alloc, &mut log, &content)?;
     let two = add_group(alloc, &mut log, &content)?;
@@ -125,7 +125,7 @@ fn a_torn_header_becomes_that_of_the_second_form(rt: HostRuntime) -> Result<(), 
     let alloc = rt.alloc();
     for len in 0..4 {
         let torn = [b'R', b'S', b'X', b'1'];
-        let mut log = PieceLog::over(MemDevice::new(torn[..len].to_vec(alloc)?));
+        let mut log = Translog::over(MemDevice::new(torn[..len].to_vec(alloc)?));
         assert_eq!(rt; log.reopen(alloc)?.len(), 0);
         assert!(rt; log.device().bytes() == b"RSX2".as_slice());
     }
