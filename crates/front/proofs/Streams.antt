@@ -1,10 +1,13 @@
 -- A stream that is served.
-use Rattle.std.proofs.Common.{◌≡◌, inl, inr, ℕ, ◌+◌, true, false, List, [], ◌∷◌, ◌++◌, Option, Some, None, IfSome, refl, sym, ap, ◌∙◌, arith, append_assoc, append-nil, length-append}
+use Rattle.std.proofs.Common.{◌≡◌, ℕ, ◌+◌, true, false, true≢false, List, [], ◌∷◌, ◌++◌, Option, Some, None, IfSome, refl, sym, ap, ◌∙◌, arith, append_assoc, append-nil, length-append}
 use Rattle.std.specs.Io.KnownBytes.{Appends}
 use Rattle.std.proofs.KnownBytes.{Appends-nil, Appends-trans}
 use Rattle.doc.specs.Mapping.{MappingData}
 use Rattle.wire.specs.declared.reading.Whole.{Whole}
+use Rattle.wire.specs.declared.fault.StreamFault.{StreamFault}
+use Rattle.wire.specs.declared.fault.StreamFault.TheVariants.{Read, Write, NoMemory}
 use Rattle.wire.specs.Bytes.{AppendsFront}
+use Rattle.wire.specs.Fault.{is_write}
 use Rattle.front.specs.Command.{Command}
 use Rattle.wire.specs.Framing.{first}
 use Rattle.wire.specs.Reading.{IsRead, IsStanding, ends}
@@ -24,9 +27,11 @@ module _ {S : Type 0} (answers : S → Command → Reply → S → Type 0) (inde
   one_more s m t (p ∷ qs) q out one h a =
       (h.0, h.1, h.2 ++ one, h.3, one_more h.0 m t qs q h.2 one h.4 a, ap (λ o. o ++ one) h.5 ∙ append_assoc h.1 h.2 one)
 
-  none_more : (s : S) (qs : List Standing) → Partly answers index mapping s qs [] s
-  none_more s [] = (refl, refl)
-  none_more s (q ∷ qs) = inl (begun_none answers (work_of index mapping q) s, refl)
+  none_more : (e : StreamFault) → is_write e ≡ false → (s : S) (qs : List Standing) → Partly answers index mapping e s qs [] s
+  none_more Read is s qs = (refl, refl)
+  none_more Write is s qs = absurd (true≢false is)
+  none_more NoMemory is s [] = (refl, refl)
+  none_more NoMemory is s (q ∷ qs) = (begun_none answers (work_of index mapping q) s, refl)
 
   pub begins : (start out : Option (List ℕ)) (s : S) → IfSome start (Going answers index mapping s s out out start 0)
   begins None out s = tt
@@ -45,11 +50,12 @@ module _ {S : Type 0} (answers : S → Command → Reply → S → Type 0) (inde
   at_rest P o rest e h = rw e at h
 
   -- a fault before a request is read, or while it is
-  pub stops : (start left old new : Option (List ℕ)) (s t : S) (count : ℕ) → IfSome start (Going answers index mapping s t old new left count) → IfSome start (Stopped answers index mapping s t old new)
-  stops None left old new s t count g = tt
-  stops (Some bytes) left old new s t count g = record {
+  pub stops : (start left old new : Option (List ℕ)) (s t : S) (count : ℕ) (e : StreamFault) → is_write e ≡ false → IfSome start (Going answers index mapping s t old new left count)
+      → IfSome start (Stopped answers index mapping s t old new e)
+  stops None left old new s t count e is g = tt
+  stops (Some bytes) left old new s t count e is g = record {
     out = g.out;
-    cut = record { done = g.done; left = requests g.rest; split = g.split; middle = t; whole = g.out; served = g.serves; part = []; partly = none_more t (requests g.rest); written = sym (append-nil g.out) };
+    cut = record { done = g.done; left = requests g.rest; split = g.split; middle = t; whole = g.out; served = g.serves; part = []; partly = none_more e is t (requests g.rest); written = sym (append-nil g.out) };
     written = g.written;
   }
 
@@ -66,7 +72,7 @@ module _ {S : Type 0} (answers : S → Command → Reply → S → Type 0) (inde
 
   -- a fault while the request is answered
   pub stops_answering : (start left after old new : Option (List ℕ)) (s t u : S) (count : ℕ) (w : Whole) → IfSome start (Going answers index mapping s t old new left count)
-      → IfSome left (λ bs. IsRead (first bs) (Some w) after) → ((q : Standing) → IsStanding w q → Begun answers (work_of index mapping q) t u) → IfSome start (Stopped answers index mapping s u old new)
+      → IfSome left (λ bs. IsRead (first bs) (Some w) after) → ((q : Standing) → IsStanding w q → Begun answers (work_of index mapping q) t u) → IfSome start (Stopped answers index mapping s u old new NoMemory)
   stops_answering None left after old new s t u count w g r b = tt
   stops_answering (Some bytes) left after old new s t u count w g r b =
       let one = reads left after g.rest w g.is_left r in
@@ -80,7 +86,7 @@ module _ {S : Type 0} (answers : S → Command → Reply → S → Type 0) (inde
           whole = g.out;
           served = g.serves;
           part = [];
-          partly = inl (b one.one one.is_one, refl);
+          partly = (b one.one one.is_one, refl);
           written = sym (append-nil g.out);
         };
         written = g.written;
@@ -89,7 +95,7 @@ module _ {S : Type 0} (answers : S → Command → Reply → S → Type 0) (inde
   -- a fault while its page is written
   pub stops_writing : (start left after old mid new : Option (List ℕ)) (s t u : S) (count : ℕ) (w : Whole) (page : List ℕ) → IfSome start (Going answers index mapping s t old mid left count)
       → IfSome left (λ bs. IsRead (first bs) (Some w) after) → ((q : Standing) → IsStanding w q → Answered answers index (work_of index mapping q) t page u) → AppendsFront mid new page
-      → IfSome start (Stopped answers index mapping s u old new)
+      → IfSome start (Stopped answers index mapping s u old new Write)
   stops_writing None left after old mid new s t u count w page g r a f = tt
   stops_writing (Some bytes) left after old mid new s t u count w page g r a f =
       let one = reads left after g.rest w g.is_left r in
@@ -103,7 +109,7 @@ module _ {S : Type 0} (answers : S → Command → Reply → S → Type 0) (inde
           whole = g.out;
           served = g.serves;
           part = f.0;
-          partly = inr (page, a one.one one.is_one, f.1);
+          partly = (page, a one.one one.is_one, f.1);
           written = refl;
         };
         written = Appends-trans old mid new g.out f.0 g.written f.2;

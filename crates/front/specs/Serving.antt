@@ -1,8 +1,10 @@
 -- Requests that a service answers one after another.
-use Rattle.std.specs.Prelude.{◌≡◌, ◌⊎◌, ℕ, List, [], ◌∷◌, ◌++◌, length, Option, Some}
+use Rattle.std.specs.Prelude.{◌≡◌, ℕ, List, [], ◌∷◌, ◌++◌, length, Option, Some}
 use Rattle.std.specs.Io.KnownBytes.{Appends}
 use Rattle.doc.specs.Mapping.{MappingData}
 use Rattle.wire.specs.Bytes.{IsFront}
+use Rattle.wire.specs.declared.fault.StreamFault.{StreamFault}
+use Rattle.wire.specs.declared.fault.StreamFault.TheVariants.{Read, Write, NoMemory}
 use Rattle.front.specs.Command.{Command}
 use Rattle.front.specs.Reply.{Reply}
 use Rattle.wire.specs.Requests.{Standing, requests}
@@ -29,15 +31,24 @@ Serves {S} answers index mapping s [] out t = (t ≡ s) × (out ≡ [])
 Serves {S} answers index mapping s (q ∷ qs) out t =
     (m : S) × (one : List ℕ) × (rest : List ℕ) × Answered answers index (work_of index mapping q) s one m × Serves answers index mapping m qs rest t × (out ≡ one ++ rest)
 
--- of the first of these requests some commands were done and nothing was written, or all were done and a beginning of its page was written
-abbrev pub Partly : {S : Type 0} → (S → Command → Reply → S → Type 0) → List ℕ → MappingData → S → List Standing → List ℕ → S → Type 0
-Partly {S} answers index mapping s [] part t = (t ≡ s) × (part ≡ [])
-Partly {S} answers index mapping s (q ∷ qs) part t =
-    (Begun answers (work_of index mapping q) s t × (part ≡ []))
-    ⊎ ((one : List ℕ) × Answered answers index (work_of index mapping q) s one t × IsFront part one)
+-- of the first of these requests some commands were done, and nothing was written
+abbrev pub HasBegun : {S : Type 0} → (S → Command → Reply → S → Type 0) → List ℕ → MappingData → S → List Standing → List ℕ → S → Type 0
+HasBegun answers index mapping s [] part t = (t ≡ s) × (part ≡ [])
+HasBegun answers index mapping s (q ∷ qs) part t = Begun answers (work_of index mapping q) s t × (part ≡ [])
 
--- the first of these requests were answered, and the one after them in part
-pub record CutShort {S : Type 0} (answers : S → Command → Reply → S → Type 0) (index : List ℕ) (mapping : MappingData) (s : S) (qs : List Standing) (out : List ℕ) (t : S) : Type 0 where
+-- all commands of the first of these requests were done, and a beginning of its page was written
+abbrev pub HasPage : {S : Type 0} → (S → Command → Reply → S → Type 0) → List ℕ → MappingData → S → List Standing → List ℕ → S → Type 0
+HasPage answers index mapping s [] part t = ⊥
+HasPage answers index mapping s (q ∷ qs) part t = (one : List ℕ) × Answered answers index (work_of index mapping q) s one t × IsFront part one
+
+-- what was done for the requests behind those that were answered: nothing where they couldn't be read, all but a part of a page where that couldn't be written
+abbrev pub Partly : {S : Type 0} → (S → Command → Reply → S → Type 0) → List ℕ → MappingData → StreamFault → S → List Standing → List ℕ → S → Type 0
+Partly answers index mapping Read s qs part t = (t ≡ s) × (part ≡ [])
+Partly answers index mapping Write s qs part t = HasPage answers index mapping s qs part t
+Partly answers index mapping NoMemory s qs part t = HasBegun answers index mapping s qs part t
+
+-- the first of these requests were answered, and those after them in part, by the fault that ended the stream
+pub record CutShort {S : Type 0} (answers : S → Command → Reply → S → Type 0) (index : List ℕ) (mapping : MappingData) (fault : StreamFault) (s : S) (qs : List Standing) (out : List ℕ) (t : S) : Type 0 where
   pub done : List Standing
   pub left : List Standing
   pub split : qs ≡ done ++ left
@@ -45,7 +56,7 @@ pub record CutShort {S : Type 0} (answers : S → Command → Reply → S → Ty
   pub whole : List ℕ
   pub served : Serves answers index mapping s done whole middle
   pub part : List ℕ
-  pub partly : Partly answers index mapping middle left part t
+  pub partly : Partly answers index mapping fault middle left part t
   pub written : out ≡ whole ++ part
 
 -- the requests of the bytes were answered, so many, and their pages were written
@@ -55,10 +66,10 @@ pub record Served {S : Type 0} (answers : S → Command → Reply → S → Type
   pub written : Appends old new out
   pub counted : count ≡ length (requests bytes)
 
--- the first requests of the bytes were answered, the one after them in part, and what was written is a beginning of their pages
-pub record Stopped {S : Type 0} (answers : S → Command → Reply → S → Type 0) (index : List ℕ) (mapping : MappingData) (s t : S) (old new : Option (List ℕ)) (bytes : List ℕ) : Type 0 where
+-- the first requests of the bytes were answered, those after them in part, by the fault, and what was written is a beginning of their pages
+pub record Stopped {S : Type 0} (answers : S → Command → Reply → S → Type 0) (index : List ℕ) (mapping : MappingData) (s t : S) (old new : Option (List ℕ)) (fault : StreamFault) (bytes : List ℕ) : Type 0 where
   pub out : List ℕ
-  pub cut : CutShort answers index mapping s (requests bytes) out t
+  pub cut : CutShort answers index mapping fault s (requests bytes) out t
   pub written : Appends old new out
 
 -- the first requests were answered, and what is left are the others

@@ -15,7 +15,6 @@ use crate::request_fault::RequestFault;
 use crate::service::Service;
 use doc::{Doc, DocId, Mapping};
 use std::alloc::{AllocError, Global};
-use wire::StreamFault;
 
 /// What an item does to its document.
 #[derive(Clone, Copy, Debug, PartialEq, Eq)]
@@ -79,7 +78,7 @@ pub(crate) fn do_items<'b, S: Service>(
     service: &mut S,
     refresh: bool,
     items: &[Item<'b>],
-) -> Result<Done, StreamFault>
+) -> Result<Done, AllocError>
     ensures ok { IfOk result (λ done. spec.BulkDone S.answers (S.name service.old) (S.fields service.old) refresh (map item_view items.now)
         service.old (map text_view done.texts.items) done.refusal service.new) }
     ensures err { OnErr result (spec.BegunOf S.answers (spec.bulk_commands (S.name service.old) (S.fields service.old) refresh (map item_view items.now))
@@ -97,7 +96,7 @@ fn do_writes<'b, S: Service>(
     alloc: Global,
     service: &mut S,
     items: &[Item<'b>],
-) -> Result<Written, StreamFault>
+) -> Result<Written, AllocError>
     ensures ok { IfOk result (λ w. spec.WritesDone S.answers (S.name service.old) (S.fields service.old) (map item_view items.now)
         service.old (map text_view w.texts.items) service.new) }
     ensures any { IfOk result (λ w. w.is_any ≡ spec.is_any (spec.write_commands (S.name service.old) (S.fields service.old) (map item_view items.now))) }
@@ -149,7 +148,7 @@ fn do_part<'b, S: Service>(
     alloc: Global,
     service: &mut S,
     items: &[Item<'b>],
-) -> Result<Written, StreamFault>
+) -> Result<Written, AllocError>
     ensures part { IfOk result (λ w. spec.IsPart (S.name service.old) (S.fields service.old) (map item_view items.now) (length w.texts.items)) }
     ensures ok { IfOk result (λ w. spec.PartDone S.answers (S.name service.old) (S.fields service.old) (take (length w.texts.items) (map item_view items.now))
         service.old (map text_view w.texts.items) service.new) }
@@ -172,7 +171,7 @@ fn read_part<'i, 'b>(
     served: &str,
     mapping: &Mapping,
     items: &'i [Item<'b>],
-) -> Result<Part<'i, 'b>, StreamFault>
+) -> Result<Part<'i, 'b>, AllocError>
     ensures part { IfOk result (λ p. spec.IsPart served.now mapping.now (map item_view items.now) (length p.steps.items)) }
     ensures writes { IfOk result (λ p. p.writes.items ≡ spec.writes_of served.now mapping.now (take (length p.steps.items) (map item_view items.now))) }
     ensures steps { IfOk result (λ p. map step_view p.steps.items ≡ spec.steps_of served.now mapping.now 0 (take (length p.steps.items) (map item_view items.now))) }
@@ -196,7 +195,7 @@ fn read_item<'i, 'b>(
     mapping: &Mapping,
     item: &'i Item<'b>,
     writes: &mut Vec<Write>,
-) -> Result<Step<'i, 'b>, StreamFault>
+) -> Result<Step<'i, 'b>, AllocError>
     ensures step { IfOk result (λ s. step_view s ≡ spec.step_of (item_view item.now) (length writes.old.items) (spec.item_write served.now mapping.now (item_view item.now))) }
     ensures writes { OnOk result (writes.new.items ≡ writes.old.items ++ spec.good (spec.item_write served.now mapping.now (item_view item.now))) }
 {
@@ -207,7 +206,7 @@ fn read_item<'i, 'b>(
             Ok(Step::Waits(item, place))
         }
         Err(fault) => if fault.is_memory() {
-            Err(StreamFault::NoMemory)
+            Err(AllocError)
         } else {
             Ok(Step::Told(fault_text(alloc, item, &fault)?))
         },

@@ -1,7 +1,8 @@
 //! Serving requests, one after another.
-ghost use Rattle.std.specs.Prelude.{◌≡◌, IfOk, IfSome, OnErr, string_bytes, map};
+ghost use Rattle.std.specs.Prelude.{◌≡◌, IfOk, IfErr, IfSome, OnErr, string_bytes, map};
 ghost use Rattle.wire.specs.Reading as read;
 ghost use Rattle.wire.specs.Requests.{Standing};
+ghost use Rattle.wire.specs.declared.fault.StreamFault.TheVariants.{NoMemory};
 ghost use Rattle.front.specs.Serving as spec;
 ghost use Rattle.front.specs.Asking.{ask};
 ghost use Rattle.front.specs.Work.{work_of, worked, single, bulk};
@@ -29,9 +30,10 @@ pub fn serve_stream<R: Read, W: Write, S: Service>(
     // The service was called with just the commands of the requests, in order, and the pages of its replies were written.
     ensures ok { IfOk result (λ n. IfSome (R.remaining reader.old) (spec.Served S.answers (S.name service.old) (S.fields service.old)
         service.old service.new (W.contents writer.old) (W.contents writer.new) n)) }
-    // A beginning of those calls was made, at most those of one request more than the pages that are whole, and a beginning of the pages was written.
-    ensures err { OnErr result (IfSome (R.remaining reader.old) (spec.Stopped S.answers (S.name service.old) (S.fields service.old)
-        service.old service.new (W.contents writer.old) (W.contents writer.new))) }
+    // A beginning of those calls was made and of the pages was written: at `Read` those of whole requests alone, at `Write` all calls of the one whose
+    // page isn't known to be written whole, and for want of memory some calls of one, and nothing of its page.
+    ensures err { IfErr result (λ e. IfSome (R.remaining reader.old) (spec.Stopped S.answers (S.name service.old) (S.fields service.old)
+        service.old service.new (W.contents writer.old) (W.contents writer.new) e)) }
 {
     for count in 0..u64::MAX {
         let Some(whole) = read_request(alloc, reader)? else {
@@ -56,6 +58,7 @@ pub fn answer<S: Service>(
         (work_of (S.name service.old) (S.fields service.old) q) service.old (string_bytes page) service.new) }
     ensures err { OnErr result ((q : Standing) → read.IsStanding whole.now q → spec.Begun S.answers
         (work_of (S.name service.old) (S.fields service.old) q) service.old service.new) }
+    ensures cause { IfErr result (λ e. e ≡ NoMemory) }
     ensures name { S.name service.new ≡ S.name service.old }
     ensures fields { S.fields service.new ≡ S.fields service.old }
 {
@@ -74,6 +77,7 @@ pub(crate) fn answer_request<S: Service>(
         (worked (S.name service.old) (S.fields service.old) (ask (S.name service.old) (S.fields service.old) (read.request_view request.now))) service.old (string_bytes page) service.new) }
     ensures err { OnErr result (spec.Begun S.answers
         (worked (S.name service.old) (S.fields service.old) (ask (S.name service.old) (S.fields service.old) (read.request_view request.now))) service.old service.new) }
+    ensures cause { IfErr result (λ e. e ≡ NoMemory) }
     ensures name { S.name service.new ≡ S.name service.old }
     ensures fields { S.fields service.new ≡ S.fields service.old }
 {
@@ -96,6 +100,7 @@ fn do_command<S: Service>(
 ) -> Result<String, StreamFault>
     ensures ok { IfOk result (λ page. spec.Answered S.answers (S.name service.old) (single (command_view command)) service.old (string_bytes page) service.new) }
     ensures err { OnErr result (spec.Begun S.answers (single (command_view command)) service.old service.new) }
+    ensures cause { IfErr result (λ e. e ≡ NoMemory) }
     ensures name { S.name service.new ≡ S.name service.old }
     ensures fields { S.fields service.new ≡ S.fields service.old }
 {
@@ -120,6 +125,7 @@ fn do_bulk<'b, S: Service>(
     ensures ok { IfOk result (λ page. spec.Answered S.answers (S.name service.old) (bulk (S.name service.old) (S.fields service.old) refresh (map item_view items.now))
         service.old (string_bytes page) service.new) }
     ensures err { OnErr result (spec.Begun S.answers (bulk (S.name service.old) (S.fields service.old) refresh (map item_view items.now)) service.old service.new) }
+    ensures cause { IfErr result (λ e. e ≡ NoMemory) }
     ensures name { S.name service.new ≡ S.name service.old }
     ensures fields { S.fields service.new ≡ S.fields service.old }
 {

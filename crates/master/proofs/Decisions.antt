@@ -5,13 +5,13 @@ use Rattle.std.proofs.lemmas.Bool.{cases_lt}
 use Rattle.std.proofs.lemmas.Bool.Decides.{nat_tests}
 use Rattle.std.proofs.lemmas.Grind.{flat_map-append}
 use Rattle.std.proofs.lemmas.List.{take_all}
-use Rattle.std.specs.Prelude.{IfOk, IfErr, OnErr}
+use Rattle.std.specs.Prelude.{◌≢◌, IfOk, IfErr, OnOk, OnErr}
 use Rattle.doc.specs.Outcome.{◌>>=◌, Gives}
 use Rattle.op.specs.Ids.{has, with}
 use Rattle.translog.specs.Device.{AddsFront, count_after}
 use Rattle.translog.specs.declared.fault.LogFault.{LogFault}
 use Rattle.translog.specs.Fault.{errs_with, fault_of, is_device}
-use Rattle.translog.specs.Frames.{framed, contents_in, AreContents, IsLog, IsUnopened, LosesNothing}
+use Rattle.translog.specs.Frames.{framed, contents_in, AreContents, IsLog, IsUnopened, LosesNothing, stays}
 use Rattle.translog.proofs.FramesLaws.{contents_in_log, contents_stay, whole_log, torn_frame}
 use Rattle.op.specs.declared.message.Msg.{Msg}
 use Rattle.master.specs.declared.entry.Entry.{Entry}
@@ -206,36 +206,82 @@ first_log bytes n log reads = record {
   state = first_state-of n reads;
 }
 
-pub begun_none : (n : ℕ) (front bytes : List ℕ) (contents : List (List ℕ)) → front ≡ header → contents_in front bytes ≡ Ok contents → length contents ≡ 0 → begun_state n bytes ≡ Ok (begun n)
+pub no_contents : (front bytes : List ℕ) (contents : List (List ℕ)) → front ≡ header → contents_in front bytes ≡ Ok contents → length contents ≡ 0 → contents_in header bytes ≡ Ok []
+no_contents front bytes [] same found none = rw same at found
+no_contents front bytes (c ∷ cs) same found none = absurd (omega arith)
+
+pub some_contents : (front bytes : List ℕ) (contents : List (List ℕ)) → front ≡ header → contents_in front bytes ≡ Ok contents → (length contents ≡ 0 → ⊥) → contents_in header bytes ≢ Ok []
+some_contents front bytes [] same found some = absurd (some refl)
+some_contents front bytes (c ∷ cs) same found some = λ is. let held : contents_in header bytes ≡ Ok (c ∷ cs) = rw same at found in absurd (cc)
+
+pub begun_none : (n : ℕ) (bytes : List ℕ) → contents_in header bytes ≡ Ok [] → begun_state n bytes ≡ Ok (begun n)
 unfolding begun_state
-begun_none n front bytes [] same found none = rw (rw same at found) refl
-begun_none n front bytes (c ∷ cs) same found none = absurd (omega arith)
+begun_none n bytes none = rw none refl
 
 pub begun_some : (n : ℕ) (front bytes : List ℕ) (contents : List (List ℕ)) → front ≡ header → contents_in front bytes ≡ Ok contents → (length contents ≡ 0 → ⊥) → begun_state n bytes ≡ kept_state bytes
 unfolding begun_state kept_state
 begun_some n front bytes [] same found some = absurd (some refl)
 begun_some n front bytes (c ∷ cs) same found some = rw (rw same at found) refl
 
-pub unbegun : (e : LogFault) (n : ℕ) (old mid new : List ℕ) (before now : ℕ) → LosesNothing header old mid → AddsFront mid (frame_for (Begin n)) new → now ≡ count_after (is_device e) before → IsUnbegun e n old new before now
-unbegun e n old mid new before now left added counts = record { mended = mid; left = left; added = added; counts = counts }
-
 -- a log that wasn't opened has gained nothing
-pub unbegun_unopened : (e : LogFault) (n : ℕ) (old new : List ℕ) (before now : ℕ) → LosesNothing header old new → now ≡ count_after (is_device e) before → IsUnbegun e n old new before now
-unbegun_unopened e n old new before now left counts = unbegun e n old new new before now left (0, sym (append-nil new)) counts
+pub unbegun_unopened : (e : LogFault) (n : ℕ) (old new : List ℕ) (before now : ℕ) → IsUnopened (is_device e) header old new before now → IsUnbegun e n old new before now
+unbegun_unopened e n old new before now refused = record {
+  mended = new;
+  left = refused.left;
+  added = (0, sym (append-nil new));
+  counts = refused.counts;
+  unopened = λ _. refused;
+  unfailed = λ _. refl;
+}
 
-pub unbegun_first : (r : Result State LogFault) (n : ℕ) (old mid new : List ℕ) (before between now : ℕ) → LosesNothing header old mid → OnErr r (AddsFront mid (frame_for (Begin n)) new)
-    → now ≡ count_after (errs_with is_device r) between → between ≡ before → IfErr r (λ e. IsUnbegun e n old new before now)
-unbegun_first (Ok m) n old mid new before between now left added counts same = tt
-unbegun_first (Err e) n old mid new before between now left added counts same = unbegun e n old mid new before now left added (counts ∙ ap (count_after (is_device e)) same)
+-- nor has one that wasn't read
+pub unbegun_unread : (e : LogFault) (n : ℕ) (old new : List ℕ) (before now : ℕ) → new ≡ old → now ≡ count_after (is_device e) before → IsUnbegun e n old new before now
+unbegun_unread e n old new before now held counts = unbegun_unopened e n old new before now (record { same = λ _. held; left = stays held; counts = counts })
+
+unbegun_after : (e : LogFault) (n : ℕ) (old mid new : List ℕ) (before now : ℕ) → contents_in header old ≡ Ok [] → LosesNothing header old mid → AddsFront mid (frame_for (Begin n)) new
+    → (is_device e ≡ false → new ≡ mid) → now ≡ count_after (is_device e) before → IsUnbegun e n old new before now
+unbegun_after e n old mid new before now none left added unfailed counts = record {
+  mended = mid;
+  left = left;
+  added = added;
+  counts = counts;
+  unopened = λ some. absurd (some none);
+  unfailed = unfailed;
+}
+
+pub unbegun_first : (r : Result State LogFault) (n : ℕ) (old mid new : List ℕ) (before between now : ℕ) → contents_in header old ≡ Ok [] → LosesNothing header old mid
+    → OnErr r (AddsFront mid (frame_for (Begin n)) new) → IfErr r (λ e. is_device e ≡ false → new ≡ mid) → now ≡ count_after (errs_with is_device r) between → between ≡ before
+    → IfErr r (λ e. IsUnbegun e n old new before now)
+unbegun_first (Ok m) n old mid new before between now none left added unfailed counts same = tt
+unbegun_first (Err e) n old mid new before between now none left added unfailed counts same =
+    unbegun_after e n old mid new before now none left added unfailed (counts ∙ ap (count_after (is_device e)) same)
 
 pub unbegun_mended : (e : LogFault) (n : ℕ) (front old mid new : List ℕ) (before between now : ℕ) → IsUnopened (is_device e) front mid new between now → front ≡ header → mid ≡ old → between ≡ before → IsUnbegun e n old new before now
 unbegun_mended e n front old mid new before between now refused named held same =
-    let left : LosesNothing header old new = subst (λ (x : List ℕ). LosesNothing header x new) held (subst (λ (x : List ℕ). LosesNothing x mid new) named refused.left) in
-    unbegun_unopened e n old new before now left (refused.counts ∙ ap (count_after (is_device e)) same)
+    let here : IsUnopened (is_device e) header mid new between now = subst (λ (x : List ℕ). IsUnopened (is_device e) x mid new between now) named refused in
+    let moved : IsUnopened (is_device e) header old new between now = subst (λ (x : List ℕ). IsUnopened (is_device e) header x new between now) held here in
+    unbegun_unopened e n old new before now (subst (λ (x : ℕ). IsUnopened (is_device e) header old new x now) same moved)
 
 pub unbegun_opened : (r : Result State LogFault) (n : ℕ) (old mid new : List ℕ) (before between now : ℕ) → IfErr r (λ e. IsUnopened (is_device e) header mid new between now) → mid ≡ old → between ≡ before → IfErr r (λ e. IsUnbegun e n old new before now)
 unbegun_opened (Ok m) n old mid new before between now refused held same = tt
 unbegun_opened (Err e) n old mid new before between now refused held same = unbegun_mended e n header old mid new before between now refused refl held same
+
+-- what an opening or a first entry leaves, by whether the log had frames
+pub first_unless : (r : Result State LogFault) (old new : List ℕ) (n : ℕ) → contents_in header old ≢ Ok [] → OnOk r (contents_in header old ≡ Ok [] → new ≡ header ++ frame_for (Begin n))
+first_unless (Ok m) old new n some = λ none. absurd (some none)
+first_unless (Err e) old new n some = tt
+
+pub first_after : (r : Result State LogFault) (old new : List ℕ) (n : ℕ) → OnOk r (new ≡ header ++ frame_for (Begin n)) → OnOk r (contents_in header old ≡ Ok [] → new ≡ header ++ frame_for (Begin n))
+first_after (Ok m) old new n is = λ _. is
+first_after (Err e) old new n is = tt
+
+pub left_unless : (r : Result State LogFault) (old new : List ℕ) → contents_in header old ≡ Ok [] → OnOk r (contents_in header old ≢ Ok [] → LosesNothing header old new)
+left_unless (Ok m) old new none = λ some. absurd (some none)
+left_unless (Err e) old new none = tt
+
+pub left_after : (r : Result State LogFault) (old mid new : List ℕ) → mid ≡ old → OnOk r (LosesNothing header mid new) → OnOk r (contents_in header old ≢ Ok [] → LosesNothing header old new)
+left_after (Ok m) old mid new held left = λ _. subst (λ (x : List ℕ). LosesNothing header x new) held left
+left_after (Err e) old mid new held left = tt
 
 pub gives_first : (r : Result State LogFault) (n : ℕ) → IfOk r (λ m. m ≡ begun n) → IfErr r (λ e. fault_of e ≡ None) → Gives fault_of (λ m. m) r (Ok (begun n))
 gives_first (Ok m) n is cause = ap (λ (x : State). Ok x) (sym is)

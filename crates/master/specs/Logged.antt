@@ -1,11 +1,11 @@
 -- The master with its log.
-use Rattle.std.specs.Prelude.{◌≡◌, ◌⊎◌, ◌++◌, ℕ, Bool, true, false, List, [], ◌∷◌, Result, Ok, Err}
+use Rattle.std.specs.Prelude.{◌≡◌, ◌≢◌, ◌⊎◌, ◌++◌, ℕ, Bool, true, false, List, [], ◌∷◌, Result, Ok, Err}
 use Rattle.doc.specs.Outcome.{◌>>=◌}
 use Rattle.translog.specs.declared.fault.LogFault.{LogFault}
 use Rattle.translog.specs.declared.fault.LogFault.TheVariants.{Device}
 use Rattle.translog.specs.Device.{AddsFront, count_after}
 use Rattle.translog.specs.Fault.{Fault, is_device}
-use Rattle.translog.specs.Frames.{contents_in, framed, IsLog, LosesNothing}
+use Rattle.translog.specs.Frames.{contents_in, framed, IsLog, IsUnopened, LosesNothing}
 use Rattle.master.specs.declared.entry.Entry.{Entry}
 use Rattle.master.specs.declared.entry.Entry.TheVariants.{Begin}
 use Rattle.master.specs.declared.fault.MasterFault.{MasterFault}
@@ -96,9 +96,12 @@ IsRefused Full old new step = IsRefusedAs Full old new step
 IsRefused NoMemory old new step = (old.closed ≡ false) × IsSame old new
 IsRefused (Log f) old new step = (f ≡ Device) × (((old.closed ≡ true) × IsSame old new) ⊎ ((old.closed ≡ false) × IsClosed old new step))
 
--- a new index's log that wasn't begun: nothing of it is lost, a front of the first entry may be there, and a failure is counted
+-- a new index's log that wasn't begun: nothing of it is lost, a front of the first entry may be there, and a failure is counted; where it isn't one without
+-- frames it has gained nothing, and is as after a refused opening; nor has it gained anything where the device didn't fail
 pub record IsUnbegun (fault : LogFault) (n : ℕ) (old new : List ℕ) (before now : ℕ) : Type 0 where
   pub mended : List ℕ
   pub left : LosesNothing header old mended
   pub added : AddsFront mended (frame_for (Begin n)) new
   pub counts : now ≡ count_after (is_device fault) before
+  pub unopened : contents_in header old ≢ Ok [] → IsUnopened (is_device fault) header old new before now
+  pub unfailed : is_device fault ≡ false → new ≡ mended

@@ -1,9 +1,9 @@
 //! The master and its log.
-ghost use Rattle.std.specs.Prelude.{◌≡◌, ◌≤◌, [], length, true, false, None, Ok, IfOk, IfErr, OnOk, OnErr};
+ghost use Rattle.std.specs.Prelude.{◌≡◌, ◌≢◌, ◌≤◌, ◌++◌, [], length, true, false, None, Ok, IfOk, IfErr, OnOk, OnErr};
 ghost use Rattle.doc.specs.Outcome.{Gives};
 ghost use Rattle.translog.specs.Device.{AddsFront, count_after};
 ghost use Rattle.translog.specs.Fault.{errs_with, fault_of, is_device};
-ghost use Rattle.translog.specs.Frames.{IsLog, IsUnopened, LosesNothing};
+ghost use Rattle.translog.specs.Frames.{contents_in, IsLog, IsUnopened, LosesNothing};
 ghost use Rattle.master.specs.declared.entry.Entry.TheVariants.{Begin};
 ghost use Rattle.master.specs.Log.{header, kept_state};
 ghost use Rattle.master.specs.Decide.{decision_of, master_step};
@@ -67,12 +67,14 @@ impl<D: LogDevice> Master<D> {
         }
     }
 
-    /// The master of a new index of one copy to five. A log that holds a frame already is opened instead. A refusal hands the device back; its log
-    /// has lost nothing, and may have gained a front of the first entry.
+    /// The master of a new index of one copy to five. A log that holds a frame already is opened instead, and loses nothing but a torn end. A refusal
+    /// hands the device back; its log has lost nothing, and where it held no frame and the device failed it may have gained a front of the first entry.
     pub fn begin(alloc: Global, copies: u8, device: D) -> Result<Master<D>, Refused<D, LogFault>>
         requires { (1 ≤ copies) × (copies ≤ 5) }
         ensures state { Gives (λ r. fault_of r.fault) (λ m. m.state) result (begun_state copies (D.bytes device)) }
         ensures opened { IfOk result (λ m. m.closed ≡ false) }
+        ensures first { IfOk result (λ m. contents_in header (D.bytes device) ≡ Ok [] → m.log ≡ header ++ frame_for (Begin copies)) }
+        ensures left { IfOk result (λ m. contents_in header (D.bytes device) ≢ Ok [] → LosesNothing header (D.bytes device) m.log) }
         ensures counts { IfOk result (λ m. m.failures ≡ D.failures device) }
         ensures refused { IfErr result (λ r. IsUnbegun r.fault copies (D.bytes device) (D.bytes r.device) (D.failures device) (D.failures r.device)) }
         ensures in_memory { D.in_memory ≡ true → IfErr result (λ r. is_device r.fault ≡ false) }
@@ -229,6 +231,8 @@ fn begun<D: LogDevice>(alloc: Global, copies: u8, frames: &mut Frames<D>) -> Res
     ensures state { Gives fault_of (λ m. m) result (begun_state copies (D.bytes frames.old.device)) }
     ensures whole { IfOk result (λ m. IsLogOf (D.bytes frames.new.device) m) }
     ensures sound { IfOk result IsSound }
+    ensures first { OnOk result (contents_in header (D.bytes frames.old.device) ≡ Ok [] → D.bytes frames.new.device ≡ header ++ frame_for (Begin copies)) }
+    ensures left { OnOk result (contents_in header (D.bytes frames.old.device) ≢ Ok [] → LosesNothing header (D.bytes frames.old.device) (D.bytes frames.new.device)) }
     ensures counts { OnOk result (D.failures frames.new.device ≡ D.failures frames.old.device) }
     ensures refused { IfErr result (λ e. IsUnbegun e copies (D.bytes frames.old.device) (D.bytes frames.new.device) (D.failures frames.old.device) (D.failures frames.new.device)) }
     ensures header { frames.new.header ≡ header }
@@ -254,6 +258,8 @@ fn first<D: LogDevice>(alloc: Global, copies: u8, frames: &mut Frames<D>) -> Res
     ensures state { IfOk result (λ m. m ≡ begun copies) }
     ensures whole { IfOk result (λ m. IsLogOf (D.bytes frames.new.device) m) }
     ensures sound { IfOk result IsSound }
+    ensures ok { OnOk result (D.bytes frames.new.device ≡ header ++ frame_for (Begin copies)) }
+    ensures unfailed { IfErr result (λ e. is_device e ≡ false → D.bytes frames.new.device ≡ D.bytes frames.old.device) }
     ensures err { OnErr result (AddsFront (D.bytes frames.old.device) (frame_for (Begin copies)) (D.bytes frames.new.device)) }
     ensures cause { IfErr result (λ e. fault_of e ≡ None) }
     ensures counts { D.failures frames.new.device ≡ count_after (errs_with is_device result) (D.failures frames.old.device) }

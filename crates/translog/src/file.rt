@@ -1,5 +1,8 @@
 //! A device in a file.
-ghost use Rattle.std.specs.Prelude.{◌≡◌, ◌≤◌, true, false, length, IfOk, IfSome, OnOk};
+ghost use Rattle.std.specs.Prelude.{◌≡◌, ◌≤◌, ◌++◌, ◌⊎◌, true, false, length, take, drop, is_err, IfOk, IfSome, OnOk, OnErr};
+ghost use Rattle.std.specs.Io.KnownBytes.{Appends};
+ghost use Rattle.translog.specs.Device.{AddsFront, count_after};
+ghost use Rattle.translog.specs.Fault.{errs_with, is_failed};
 ghost use Rattle.translog.specs.Memory.{room_in};
 
 use crate::device::{DeviceFault, Failed, LogDevice};
@@ -12,6 +15,8 @@ use std::io::{Read, Write};
 /// what a log is opened with is what was read at first, and what was written since. Nobody else may change the file.
 ///
 /// A device that syncs when it is told writes then, too: all that was appended since in one piece, so that what a crash leaves of it is a front.
+///
+/// What is written to a file is seen by clauses, where what it holds is known; that it is synced, and what a cut of it leaves, is not.
 ///
 /// After a sync that failed the disk may have neither what was written nor tell so again: that sync isn't tried again, and until `read_all` has
 /// written those bytes anew the device takes nothing.
@@ -67,6 +72,7 @@ impl<F: Read + Write + OpenFile + Drop> FileDevice<F> {
         ensures synced { OnOk result (self.new.synced ≡ length self.new.bytes.items) }
         ensures stays { self.old.synced ≤ self.new.synced }
         ensures sure { OnOk result (self.new.is_doubtful ≡ false) }
+        ensures written { OnOk result (Appends (F.contents self.old.file) (F.contents self.new.file) (drop self.old.synced self.old.bytes.items)) }
         ensures failures { self.new.failures ≡ self.old.failures }
     {
         if !self.is_doubtful && !self.overhangs && self.synced == self.bytes.len() {
@@ -81,6 +87,7 @@ impl<F: Read + Write + OpenFile + Drop> FileDevice<F> {
         ensures synced { OnOk result (self.new.synced ≡ length self.new.bytes.items) }
         ensures stays { self.old.synced ≤ self.new.synced }
         ensures sure { OnOk result (self.new.is_doubtful ≡ false) }
+        ensures written { OnOk result (Appends (F.contents self.old.file) (F.contents self.new.file) (drop self.old.synced self.old.bytes.items)) }
         ensures failures { self.new.failures ≡ self.old.failures }
     {
         self.file.set_len(self.synced as u64)?;
@@ -124,7 +131,10 @@ fn opened<F: Read + Write + OpenFile + Drop>(
 }
 
 /// Adds a piece to a file and waits until it is on the disk, unless that is left for a sync.
-fn add<F: Write + OpenFile>(file: &mut F, piece: &[u8], is_lazy: bool) -> io::Result<()> {
+fn add<F: Write + OpenFile>(file: &mut F, piece: &[u8], is_lazy: bool) -> io::Result<()>
+    ensures written { is_lazy ≡ false → OnOk result (Appends (F.contents file.old) (F.contents file.new) piece.now) }
+    ensures left { is_lazy ≡ true → F.contents file.new ≡ F.contents file.old }
+{
     if is_lazy {
         return Ok(());
     }
@@ -132,7 +142,9 @@ fn add<F: Write + OpenFile>(file: &mut F, piece: &[u8], is_lazy: bool) -> io::Re
 }
 
 /// Adds a piece to a file, and waits until it is on the disk.
-fn write<F: Write + OpenFile>(file: &mut F, piece: &[u8]) -> io::Result<()> {
+fn write<F: Write + OpenFile>(file: &mut F, piece: &[u8]) -> io::Result<()>
+    ensures { OnOk result (Appends (F.contents file.old) (F.contents file.new) piece.now) }
+{
     file.write_all(piece)?;
     file.sync_data()
 }
@@ -154,7 +166,15 @@ impl<F: Read + Write + OpenFile + Drop> LogDevice for FileDevice<F> {
         self.bytes.reserve(additional)
     }
 
-    fn append(&mut self, piece: &[u8]) -> Result<(), Failed> {
+    fn append(&mut self, piece: &[u8]) -> Result<(), Failed>
+        ensures ok { OnOk result (self.new.bytes.items ≡ self.old.bytes.items ++ piece.now) }
+        ensures err { OnErr result (AddsFront self.old.bytes.items piece.now self.new.bytes.items) }
+        ensures written { self.old.is_lazy ≡ false → OnOk result (Appends (F.contents self.old.file) (F.contents self.new.file) piece.now) }
+        ensures left { self.old.is_lazy ≡ true → F.contents self.new.file ≡ F.contents self.old.file }
+        ensures counts { self.new.failures ≡ count_after (is_err result) self.old.failures }
+        ensures stays { self.old.synced ≤ self.new.synced }
+        ensures doubtful { self.old.is_doubtful ≡ true → (is_err result ≡ true) × (self.new.is_doubtful ≡ true) }
+    {
         if self.is_doubtful
             || self.overhangs
             || self.bytes.reserve(piece.len()).is_err()
@@ -171,7 +191,16 @@ impl<F: Read + Write + OpenFile + Drop> LogDevice for FileDevice<F> {
         Ok(())
     }
 
-    fn sync(&mut self) -> Result<usize, Failed> {
+    fn sync(&mut self) -> Result<usize, Failed>
+        ensures bytes { self.new.bytes ≡ self.old.bytes }
+        ensures len { IfOk result (λ len. len ≡ length self.new.bytes.items) }
+        ensures synced { OnOk result (self.new.synced ≡ length self.new.bytes.items) }
+        ensures written { OnOk result (Appends (F.contents self.old.file) (F.contents self.new.file) (drop self.old.synced self.old.bytes.items)) }
+        ensures stays { self.old.synced ≤ self.new.synced }
+        ensures doubt { OnErr result (self.new.is_doubtful ≡ true) }
+        ensures refused { self.old.is_doubtful ≡ true → is_err result ≡ true }
+        ensures counts { self.new.failures ≡ count_after (is_err result) self.old.failures }
+    {
         let rest = &self.bytes[self.synced..];
         if self.is_doubtful || !rest.is_empty() && write(&mut self.file, rest).is_err() {
             self.is_doubtful = true;
@@ -186,7 +215,15 @@ impl<F: Read + Write + OpenFile + Drop> LogDevice for FileDevice<F> {
         !self.is_doubtful && self.synced == self.bytes.len()
     }
 
-    fn read_all(&mut self, alloc: Global) -> Result<Vec<u8>, DeviceFault> {
+    fn read_all(&mut self, alloc: Global) -> Result<Vec<u8>, DeviceFault>
+        ensures all { IfOk result (λ found. found.items ≡ self.old.bytes.items) }
+        ensures bytes { self.new.bytes ≡ self.old.bytes }
+        ensures synced { OnOk result (self.new.synced ≡ length self.new.bytes.items) }
+        ensures written { OnOk result (Appends (F.contents self.old.file) (F.contents self.new.file) (drop self.old.synced self.old.bytes.items)) }
+        ensures stays { self.old.synced ≤ self.new.synced }
+        ensures sure { OnOk result (self.new.is_doubtful ≡ false) }
+        ensures counts { self.new.failures ≡ count_after (errs_with is_failed result) self.old.failures }
+    {
         if self.settle().is_err() {
             self.is_doubtful = true;
             self.failures = self.failures.saturating_add(1);
@@ -195,7 +232,15 @@ impl<F: Read + Write + OpenFile + Drop> LogDevice for FileDevice<F> {
         Ok(self.bytes.to_vec(alloc)?)
     }
 
-    fn cut(&mut self, len: usize) -> Result<(), Failed> {
+    fn cut(&mut self, len: usize) -> Result<(), Failed>
+        ensures ok { OnOk result (self.new.bytes.items ≡ take len self.old.bytes.items) }
+        ensures err { OnErr result ((self.new.bytes.items ≡ self.old.bytes.items) ⊎ (self.new.bytes.items ≡ take len self.old.bytes.items)) }
+        ensures synced { OnOk result (self.new.synced ≡ length self.new.bytes.items) }
+        ensures written { OnOk result (Appends (F.contents self.old.file) (F.contents self.new.file) (drop self.old.synced (take len self.old.bytes.items))) }
+        ensures doubtful { self.old.is_doubtful ≡ true → (is_err result ≡ true) × (self.new.is_doubtful ≡ true) }
+        ensures counts { self.new.failures ≡ count_after (is_err result) self.old.failures }
+        ensures room { room_in self.old.bytes ≤ room_in self.new.bytes }
+    {
         let left = if len < self.bytes.len() {
             len
         } else {

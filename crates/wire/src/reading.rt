@@ -1,7 +1,7 @@
 //! Reading a request: its head byte by byte, then its body, and nothing behind it.
-ghost use Rattle.std.specs.Prelude.{◌≡◌, ℕ, ◌∷◌, [], length, IfOk, IfSome, IfNone, Some, option_map};
+ghost use Rattle.std.specs.Prelude.{◌≡◌, ℕ, ◌∷◌, [], false, length, IfErr, IfOk, IfSome, IfNone, MatchResult, Some, option_map};
 ghost use Rattle.wire.specs.Cut as spec;
-ghost use Rattle.wire.specs.Fault.{fault_of};
+ghost use Rattle.wire.specs.Fault.{fault_of, is_write};
 ghost use Rattle.wire.specs.Framing as framing;
 ghost use Rattle.wire.specs.FrameView.{framed_view};
 ghost use Rattle.wire.specs.Reading as request;
@@ -25,7 +25,8 @@ pub(crate) enum HeadBytes {
 
 /// The next byte, or none at the end.
 fn next_byte<R: Read>(reader: &mut R) -> Result<Option<u8>, StreamFault>
-    ensures { IfOk result (λ byte. IfSome (R.remaining reader.old) (λ bytes. spec.IsFirst bytes byte (R.remaining reader.new))) }
+    ensures byte { IfOk result (λ byte. IfSome (R.remaining reader.old) (λ bytes. spec.IsFirst bytes byte (R.remaining reader.new))) }
+    ensures cause { IfErr result (λ e. is_write e ≡ false) }
 {
     let mut room = [0u8];
     match reader.read(&mut room) {
@@ -36,7 +37,9 @@ fn next_byte<R: Read>(reader: &mut R) -> Result<Option<u8>, StreamFault>
 }
 
 /// A reader with a buffer of its own may want memory.
-fn read_fault(error: &Error) -> StreamFault {
+fn read_fault(error: &Error) -> StreamFault
+    ensures { is_write result ≡ false }
+{
     if error.kind() == ErrorKind::OutOfMemory {
         StreamFault::NoMemory
     } else {
@@ -46,7 +49,8 @@ fn read_fault(error: &Error) -> StreamFault {
 
 /// The bytes of the next head, up to and with the empty line that ends it, of at most 16,384.
 pub(crate) fn read_head<R: Read>(alloc: Global, reader: &mut R) -> Result<HeadBytes, StreamFault>
-    ensures { IfOk result (λ head. IfSome (R.remaining reader.old) (λ bytes. spec.IsCut bytes head (R.remaining reader.new))) }
+    ensures head { IfOk result (λ head. IfSome (R.remaining reader.old) (λ bytes. spec.IsCut bytes head (R.remaining reader.new))) }
+    ensures cause { IfErr result (λ e. is_write e ≡ false) }
 {
     let mut bytes = Vec::new(alloc);
     let mut place = Place::Blank;
@@ -117,10 +121,11 @@ fn frame_head(alloc: Global, bytes: &[u8]) -> Result<Framed, HeadFault>
 }
 
 /// The next request, or none where no more stands whole before the end of the input. Nothing behind it is read, so one request is in memory
-/// at most, and a reader that costs by the call wants a buffer. A read that fails is `Read`.
+/// at most, and a reader that costs by the call wants a buffer. A read that fails is `Read`, or `NoMemory` where
+/// the reader wants memory.
 pub fn read_request<R: Read>(alloc: Global, reader: &mut R) -> Result<Option<Whole>, StreamFault>
-    ensures { IfOk result (λ whole. IfSome (R.remaining reader.old) (λ bytes.
-        request.IsRead (framing.first bytes) whole (R.remaining reader.new))) }
+    ensures { MatchResult result (λ whole. IfSome (R.remaining reader.old) (λ bytes.
+        request.IsRead (framing.first bytes) whole (R.remaining reader.new))) (λ e. is_write e ≡ false) }
 {
     let bytes = match read_head(alloc, reader)? {
         HeadBytes::Short => return Ok(None),
@@ -143,8 +148,9 @@ fn read_framed<R: Read>(
     reader: &mut R,
     framed: Framed,
 ) -> Result<Option<Whole>, StreamFault>
-    ensures { IfOk result (λ whole. IfSome (R.remaining reader.old) (λ bytes.
+    ensures whole { IfOk result (λ whole. IfSome (R.remaining reader.old) (λ bytes.
         request.IsRead (framing.with_body bytes (Ok (framed_view framed))) whole (R.remaining reader.new))) }
+    ensures cause { IfErr result (λ e. is_write e ≡ false) }
 {
     let Framed {
         method,
@@ -168,8 +174,9 @@ pub(crate) fn read_body<R: Read>(
     reader: &mut R,
     length: usize,
 ) -> Result<Option<Vec<u8>>, StreamFault>
-    ensures { IfOk result (λ body. IfSome (R.remaining reader.old) (λ bytes.
+    ensures body { IfOk result (λ body. IfSome (R.remaining reader.old) (λ bytes.
         request.IsBody bytes length (option_map (λ b. b.items) body) (R.remaining reader.new))) }
+    ensures cause { IfErr result (λ e. is_write e ≡ false) }
 {
     let mut body = Vec::new(alloc);
     let mut room = [0u8; 4096];

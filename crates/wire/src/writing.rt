@@ -1,7 +1,8 @@
 //! Writing all of some bytes.
-ghost use Rattle.std.specs.Prelude.{OnOk, OnErr};
+ghost use Rattle.std.specs.Prelude.{◌≡◌, IfErr, OnOk, OnErr};
 ghost use Rattle.std.specs.Io.KnownBytes.{Appends};
 ghost use Rattle.wire.specs.Bytes.{AppendsFront};
+ghost use Rattle.wire.specs.declared.fault.StreamFault.TheVariants.{Write as Unwritten};
 
 use crate::fault::StreamFault;
 use std::io;
@@ -28,6 +29,7 @@ pub fn write_all<W: Write>(writer: &mut W, bytes: &[u8]) -> io::Result<()>
 pub fn write_whole<W: Write>(writer: &mut W, bytes: &[u8]) -> Result<(), StreamFault>
     ensures ok { OnOk result (Appends (W.contents writer.old) (W.contents writer.new) bytes.now) }
     ensures err { OnErr result (AppendsFront (W.contents writer.old) (W.contents writer.new) bytes.now) }
+    ensures cause { IfErr result (λ e. e ≡ Unwritten) }
 {
     match write_all(writer, bytes) {
         Ok(()) => Ok(()),
@@ -39,6 +41,7 @@ pub fn write_whole<W: Write>(writer: &mut W, bytes: &[u8]) -> Result<(), StreamF
 pub fn write_flushed<W: Write>(writer: &mut W, bytes: &[u8]) -> Result<(), StreamFault>
     ensures ok { OnOk result (Appends (W.contents writer.old) (W.contents writer.new) bytes.now) }
     ensures err { OnErr result (AppendsFront (W.contents writer.old) (W.contents writer.new) bytes.now) }
+    ensures cause { IfErr result (λ e. e ≡ Unwritten) }
 {
     write_whole(writer, bytes)?;
     if writer.flush().is_err() {

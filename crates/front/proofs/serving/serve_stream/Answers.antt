@@ -1,12 +1,14 @@
-use Rattle.std.proofs.Common.{◌≡◌, ◌∙◌, sym, true, false, string_bytes}
+use Rattle.std.proofs.Common.{◌≡◌, ◌∙◌, refl, sym, true, false, string_bytes}
 use Rattle.wire.specs.Reading.{ends}
-use Rattle.front.proofs.Calls.{on_err}
+use Rattle.std.proofs.lemmas.Result.{err_from_is_err_and}
 use Rattle.front.proofs.Streams.{stops, is_over, stops_answering, stops_writing, ends_after, goes_on}
 use Rattle.front.proofs.serving.serve_stream.Goals as goal
 
 -- the request wasn't read
 pub returns-in_err-whole-clause-err : goal.returns-in_err-whole-clause-err
-returns-in_err-whole-clause-err g c = on_err c.from_residual.result _ (stops g.S.Service.answers (g.S.Service.name c.args.service.now) (g.S.Service.fields c.args.service.now) (g.R.Read.remaining c.args.reader.now) (g.R.Read.remaining c.loop-count.reader) (g.W.Write.contents c.args.writer.now) (g.W.Write.contents c.loop-count.writer) c.args.service.now c.loop-count.service c.loop-count.count c.loop-count.invariant.going)
+returns-in_err-whole-clause-err g c =
+    let p = err_from_is_err_and c.from_residual.result c.from_residual.ensures.1 in
+    rw (p.1, p.2) (stops g.S.Service.answers (g.S.Service.name c.args.service.now) (g.S.Service.fields c.args.service.now) (g.R.Read.remaining c.args.reader.now) (g.R.Read.remaining c.loop-count.reader) (g.W.Write.contents c.args.writer.now) (g.W.Write.contents c.loop-count.writer) c.args.service.now c.loop-count.service c.loop-count.count _ c.in_err-whole.ensures c.loop-count.invariant.going)
 
 -- no request is left
 pub returns-in_default-clause-ok : goal.returns-in_default-clause-ok
@@ -15,12 +17,14 @@ returns-in_default-clause-ok g c = is_over g.S.Service.answers (g.S.Service.name
 -- the request wasn't answered
 pub returns-in_err-page-clause-err : goal.returns-in_err-page-clause-err
 returns-in_err-page-clause-err g c =
-    on_err c.from_residual-in_err-page.result _ (stops_answering g.S.Service.answers (g.S.Service.name c.args.service.now) (g.S.Service.fields c.args.service.now) (g.R.Read.remaining c.args.reader.now) (g.R.Read.remaining c.loop-count.reader) (g.R.Read.remaining c.read_request.new.reader) (g.W.Write.contents c.args.writer.now) (g.W.Write.contents c.loop-count.writer) c.args.service.now c.loop-count.service c.answer.new.service c.loop-count.count c.in-Some.whole c.loop-count.invariant.going (rw c.in-Some.is at c.in_ok-whole.ensures) (rw (c.loop-count.invariant.name, c.loop-count.invariant.fields) at c.in_err-page.ensures.err))
+    let p = err_from_is_err_and c.from_residual-in_err-page.result c.from_residual-in_err-page.ensures.1 in
+    rw (p.1, p.2, c.in_err-page.ensures.cause) (stops_answering g.S.Service.answers (g.S.Service.name c.args.service.now) (g.S.Service.fields c.args.service.now) (g.R.Read.remaining c.args.reader.now) (g.R.Read.remaining c.loop-count.reader) (g.R.Read.remaining c.read_request.new.reader) (g.W.Write.contents c.args.writer.now) (g.W.Write.contents c.loop-count.writer) c.args.service.now c.loop-count.service c.answer.new.service c.loop-count.count c.in-Some.whole c.loop-count.invariant.going (rw c.in-Some.is at c.in_ok-whole.ensures) (rw (c.loop-count.invariant.name, c.loop-count.invariant.fields) at c.in_err-page.ensures.err))
 
 -- its page wasn't written whole
 pub returns-in_err-write_flushed-clause-err : goal.returns-in_err-write_flushed-clause-err
 returns-in_err-write_flushed-clause-err g c =
-    on_err c.from_residual-in_err-write_flushed.result _ (stops_writing g.S.Service.answers (g.S.Service.name c.args.service.now) (g.S.Service.fields c.args.service.now) (g.R.Read.remaining c.args.reader.now) (g.R.Read.remaining c.loop-count.reader) (g.R.Read.remaining c.read_request.new.reader) (g.W.Write.contents c.args.writer.now) (g.W.Write.contents c.loop-count.writer) (g.W.Write.contents c.write_flushed.new.writer) c.args.service.now c.loop-count.service c.answer.new.service c.loop-count.count c.in-Some.whole (string_bytes c.in_ok-page.page) c.loop-count.invariant.going (rw c.in-Some.is at c.in_ok-whole.ensures) (rw (c.loop-count.invariant.name, c.loop-count.invariant.fields) at c.in_ok-page.ensures.ok)
+    let p = err_from_is_err_and c.from_residual-in_err-write_flushed.result c.from_residual-in_err-write_flushed.ensures.1 in
+    rw (p.1, p.2, c.in_err-write_flushed.ensures.cause) (stops_writing g.S.Service.answers (g.S.Service.name c.args.service.now) (g.S.Service.fields c.args.service.now) (g.R.Read.remaining c.args.reader.now) (g.R.Read.remaining c.loop-count.reader) (g.R.Read.remaining c.read_request.new.reader) (g.W.Write.contents c.args.writer.now) (g.W.Write.contents c.loop-count.writer) (g.W.Write.contents c.write_flushed.new.writer) c.args.service.now c.loop-count.service c.answer.new.service c.loop-count.count c.in-Some.whole (string_bytes c.in_ok-page.page) c.loop-count.invariant.going (rw c.in-Some.is at c.in_ok-whole.ensures) (rw (c.loop-count.invariant.name, c.loop-count.invariant.fields) at c.in_ok-page.ensures.ok)
     (rw c.as_bytes.ensures.value at c.in_err-write_flushed.ensures.err))
 
 pub returns-then-ends-clause-ok : goal.returns-then-ends-clause-ok
@@ -41,4 +45,4 @@ loop-count-preserved g c =
 
 -- the greatest count
 pub returns-clause-err : goal.returns-clause-err
-returns-clause-err g c = stops g.S.Service.answers (g.S.Service.name c.args.service.now) (g.S.Service.fields c.args.service.now) (g.R.Read.remaining c.args.reader.now) (g.R.Read.remaining c.loop-count.reader) (g.W.Write.contents c.args.writer.now) (g.W.Write.contents c.loop-count.writer) c.args.service.now c.loop-count.service c.loop-count.count c.loop-count.invariant.going
+returns-clause-err g c = stops g.S.Service.answers (g.S.Service.name c.args.service.now) (g.S.Service.fields c.args.service.now) (g.R.Read.remaining c.args.reader.now) (g.R.Read.remaining c.loop-count.reader) (g.W.Write.contents c.args.writer.now) (g.W.Write.contents c.loop-count.writer) c.args.service.now c.loop-count.service c.loop-count.count _ refl c.loop-count.invariant.going
