@@ -4,10 +4,11 @@ use Rattle.std.specs.Prelude.{IfOk, OnErr, is_err, false}
 use Rattle.doc.specs.Mapping.{MappingData}
 use Rattle.world.specs.declared.event.Event.{Event}
 use Rattle.world.specs.declared.event.EventAnswer.{EventAnswer}
-use Rattle.world.specs.Held.{Held}
+use Rattle.world.specs.Held.{HasInSyncCopies, Held}
 use Rattle.world.specs.Reached.{IsReached}
 use Rattle.world.specs.World.{World, Happened, answering, new_world, world_after, world_of, world_step}
 use Rattle.world.proofs.Holds.{always_held}
+use Rattle.world.proofs.Primaries.{always_in_sync}
 
 -- one event more
 pub after_one : (w : World) (es : List Event) (e : Event) → world_after w (es ++ e ∷ []) ≡ (world_step (world_after w es) e).world
@@ -35,6 +36,9 @@ reached_on (Err x) w new e reached happened stays = subst (λ (y : World). IsRea
 
 pub reached_held : (w : World) → IsReached w → Held w
 reached_held w r = subst (λ (x : World). Held x) (sym r.is) (always_held r.mapping r.copies r.events r.some)
+
+pub reached_in_sync : (w : World) → IsReached w → HasInSyncCopies w
+reached_in_sync w r = subst (λ (x : World). HasInSyncCopies x) (sym r.is) (always_in_sync r.mapping r.copies r.events r.some)
 
 -- a run goes on
 pub run_on : {E : Type 0} (r : Result EventAnswer E) (m : MappingData) (n : ℕ) (es : List Event) (e : Event) (w new : World)

@@ -1,16 +1,21 @@
 //! A world: what events make of a new index of some copies.
 ghost use Rattle.std.specs.Prelude.{◌≡◌, ◌≤◌, false, length, IfOk, IfErr, IfSome, OnOk, OnErr, is_some};
 ghost use Rattle.std.specs.Option.{option_map};
-ghost use Rattle.world.specs.Held.{Held};
+ghost use Rattle.query.specs.View.{query_view};
+ghost use Rattle.engine.specs.Shown.{hits_view};
+ghost use Rattle.world.specs.Held.{HasInSyncCopies, Held};
 ghost use Rattle.world.specs.Reached.{IsRefusedRun};
+ghost use Rattle.world.specs.Search.{search_in};
 ghost use Rattle.world.specs.World.{answering, copy_in, new_world, world_of, world_step};
 
 use crate::event::{Event, EventAnswer};
 use crate::fault::RunFault;
 use crate::nodes::{Nodes, OneCopy};
 use doc::Mapping;
+use engine::Hits;
 use master::State;
 use op::{Msg, Op};
+use query::{Page, Query};
 use std::alloc::{AllocError, Global};
 use std::marker::Model;
 
@@ -38,6 +43,7 @@ impl World {
         requires { (1 ≤ copies) × (copies ≤ 5) }
         ensures world { IfOk result (λ w. w ≡ new_world mapping.now copies) }
         ensures held { IfOk result Held }
+        ensures in_sync { IfOk result HasInSyncCopies }
     {
         let nodes = Nodes::new(alloc, mapping, copies)?;
         Ok(World { nodes })
@@ -48,6 +54,7 @@ impl World {
         ensures happened { IfOk result (λ a. world_step self.old event.now ≡ answering self.new a) }
         ensures stays { OnErr result (self.new ≡ self.old) }
         ensures held { Held self.new }
+        ensures in_sync { HasInSyncCopies self.new }
     {
         self.nodes.step(alloc, event)
     }
@@ -87,8 +94,30 @@ impl World {
     pub fn copy(&self, id: u32) -> Option<&OneCopy>
         ensures copy { option_map (λ c. c.now.copy) result ≡ copy_in self.now.copies id }
         ensures open { IfSome result (λ c. c.now.closed ≡ false) }
+        ensures mapping { IfSome result (λ c. c.now.copy.mapping ≡ self.now.mapping) }
     {
         self.nodes.copy(id)
+    }
+
+    /// What a search at a copy finds: the documents that the query means, of those that the copy showed at its last refresh. `None` where the
+    /// copy isn't there.
+    pub fn search(
+        &self,
+        alloc: Global,
+        copy: u32,
+        query: &Query,
+        page: Page,
+    ) -> Result<Option<Hits>, AllocError>
+        ensures { IfOk result (λ found. option_map hits_view found ≡ search_in self.now self.now.mapping copy (query_view query.now) page) }
+    {
+        let Some(there) = self.copy(copy) else {
+            return Ok(None);
+        };
+        let Some(snapshot) = there.snapshot() else {
+            unreachable!()
+        };
+        let hits = snapshot.search(alloc, query, page)?;
+        Ok(Some(hits))
     }
 
     /// Every message that was ever sent; message 1 comes first.
@@ -115,6 +144,7 @@ pub fn run(
 ) -> Result<World, RunFault>
     ensures world { IfOk result (λ w. w ≡ world_of mapping.now copies events.now) }
     ensures held { IfOk result Held }
+    ensures in_sync { IfOk result HasInSyncCopies }
     ensures count { OnOk result ((1 ≤ copies) × (copies ≤ 5)) }
     ensures refused { IfErr result (IsRefusedRun copies (length events.now)) }
 {

@@ -15,4 +15,4 @@ loop-taken-preserved c =
     let taken : is_err c.step.result ≡ false = sym c.is_err.ensures.value ∙ c.if-is_err.false in
     let after : c.step.new.self ≡ world_of c.args.mapping.now c.args.copies (take (i + 1) es) =
     rw more (run_on c.step.result c.args.mapping.now c.args.copies (take i es) e c.loop-taken.world c.step.new.self c.step.ensures.happened taken c.loop-taken.invariant.0) in
-    (after, c.step.ensures.held)
+    (after, c.step.ensures.held, c.step.ensures.in_sync)
