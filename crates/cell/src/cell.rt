@@ -14,6 +14,7 @@ ghost use Rattle.node.specs.Reading.{standing, IsGotFrom, IsUngot};
 ghost use Rattle.node.specs.Stands.{LastStands};
 
 use doc::DocId;
+use engine::Merged;
 use journal::Journal;
 use node::{Got, Held, NodeFault, OnDisk, Pass, Receipt};
 use published::{Name, Note, Publisher, Searcher, Showing, ShownRecords};
@@ -175,6 +176,14 @@ impl<D: LogDevice> CopyCell<D> {
             return Err(AllocError);
         };
         self.publisher.publish(rt, alloc, showing)
+    }
+
+    /// Puts a merged part in place of those that it is made of, as the copy does; it makes no entry. Searchers look through it from the next refresh on.
+    #[tactic(auto, using(crate::proofs::Refusing::same_published))]
+    pub fn swap_merged(&mut self, alloc: Global, merged: Merged) -> Result<bool, AllocError>
+        ensures { self.new ≡ self.old }
+    {
+        self.held.swap_merged(alloc, merged)
     }
 
     /// A write, the refresh behind it, and a note of what searches show then, which is all records of the copy. A refused write has no refresh; where

@@ -6,7 +6,7 @@ use std::alloc::Global;
 use std::collections::VecDeque;
 use std::marker::Model;
 
-/// The posts that are held back, oldest first: a bulk for which the window has no room, and what came from callers behind it.
+/// The posts that are held back, oldest first: a write or a bulk for which the window has no room, and what came from callers behind it.
 #[derive(Drop)]
 pub(crate) struct Backlog {
     posts: VecDeque<Post>,

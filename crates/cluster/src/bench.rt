@@ -4,10 +4,12 @@ ghost use Rattle.std.specs.Prelude.{◌≡◌, ◌+◌, vec_len, OnOk};
 use crate::channels::sent;
 use crate::gate::Gate;
 use crate::left::Left;
+use crate::merging::Merger;
 use crate::post::Post;
 use crate::ready::Ready;
 use crate::worker::{Tools, Worker};
 use crossbeam_channel::{Receiver, Sender};
+use engine::Merging;
 use std::alloc::{AllocError, Global};
 use std::sync::Wait;
 use std::thread;
@@ -22,20 +24,24 @@ pub(crate) trait Work: Drop {
     fn run(self) -> Left;
 }
 
-/// What the thread of a copy is started with, beside the copy.
+/// What the threads of a copy are started with, beside the copy.
 #[derive(Drop)]
 pub(crate) struct Start<D: LogDevice, G: Gate> {
     pub(crate) alloc: Global,
     pub(crate) tools: Tools<D, G>,
     pub(crate) inbox: Receiver<Post, Global>,
+    pub(crate) merges: Receiver<Merging, Global>,
+    pub(crate) worker: Sender<Post, Global>,
 }
 
 /// A copy that is to be served, and where it is told whether it is.
 #[derive(Drop)]
 pub(crate) struct Bench<R: Wait + Drop, D: LogDevice, G: Gate> {
     pub(crate) rt: R,
+    pub(crate) alloc: Global,
     pub(crate) begun: Sender<bool, Global>,
-    pub(crate) start: Start<D, G>,
+    pub(crate) tools: Tools<D, G>,
+    pub(crate) inbox: Receiver<Post, Global>,
     pub(crate) ready: Ready<D>,
 }
 
@@ -44,15 +50,12 @@ impl<R: Wait + Drop, D: LogDevice, G: Gate> Work for Bench<R, D, G> {
     fn run(self) -> Left {
         let Bench {
             rt,
-            begun,
-            start,
-            ready,
-        } = self;
-        let Start {
             alloc,
+            begun,
             tools,
             inbox,
-        } = start;
+            ready,
+        } = self;
         match ready.begin(&rt, alloc) {
             Ok(cell) => {
                 sent(&rt, &begun, true);
@@ -99,6 +102,25 @@ pub(crate) fn start_beside<R: Threads, W: Work + Send + 'static>(
     };
     threads.push_reserved(thread);
     Ok(())
+}
+
+/// Starts a thread that builds merges, and keeps it with others.
+pub(crate) fn start_merger<R: Threads, S: Wait + Drop + Send + 'static>(
+    rt: &R,
+    threads: &mut Vec<JoinHandle<()>>,
+    merger: Merger<S>,
+) -> Result<(), AllocError> {
+    threads.reserve(1)?;
+    match thread::Builder::new()
+        .stack_size(STACK)
+        .spawn(rt, move || merger.run())
+    {
+        Ok(thread) => {
+            threads.push_reserved(thread);
+            Ok(())
+        }
+        Err(_) => Err(AllocError),
+    }
 }
 
 /// Starts a thread.

@@ -4,13 +4,14 @@ ghost use Rattle.master.specs.declared.state.Request.TheVariants.{Allocate};
 ghost use Rattle.cluster.specs.Journals.{copies_in, IsLegalJournal, IsOfOneCaller, StandsIn};
 ghost use Rattle.cluster.specs.Ruled.{IsDecided};
 
-use crate::bench::{Bench, Start, start_beside};
+use crate::bench::{Bench, Start, start_beside, start_merger};
 use crate::channels::sent;
 use crate::client::Client;
 use crate::devices::Devices;
 use crate::fault::{ClusterFault, OpenFault, ShortLog, Unopened, of_master_log};
 use crate::gate::Gate;
 use crate::left::{Left, stray_in};
+use crate::merging::Merger;
 use crate::opening::{
     Opened, beginning, birth_of, joining_copy, kept_copy, lacking, leader_of, new_copy,
 };
@@ -19,8 +20,9 @@ use crate::ready::Ready;
 use crate::ruled::Ruled;
 use crate::shared::Shared;
 use crate::worker::Tools;
-use crossbeam_channel::{Receiver, bounded, unbounded};
+use crossbeam_channel::{Receiver, Sender, bounded, unbounded};
 use doc::Mapping;
+use engine::Merging;
 use journal::Journal;
 use master::{Decision, Master, MasterFault, Request};
 use node::{Pass, Receipt};
@@ -47,6 +49,8 @@ pub struct Cluster<D: LogDevice, V: Devices<D>, G: Gate> {
     gate: Arc<G, Global>,
     client: Client<D>,
     threads: Vec<JoinHandle<Left>>,
+    /// The threads that build merges, one for each of the others.
+    mergers: Vec<JoinHandle<()>>,
     unopened: Vec<Unopened>,
     short_log: Option<ShortLog>,
 }
@@ -166,6 +170,7 @@ impl<D: LogDevice + Send + 'static, V: Devices<D>, G: Gate + Send + Sync + 'stat
             gate: Arc::new(alloc, gate)?,
             client: Client { alloc, shared },
             threads: Vec::new(alloc),
+            mergers: Vec::new(alloc),
             unopened: Vec::new(alloc),
             short_log: None,
         })
@@ -379,15 +384,18 @@ impl<D: LogDevice + Send + 'static, V: Devices<D>, G: Gate + Send + Sync + 'stat
         }
     }
 
-    /// What the thread of a copy is to be started with, whom posts reach from now on.
+    /// What the threads of a copy are to be started with, whom posts reach from now on.
     fn start_of<R: Wait>(&self, rt: &R, copy: u32) -> Result<Start<D, G>, ClusterFault> {
         let alloc = self.client.alloc;
-        let tools = self.tools(copy)?;
+        let (to, merges) = unbounded(alloc)?;
+        let tools = self.tools(copy, to)?;
         match inbox_of(rt, alloc, &*self.client.shared, copy) {
-            Ok(inbox) => Ok(Start {
+            Ok((worker, inbox)) => Ok(Start {
                 alloc,
                 tools,
                 inbox,
+                merges,
+                worker,
             }),
             Err(fault) => {
                 drop(tools);
@@ -397,17 +405,18 @@ impl<D: LogDevice + Send + 'static, V: Devices<D>, G: Gate + Send + Sync + 'stat
     }
 
     /// What the worker of a copy needs beside it.
-    fn tools(&self, copy: u32) -> Result<Tools<D, G>, AllocError> {
+    fn tools(&self, copy: u32, merges: Sender<Merging, Global>) -> Result<Tools<D, G>, AllocError> {
         let gate = another(&self.gate)?;
         let shared = another(&self.client.shared)?;
         Ok(Tools {
             gate,
             shared,
+            merges,
             pass: Pass::new(self.client.alloc, copy as u64),
         })
     }
 
-    /// Starts the thread of a copy, and waits until it serves. Where none can be had, or it doesn't serve, memory is wanting.
+    /// Starts the threads of a copy, and waits until it serves. Where none can be had, or it doesn't serve, memory is wanting.
     fn run<R: Threads + Wait + Copy + Send + Drop + 'static>(
         &mut self,
         rt: &R,
@@ -421,12 +430,28 @@ impl<D: LogDevice + Send + 'static, V: Devices<D>, G: Gate + Send + Sync + 'stat
             drop(ready);
             return Err(ClusterFault::NoMemory);
         };
+        let Start {
+            alloc,
+            tools,
+            inbox,
+            merges,
+            worker,
+        } = start;
         let bench = Bench {
             rt: *rt,
+            alloc,
             begun,
-            start,
+            tools,
+            inbox,
             ready,
         };
+        let merger = Merger {
+            rt: *rt,
+            alloc,
+            merges,
+            worker,
+        };
+        start_merger(rt, &mut self.mergers, merger)?;
         start_beside(rt, &mut self.threads, bench)?;
         match heard.recv(rt) {
             Ok(true) => Ok(()),
@@ -450,11 +475,13 @@ impl<D: LogDevice + Send + 'static, V: Devices<D>, G: Gate + Send + Sync + 'stat
         let Cluster {
             client,
             threads,
+            mergers,
             ..
         } = self;
         let Client { alloc, shared } = client;
         stop(rt, &*shared);
         let lefts = joined(rt, alloc, threads)?;
+        end_mergers(rt, mergers);
         if let Some(place) = stray_in(&lefts, receipts) {
             drop(lefts);
             drop(shared);
@@ -488,6 +515,13 @@ fn joined<R: Threads>(
     Ok(lefts)
 }
 
+/// Waits until the threads have ended that build merges, as each does once its worker has.
+fn end_mergers<R: Threads>(rt: &R, mergers: Vec<JoinHandle<()>>) {
+    for merger in mergers {
+        merger.join(rt);
+    }
+}
+
 /// The journals of the master and of the copies.
 fn journals<D: LogDevice>(
     alloc: Global,
@@ -511,16 +545,17 @@ fn another<T>(shared: &Arc<T, Global>) -> Result<Arc<T, Global>, AllocError> {
     Arc::try_clone(shared)
 }
 
-/// The inbox of a copy's worker, which posts reach from now on.
+/// The inbox of a copy's worker, which posts reach from now on, and a way to it.
 fn inbox_of<R: Wait, D: LogDevice>(
     rt: &R,
     alloc: Global,
     shared: &Shared<D>,
     copy: u32,
-) -> Result<Receiver<Post, Global>, ClusterFault> {
+) -> Result<(Sender<Post, Global>, Receiver<Post, Global>), ClusterFault> {
     let (to, inbox) = unbounded(alloc)?;
+    let another: Sender<Post, Global> = to.clone()?;
     add_route(rt, shared, Route { copy, to })?;
-    Ok(inbox)
+    Ok((another, inbox))
 }
 
 fn add_route<R: Wait, D: LogDevice>(

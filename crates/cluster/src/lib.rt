@@ -17,6 +17,7 @@ pub mod fault;
 pub mod gate;
 mod left;
 mod mending;
+mod merging;
 mod opening;
 mod outbox;
 mod post;

@@ -3,6 +3,7 @@
 use crate::durable::Durable;
 use crossbeam_channel::Sender;
 use doc::DocId;
+use engine::Merged;
 use node::{Got, NodeFault, Receipt};
 use op::Msg;
 use published::{Searcher, Unnamed};
@@ -49,6 +50,8 @@ pub(crate) enum Post {
     Depose(u64),
     /// To tell what the copy has of an id.
     Get(DocId, Sender<Result<Durable<Got>, NodeFault>, Global>),
+    /// A merge that was built, to be put in place; nothing where there was no memory for it.
+    Merged(Option<Merged>),
     /// To hand out a searcher of the copy.
     Seat(Sender<Seated, Global>),
     Stop,

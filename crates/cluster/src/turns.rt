@@ -1,4 +1,4 @@
-//! Which post is done next: a bulk waits until the window of the copy that leads has room for it.
+//! Which post is done next: a write or a bulk waits until the window of the copy that leads has room for it.
 
 use crate::gate::Gate;
 use crate::post::Post;
@@ -13,7 +13,12 @@ use translog::LogDevice;
 fn is_of_caller(post: &Post) -> bool {
     match post {
         Post::Ask(_, _) | Post::Write(_, _, _) | Post::Bulk(_, _, _) | Post::Get(_, _) => true,
-        Post::Hand(_, _) | Post::Report(_) | Post::Depose(_) | Post::Seat(_) | Post::Stop => false,
+        Post::Hand(_, _)
+        | Post::Report(_)
+        | Post::Depose(_)
+        | Post::Merged(_)
+        | Post::Seat(_)
+        | Post::Stop => false,
     }
 }
 
@@ -76,17 +81,20 @@ impl<D: LogDevice, G: Gate> Worker<D, G> {
         None
     }
 
-    /// Whether a post is a bulk that is to wait: the copy leads, by all that it knows, and its window has no room for it.
+    /// Whether a post is a write or a bulk that is to wait: the copy leads, by all that it knows, and its window has no room for it.
     fn is_to_wait(&self, post: &Post) -> bool {
         match post {
-            Post::Bulk(writes, _, _) => {
-                self.is_open()
-                    && self.leads()
-                    && self.copy().term() >= self.deposed
-                    && self.copy().room() < writes.as_slice().len() as u64
-            }
+            Post::Write(_, _, _) => self.lacks_room(1),
+            Post::Bulk(writes, _, _) => self.lacks_room(writes.as_slice().len() as u64),
             _ => false,
         }
+    }
+
+    fn lacks_room(&self, writes: u64) -> bool {
+        self.is_open()
+            && self.leads()
+            && self.copy().term() >= self.deposed
+            && self.copy().room() < writes
     }
 
     /// Lets all go that wait for acknowledgements: of what is held back nothing waits any more either.

@@ -7,6 +7,7 @@ use crate::durable::Durable;
 use crate::fate::{Fate, fate_of, is_of_primary};
 use crate::gate::Gate;
 use crate::left::Left;
+use crate::merging::Merges;
 use crate::outbox::{Asked, Entry, Outbox, Parcel};
 use crate::post::{Answered, BulkEnding, Ending, Post, Seated};
 use crate::releasing::unsynced;
@@ -15,6 +16,7 @@ use crate::waits::Waits;
 use cell::CopyCell;
 use crossbeam_channel::Sender;
 use doc::DocId;
+use engine::Merging;
 use node::{Got, NodeFault, Pass, Receipt};
 use op::Msg;
 use replica::{Copy, CopyFault, Input, Write, Writes};
@@ -25,15 +27,16 @@ use translog::LogDevice;
 /// How often a message is handed again that is refused for a while.
 const TRIES: u32 = 100;
 
-/// What a worker has beside its copy: the gate, what all workers share, and its pass.
+/// What a worker has beside its copy: the gate, what all workers share, who builds its merges, and its pass.
 #[derive(Drop)]
 pub(crate) struct Tools<D: LogDevice, G: Gate> {
     pub(crate) gate: Arc<G, Global>,
     pub(crate) shared: Arc<Shared<D>, Global>,
+    pub(crate) merges: Sender<Merging, Global>,
     pub(crate) pass: Pass,
 }
 
-/// A copy, its pass, what it hasn't told yet, who waits for it, and which posts are held back. It is not `Drop`: end it by `into_left`.
+/// A copy, its pass, what it hasn't told yet, who waits for it, which posts are held back, and its merges. It is not `Drop`: end it by `into_left`.
 pub(crate) struct Worker<D: LogDevice, G: Gate> {
     pub(crate) alloc: Global,
     pub(crate) number: u64,
@@ -44,6 +47,7 @@ pub(crate) struct Worker<D: LogDevice, G: Gate> {
     pub(crate) outbox: Outbox,
     pub(crate) waits: Waits,
     pub(crate) backlog: Backlog,
+    pub(crate) merges: Merges,
     /// The greatest term of which another copy was made the primary.
     pub(crate) deposed: u64,
     /// Whether the copy didn't open again, and was given up.
@@ -54,7 +58,12 @@ pub(crate) struct Worker<D: LogDevice, G: Gate> {
 
 impl<D: LogDevice, G: Gate> Worker<D, G> {
     pub(crate) fn new(alloc: Global, tools: Tools<D, G>, cell: CopyCell<D>) -> Worker<D, G> {
-        let Tools { gate, shared, pass } = tools;
+        let Tools {
+            gate,
+            shared,
+            merges,
+            pass,
+        } = tools;
         Worker {
             alloc,
             number: pass.number(),
@@ -65,6 +74,7 @@ impl<D: LogDevice, G: Gate> Worker<D, G> {
             outbox: Outbox::new(alloc),
             waits: Waits::new(alloc),
             backlog: Backlog::new(alloc),
+            merges: Merges::new(merges),
             deposed: 0,
             given_up: false,
             is_to_lead: false,
@@ -100,6 +110,7 @@ impl<D: LogDevice, G: Gate> Worker<D, G> {
             Post::Report(copy) => self.report(rt, copy),
             Post::Depose(term) => self.depose(rt, term),
             Post::Get(id, to) => self.get(rt, id, to),
+            Post::Merged(merged) => self.put_merged(rt, merged),
             Post::Seat(to) => self.seat(rt, &to),
             Post::Stop => {}
         }
@@ -138,15 +149,26 @@ impl<D: LogDevice, G: Gate> Worker<D, G> {
         is_accepted
     }
 
-    /// Does a call. A refresh shows searches only what is on the disk.
+    /// Does a call. A refresh shows searches only what is on the disk, and adds a segment.
     fn ask<R: Wait>(&mut self, rt: &R, input: Input, to: Sender<Answered, Global>) {
         if let Input::Refresh = &input {
-            self.release(rt);
-            if self.cell.sync().is_err() {
-                sent(rt, &to, Err(unsynced()));
-                return;
-            }
+            self.refresh(rt, to);
+        } else {
+            self.do_asked(rt, input, to);
         }
+    }
+
+    fn refresh<R: Wait>(&mut self, rt: &R, to: Sender<Answered, Global>) {
+        self.release(rt);
+        if self.cell.sync().is_err() {
+            sent(rt, &to, Err(unsynced()));
+            return;
+        }
+        self.do_asked(rt, Input::Refresh, to);
+        self.begin_merge(rt);
+    }
+
+    fn do_asked<R: Wait>(&mut self, rt: &R, input: Input, to: Sender<Answered, Global>) {
         let was_open = self.is_open();
         match self.made(rt, input) {
             Ok(receipt) => {
@@ -321,6 +343,7 @@ impl<D: LogDevice, G: Gate> Worker<D, G> {
             waits,
             backlog,
             outbox,
+            merges,
             alloc: _,
             number: _,
             gate: _gate,
@@ -332,6 +355,7 @@ impl<D: LogDevice, G: Gate> Worker<D, G> {
         drop(outbox);
         drop(waits);
         drop(backlog);
+        drop(merges);
         Left::served(rt, cell, pass)
     }
 }

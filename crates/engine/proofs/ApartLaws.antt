@@ -10,7 +10,7 @@ use Rattle.std.proofs.lemmas.Map.Lookups.{exact_bytes}
 use Rattle.doc.specs.Id.{Id, id_cmp}
 use Rattle.op.specs.Documents.{Document, Documents, document_at}
 use Rattle.engine.specs.Parts.{merged, woven, has_id, times, AreApart, AllInOrder, is_among, without}
-use Rattle.engine.proofs.PartLaws.{Apart, Item, true_T, T_true, find-merged, find-woven_from, in_order-merged, in_order-woven_from, filter-merged, length-merged, take-merged, in_order-filter, find-filter, in_order-take, or_or}
+use Rattle.engine.proofs.PartLaws.{Apart, Item, true_T, T_true, find-merged, find-woven_from, in_order-merged, in_order-woven_from, filter-merged, length-merged, take-merged, in_order-filter, find-filter, in_order-take, or_none, or_or}
 
 -- ---- how many have an id
 
@@ -193,6 +193,14 @@ module _ (ids : List Id) (news : Documents) (n : ℕ) (ps : List Documents) (apa
       ∙ or_or (document_at news q) (document_at (woven (take n ps)) q) (document_at (woven (drop n ps)) q)
       ∙ ap (option_or (document_at news q)) (append-woven n ps q)
       ∙ sym (find-merged news (woven ps) q))
+
+-- beside no others, documents in order are what they are
+pub merged-none : (es : Documents) → is_sorted id_cmp es ≡ true → merged es [] ≡ es
+merged-none es sorted =
+    same_entries id_cmp nat_list_cmp_total exact_bytes _ _
+    (in_order-merged es [] tt)
+    (true_T _ sorted)
+    (λ q. find-merged es [] q ∙ sym (or_none (document_at es q)))
 
 -- what is left of all is what is left of each
 pub woven-without : (ids : List Id) (ps : List Documents) → AllInOrder ps → woven (map (without ids) ps) ≡ without ids (woven ps)

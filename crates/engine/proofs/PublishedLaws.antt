@@ -1,11 +1,12 @@
 -- The numbers of segments, and which of them stay.
-use Rattle.std.proofs.Common.{◌≡◌, ◌<◌, ◌≤◌, ℕ, ◌+◌, Bool, true, false, List, [], ◌∷◌, ◌++◌, drop, length, refl, sym, ap, ◌∙◌, subst, arith, inl, inr}
-use Rattle.std.specs.Prelude.{◌⊎◌, ◌&&◌, if◌then◌else◌, All, Contains, nat_lt, nat_le, slice_index_or}
-use Rattle.std.specs.List.{list_all}
-use Rattle.std.proofs.lemmas.List.Elements.{All-nil, All-cons, All-append, All-drop, All-contains, All-contains_itself, Contains-append_left, Contains-append_right, Contains-push, Contains-push_cases}
+use Rattle.std.proofs.Common.{◌≡◌, ◌<◌, ◌≤◌, ℕ, ◌+◌, zero, suc, Bool, true, false, List, [], ◌∷◌, ◌++◌, cond, drop, length, length-append, refl, sym, ap, ◌∙◌, subst, arith, inl, inr}
+use Rattle.std.specs.Prelude.{◌⊎◌, ◌&&◌, if◌then◌else◌, All, Contains, nat_lt, nat_le, ◌==◌, ◌||◌, slice_index_or}
+use Rattle.std.specs.List.{list_all, AllByRecursion}
+use Rattle.std.proofs.lemmas.List.Elements.{All-nil, All-cons, All-append, All-drop, All-contains, All-contains_itself, Contains-append_cases, Contains-append_left, Contains-append_right, Contains-push, Contains-push_cases, filter-append, recursion_from_All}
 use Rattle.std.proofs.lemmas.Bool.Decides.{nat_tests}
 use Rattle.doc.specs.Mapping.{MappingData}
-use Rattle.engine.specs.Published.{Published, Segments, greatest, next_after, are_taken, taken_of, AreAmong, AreBelow, IsFronted, IsLeft, IsReplaced, IsSwapped, nothing, remains, was_taken}
+use Rattle.engine.specs.Parts.{AreKnown}
+use Rattle.engine.specs.Published.{Published, Segments, greatest, is_numbered, next_after, numbered, are_taken, taken_of, AreAmong, AreBelow, AreDistinct, IsFronted, IsLeft, IsReplaced, IsSwapped, nothing, remains, was_taken}
 
 -- all are new or were there before
 abbrev pub AreNumbered : List Published → ℕ → List Published → Type 0
@@ -141,3 +142,120 @@ taken-all ss are = ap (λ b. if b then ss else []) (sym are)
 
 pub taken-none : (ss : List Published) → are_taken ss ≡ false → taken_of ss ≡ []
 taken-none ss are = ap (λ b. if b then ss else []) are
+
+-- ---- how many segments bear a number
+
+abbrev one_if : Bool → ℕ
+one_if b = cond b 1 0
+
+abbrev borne : ℕ → List Published → ℕ
+borne n ss = length (numbered (n ∷ []) ss)
+
+one_borne : (n : ℕ) (s : Published) (ss : List Published) → borne n (s ∷ ss) ≡ cond (n == s.number) 1 0 + borne n ss
+one_borne n s ss = by_test (n == s.number)
+  where
+    by_test : (b : Bool) → length (cond (b || false) (s ∷ numbered (n ∷ []) ss) (numbered (n ∷ []) ss)) ≡ cond b 1 0 + borne n ss
+    by_test true = omega arith
+    by_test false = omega arith
+
+one_at_most : (b : Bool) → cond b 1 0 ≤ 1
+one_at_most true = omega arith
+one_at_most false = omega arith
+
+borne-append : (n : ℕ) (ss ts : List Published) → borne n (ss ++ ts) ≡ borne n ss + borne n ts
+borne-append n ss ts = ap length (filter-append (is_numbered (n ∷ [])) ss ts) ∙ length-append (numbered (n ∷ []) ss) (numbered (n ∷ []) ts)
+
+borne-drop : (n k : ℕ) (ss : List Published) → borne n (drop k ss) ≤ borne n ss
+borne-drop n zero ss = omega arith
+borne-drop n (suc k) [] = omega arith
+borne-drop n (suc k) (s ∷ ss) = omega (arith, borne-drop n k ss, one_borne n s ss)
+
+borne-left : (n : ℕ) (taken old left : List Published) → IsLeft taken old left → borne n left ≤ borne n old
+borne-left n taken _ _ nothing = omega arith
+borne-left n taken _ _ (remains s old left absent rest) = omega (arith, borne-left n taken old left rest, one_borne n s old, one_borne n s left)
+borne-left n taken _ _ (was_taken s old left there rest) = omega (arith, borne-left n taken old left rest, one_borne n s old)
+
+none-borne : (n : ℕ) (ss : List Published) → AllByRecursion (λ s. n ≡ s.number → ⊥) ss → borne n ss ≤ 0
+none-borne n [] all = omega arith
+none-borne n (s ∷ ss) all = let other : (n == s.number) ≡ false = by_test (n == s.number) refl in omega (arith, none-borne n ss all.1, one_borne n s ss, ap one_if other)
+  where
+    by_test : (b : Bool) → (n == s.number) ≡ b → b ≡ false
+    by_test true is = let same : n ≡ s.number = grind (arith, nat_tests, is) in absurd (all.0 same)
+    by_test false is = refl
+
+few-borne : (n : ℕ) (ss : List Published) → borne n ss ≤ length ss
+few-borne n [] = omega arith
+few-borne n (s ∷ ss) = omega (arith, few-borne n ss, one_borne n s ss, one_at_most (n == s.number))
+
+others : (n : ℕ) (ss : List Published) → ((s : Published) → Contains ss s → n ≡ s.number → ⊥) → borne n ss ≤ 0
+others n ss other = none-borne n ss (recursion_from_All (λ (s : Published). n ≡ s.number → ⊥) ss (λ k d lt. other (slice_index_or ss k d) (All-contains_itself ss k d lt)))
+
+module _ (old : List Published) (next : ℕ) (below : AreBelow next old) (distinct : AreDistinct old) where
+  -- those that stay, and one that bears the next number
+  joined-distinct : (kept came : List Published) → ((n : ℕ) → borne n kept ≤ borne n old) → length came ≤ 1 → All (λ (s : Published). s.number ≡ next) came → (n : ℕ) → n < greatest → borne n kept + borne n came ≤ 1
+  joined-distinct kept came stay one numbers n lt = by_test (n == next) refl
+    where
+      by_test : (b : Bool) → (n == next) ≡ b → borne n kept + borne n came ≤ 1
+      by_test true is =
+          let same : n ≡ next = grind (arith, nat_tests, is) in
+          let less : next < greatest = omega (arith, same, lt) in
+          let none = others n old (λ s there at. let under : s.number < next = All-contains (λ (t : Published). t.number < next) old s (below less) there in omega (arith, under, same, at)) in
+          omega (arith, none, stay n, few-borne n came, one)
+      by_test false is =
+          let none = others n came (λ s there at. let here : s.number ≡ next = All-contains (λ (t : Published). t.number ≡ next) came s numbers there in grind (arith, nat_tests, is, at, here)) in
+          omega (arith, none, stay n, distinct n lt)
+
+  pub fronted-distinct : (new : List Published) → IsFronted next old new → AreDistinct new
+  fronted-distinct new is n lt =
+      omega (arith, joined-distinct (drop is.joined old) is.front (λ n. borne-drop n is.joined old) is.one is.numbers n lt, ap (borne n) is.is, borne-append n is.front (drop is.joined old))
+
+  pub replaced-distinct : (taken new : List Published) (m : MappingData) → IsReplaced taken next m old new → AreDistinct new
+  replaced-distinct taken new m is n lt =
+      omega (arith, joined-distinct is.left (is.merged ∷ []) (λ n. borne-left n taken old is.left is.others) (omega arith) (all-one (λ (s : Published). s.number ≡ next) is.merged is.numbered) n lt, ap (borne n) is.is, borne-append n is.left (is.merged ∷ []))
+
+pub distinct-one : (s : Published) → AreDistinct (s ∷ [])
+distinct-one s n lt = few-borne n (s ∷ [])
+
+-- ---- what a number says
+
+one_is : (n : ℕ) (s : Published) (ss : List Published) → s.number ≡ n → borne n (s ∷ ss) ≡ 1 + borne n ss
+one_is n s ss same = one_borne n s ss ∙ ap (λ b. one_if b + borne n ss) bears
+  where
+    bears : (n == s.number) ≡ true
+    bears = grind (arith, nat_tests, same)
+
+front_cases : (x : Published) (xs : List Published) (s : Published) → Contains (x ∷ xs) s → (x ≡ s) ⊎ Contains xs s
+front_cases x xs s there = elim (Contains-append_cases (x ∷ []) xs s there) [
+  | inl here ↦ elim (Contains-push_cases [] x s here) [ inl none ↦ absurd (omega (arith, none.1)) | inr same ↦ inl same ]
+  | inr behind ↦ inr behind
+]
+
+there_borne : (n : ℕ) (ss : List Published) (s : Published) → Contains ss s → s.number ≡ n → 1 ≤ borne n ss
+there_borne n [] s there same = absurd (omega (arith, there.1))
+there_borne n (x ∷ xs) s there same = cases (λ behind. there_borne n xs s behind same) (front_cases x xs s there)
+  where
+    cases : (Contains xs s → 1 ≤ borne n xs) → (x ≡ s) ⊎ Contains xs s → 1 ≤ borne n (x ∷ xs)
+    cases rest (inl is) = omega (arith, one_is n x xs (ap (λ (t : Published). t.number) is ∙ same))
+    cases rest (inr behind) = omega (arith, one_borne n x xs, rest behind)
+
+same_one : (n : ℕ) (ss : List Published) (s t : Published) → borne n ss ≤ 1 → Contains ss s → Contains ss t → s.number ≡ n → t.number ≡ n → s ≡ t
+same_one n [] s t few a b p q = absurd (omega (arith, a.1))
+same_one n (x ∷ xs) s t few a b p q =
+    cases (λ a b. same_one n xs s t (omega (arith, few, one_borne n x xs)) a b p q) (front_cases x xs s a) (front_cases x xs t b)
+  where
+    cases : (Contains xs s → Contains xs t → s ≡ t) → (x ≡ s) ⊎ Contains xs s → (x ≡ t) ⊎ Contains xs t → s ≡ t
+    cases rest (inl is) (inl it) = sym is ∙ it
+    cases rest (inl is) (inr b) = absurd (omega (arith, few, one_is n x xs (ap (λ (t : Published). t.number) is ∙ p), there_borne n xs t b q))
+    cases rest (inr a) (inl it) = absurd (omega (arith, few, one_is n x xs (ap (λ (t : Published). t.number) it ∙ q), there_borne n xs s a p))
+    cases rest (inr a) (inr b) = rest a b
+
+-- of those that a merge took and one of all, the one that bears its number is it
+pub known : (all taken : List Published) → AreKnown all taken → (s t : Published) → Contains all s → Contains taken t → t.number ≡ s.number → t ≡ s
+known all taken is s t there was same =
+    same_one t.number all t s (is.distinct t.number below) (All-contains (λ (t : Published). Contains all t) taken t is.among was) there refl (sym same)
+  where
+    small : nat_lt t.number greatest ≡ true
+    small = All-contains (λ (t : Published). nat_lt t.number greatest ≡ true) taken t (all-of (λ (s : Published). nat_lt s.number greatest) taken (second_of (nat_le 2 (length taken)) (list_all (λ (s : Published). nat_lt s.number greatest) taken) is.are)) was
+
+    below : t.number < greatest
+    below = let is = small in grind (arith, nat_tests, is)

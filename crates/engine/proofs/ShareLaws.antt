@@ -17,7 +17,7 @@ use Rattle.engine.proofs.PartLaws.{Item, drop-take}
 use Rattle.engine.proofs.ChosenLaws.{chosen-places, chosen-counted, chosen-filter, copied}
 use Rattle.engine.proofs.FoundLaws.{each-some}
 
-length-chosen : {A : Type 0} (xs : List A) (bs : List Bool) → length (chosen xs bs) ≤ length xs
+pub length-chosen : {A : Type 0} (xs : List A) (bs : List Bool) → length (chosen xs bs) ≤ length xs
 length-chosen [] bs = omega arith
 length-chosen (x ∷ xs) [] = omega arith
 length-chosen (x ∷ xs) (true ∷ bs) = omega (arith, length-chosen xs bs)

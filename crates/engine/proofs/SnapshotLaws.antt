@@ -6,9 +6,9 @@ use Rattle.std.proofs.lemmas.List.{take-map, drop-map, length-map}
 use Rattle.doc.specs.Id.{Id, id_cmp}
 use Rattle.doc.specs.Mapping.{MappingData}
 use Rattle.op.specs.Documents.{Documents}
-use Rattle.engine.specs.Parts.{PartData, documents_of_parts, woven, merged, without, is_among, has_id, times, AreParts, AreApart, AllInOrder}
+use Rattle.engine.specs.Parts.{PartData, documents_of_parts, woven, merged, without, is_among, has_id, times, AreParts, AreApart}
 use Rattle.engine.proofs.PartLaws.{head_is, tail_is}
-use Rattle.engine.proofs.ApartLaws.{without-apart, none_left, woven-without, fronted-apart, fronted-woven, all_take}
+use Rattle.engine.proofs.ApartLaws.{without-apart, none_left, woven-without, fronted-apart, fronted-woven}
 
 -- each part has the mapping
 pub mapping-at : (m : MappingData) (ps : List PartData) (i : ℕ) (p : PartData) → map (λ (p : PartData). p.mapping) ps ≡ replicate (length ps) m → i < length ps → p ≡ get_or ps i p → p.mapping ≡ m
@@ -49,9 +49,6 @@ module _ (m : MappingData) (ps qs : List PartData) (ids : List Id) (es : Documen
 
   none : (id : Id) → is_among ids id ≡ true → times id all ≡ 0
   none id is = ap (times id) left ∙ none_left ids (documents_of_parts ps) id is
-
-  pub newer-in_order : AllInOrder (documents_of_parts (take n qs))
-  newer-in_order = subst AllInOrder (take-map (λ (p : PartData). p.documents) n qs) (all_take n all apart.sorted)
 
   mappings_left : map (λ (p : PartData). p.mapping) (drop n qs) ≡ replicate (length (drop n qs)) m
   mappings_left =

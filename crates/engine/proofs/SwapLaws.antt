@@ -2,7 +2,7 @@
 use Rattle.std.proofs.Common.{◌≡◌, ◌<◌, ◌≤◌, ℕ, ◌+◌, zero, suc, Bool, true, false, cond, List, [], ◌∷◌, ◌++◌, length, map, refl, sym, ap, ◌∙◌, subst, arith, Option, Some, None, inl, inr, get_or, take, add-one}
 use Rattle.std.specs.Prelude.{is_some, replicate, ◌&&◌, All, Contains}
 use Rattle.std.specs.List.{list_all}
-use Rattle.std.proofs.lemmas.List.Elements.{Contains-push_cases}
+use Rattle.std.proofs.lemmas.List.Elements.{All-contains_itself, Contains-push_cases}
 use Rattle.std.proofs.Math.Seq.{take-suc}
 use Rattle.std.specs.Option.{option_or}
 use Rattle.std.specs.Cmp.Lexicographic.{nat_list_cmp_total}
@@ -245,6 +245,10 @@ tested-more p ps i x lt is all one =
 -- what all have one has
 pub all-at : (P : Published → Type 0) (ps : List PartData) (i : ℕ) (x : PartData) → i < length ps → x ≡ get_or ps i x → All P (all_published ps) → P (published_of x)
 all-at P ps i x lt is all = subst P (get_or-map published_of ps i x (published_of x) lt ∙ ap published_of (sym is)) (all i (published_of x) (omega (arith, lt, length-map ps published_of)))
+
+-- each is among all
+pub there-at : (ps : List PartData) (i : ℕ) (x : PartData) → i < length ps → x ≡ get_or ps i x → Contains (all_published ps) (published_of x)
+there-at ps i x lt is = all-at (Contains (all_published ps)) ps i x lt is (All-contains_itself (all_published ps))
 
 pub splits-none : (taken : List Published) (ps stay go : List PartData) → stay ≡ [] → go ≡ [] → IsSplit taken (take 0 ps) stay go
 splits-none taken ps stay go s g = subst (λ (xs : List PartData). IsSplit taken [] xs go) (sym s) (subst (λ (xs : List PartData). IsSplit taken [] [] xs) (sym g) none)

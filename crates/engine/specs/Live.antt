@@ -1,9 +1,10 @@
 -- The documents that are live in segments.
-use Rattle.std.specs.Prelude.{ℕ, List, [], ◌∷◌, fold, if◌then◌else◌}
+use Rattle.std.specs.Prelude.{ℕ, ◌≡◌, ◌≤◌, ◌+◌, ◌&&◌, Bool, true, List, [], ◌∷◌, fold, if◌then◌else◌, length, min, nat_le, nat_lt, sum_by}
+use Rattle.std.specs.List.{AllZip}
 use Rattle.std.specs.FinMap.Entries.{put}
 use Rattle.doc.specs.Id.{id_cmp}
 use Rattle.op.specs.Documents.{Documents}
-use Rattle.engine.specs.Published.{Published, is_numbered}
+use Rattle.engine.specs.Published.{Published, greatest, is_numbered}
 
 -- the documents of both; where both have an id, that of the first
 abbrev pub merged : Documents → Documents → Documents
@@ -19,3 +20,24 @@ abbrev pub live_of : List ℕ → List Published → List Documents → List Doc
 live_of ns [] ls = []
 live_of ns (s ∷ ss) [] = []
 live_of ns (s ∷ ss) (l ∷ ls) = if is_numbered ns s then l ∷ live_of ns ss ls else live_of ns ss ls
+
+-- whether a segment is small: few documents are live in it, and a merge may take it
+abbrev pub is_small : Published → Documents → Bool
+is_small s l = nat_lt s.number greatest && nat_le (length l) 32768
+
+-- how many segments are small, where this is live in all
+abbrev pub small_count : List Published → List Documents → ℕ
+small_count [] ls = 0
+small_count (s ∷ ss) [] = 0
+small_count (s ∷ ss) (l ∷ ls) = (if is_small s l then 1 else 0) + small_count ss ls
+
+-- how many documents that were put into a segment count where segments go into one
+abbrev pub counted : Published → ℕ
+counted s = min (length s.documents) 131072
+
+-- segments that go well into one: small ones, ten at most, with a bound on the documents that are live in them and on those that were put into them
+pub record FitOneMerge (ss : List Published) (ls : List Documents) : Type 0 where
+  pub few : length ss ≤ 10
+  pub small : AllZip (λ s l. is_small s l ≡ true) ss ls
+  pub live : sum_by (λ l. length l) ls ≤ 65536
+  pub put : sum_by counted ss ≤ 262144

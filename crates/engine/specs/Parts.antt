@@ -4,7 +4,7 @@ use Rattle.std.specs.Prelude.{◌≡◌, ℕ, ◌≤◌, ◌+◌, ◌++◌, Bool
 use Rattle.doc.specs.Mapping.{MappingData}
 use Rattle.engine.specs.Answer.{SnapshotData}
 pub use Rattle.engine.specs.Live.{merged, woven}
-use Rattle.engine.specs.Published.{Published, MergeData, are_taken, taken_of, AreBelow}
+use Rattle.engine.specs.Published.{Published, MergeData, are_taken, taken_of, AreAmong, AreBelow, AreDistinct}
 use Rattle.std.specs.Option.{ForSome}
 use Rattle.std.specs.List.{AllByRecursion, list_any}
 use Rattle.std.specs.FinMap.Entries.{where_key, is_sorted}
@@ -62,10 +62,11 @@ pub record PartListData : Type 0 where
 abbrev pub shown_through : PartListData → SnapshotData
 shown_through l = record { mapping = l.mapping; documents = l.documents }
 
--- a snapshot shows what its parts do, and the next number is a new one
+-- a snapshot shows what its parts do, no number comes twice, and the next one is new
 pub record IsShowing (l : PartListData) (s : SnapshotData) (next : ℕ) : Type 0 where
   pub same : s ≡ shown_through l
   pub below : AreBelow next l.published
+  pub distinct : AreDistinct l.published
 
 -- where a merge takes these parts, one part has the documents of all
 pub record IsMade (l : PartListData) (made : Option PartData) : Type 0 where
@@ -76,6 +77,12 @@ pub record IsMade (l : PartListData) (made : Option PartData) : Type 0 where
 -- the merge that takes them
 abbrev pub merge_of : PartListData → MergeData
 merge_of l = record { taken = taken_of l.published; mapping = l.mapping; documents = l.documents }
+
+-- segments that a merge took, each still among all: its number says which it is
+pub record AreKnown (all taken : List Published) : Type 0 where
+  pub among : AreAmong all taken
+  pub distinct : AreDistinct all
+  pub are : are_taken taken ≡ true
 
 -- parts in two halves: those that were taken go, the others stay
 pub data IsSplit (taken : List Published) : List PartData → List PartData → List PartData → Type 0 where

@@ -38,6 +38,10 @@ is_numbered ns s = list_any (λ n. n == s.number) ns
 abbrev pub numbered : List ℕ → List Published → List Published
 numbered ns ss = filter (is_numbered ns) ss
 
+-- no two segments bear the same number, unless it is the greatest
+abbrev pub AreDistinct : List Published → Type 0
+AreDistinct ss = (n : ℕ) → n < greatest → length (numbered (n ∷ []) ss) ≤ 1
+
 -- a merge: the segments that it takes, and the documents that were live in them when it was begun
 pub record MergeData : Type 0 where
   pub taken : List Published

@@ -8,18 +8,16 @@ use Rattle.op.specs.Records.{IsRecord, operations}
 use Rattle.engine.specs.Contents.{Contents, EngineData}
 use Rattle.engine.specs.Published.{next_after, AreAmong, AreBelow, IsFronted}
 use Rattle.engine.specs.declared.staged.SnapshotChange.{SnapshotChange}
-use Rattle.engine.specs.declared.staged.SnapshotChange.TheVariants.{Refresh, JoinedRefresh, Reopen}
+use Rattle.engine.specs.declared.staged.SnapshotChange.TheVariants.{Refresh, Reopen}
 
 -- a refresh shows all records, new records are all shown
 abbrev pub changed : Contents → SnapshotChange → Contents
 changed c Refresh = record c { point = length c.records }
-changed c JoinedRefresh = record c { point = length c.records }
 changed c (Reopen rs) = record c { records = rs.items; point = length rs.items }
 
 -- new records are records
 abbrev pub IsSnapshotChange : SnapshotChange → Type 0
 IsSnapshotChange Refresh = Unit {0}
-IsSnapshotChange JoinedRefresh = Unit {0}
 IsSnapshotChange (Reopen rs) = All IsRecord rs.items
 
 -- whether a record is one operation
@@ -38,8 +36,7 @@ pub record IsNumbered (old new : EngineData) : Type 0 where
   pub rises : old.next ≤ new.next
   pub below : AreBelow new.next new.published
 
--- the segments after a change: a refresh over operations alone keeps each that was published, one that joins need not, and new records have one of their own
+-- the segments after a change: a refresh over operations alone keeps each that was published, and new records have one of their own
 abbrev pub ArePublished : EngineData → SnapshotChange → EngineData → Type 0
 ArePublished old Refresh new = IsNumbered old new × (OnlyOps old → AreAmong new.published old.published)
-ArePublished old JoinedRefresh new = IsNumbered old new
 ArePublished old (Reopen rs) new = (new.published ≡ (record { number = old.next; mapping = old.mapping; documents = documents (operations rs.items) }) ∷ []) × (new.next ≡ next_after old.next)

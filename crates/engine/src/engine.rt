@@ -10,7 +10,7 @@ ghost use Rattle.engine.specs.Applied.{applied_of, records_after, RiseFrom};
 ghost use Rattle.engine.specs.Found.{found_document};
 ghost use Rattle.engine.specs.Last.{last_of};
 ghost use Rattle.engine.specs.Contents.{contents_of, segments_of};
-ghost use Rattle.engine.specs.Live.{live_of, woven};
+ghost use Rattle.engine.specs.Live.{live_of, small_count, woven, FitOneMerge};
 ghost use Rattle.engine.specs.Published.{next_after, numbered, taken_of, AreAmong, AreBelow, IsFronted, IsSwapped};
 ghost use Rattle.engine.specs.SnapshotChange.{changed, ArePublished, IsNumbered, IsSnapshotChange, OnlyOps};
 ghost use Rattle.engine.specs.Staged.{IsStagedFrom, put_in};
@@ -144,20 +144,19 @@ impl Engine {
         ensures published { IfOk result (λ s. ArePublished self.now change (put_in self.now s)) }
     {
         match change {
-            SnapshotChange::Refresh => self.stage_refresh(alloc, false),
-            SnapshotChange::JoinedRefresh => self.stage_refresh(alloc, true),
+            SnapshotChange::Refresh => self.stage_refresh(alloc),
             SnapshotChange::Reopen(records) => self.stage_reopen(alloc, records),
         }
     }
 
     /// Makes a refresh ready.
-    fn stage_refresh(&self, alloc: Global, joins: bool) -> Result<Staged, AllocError>
+    fn stage_refresh(&self, alloc: Global) -> Result<Staged, AllocError>
         ensures fits { IfOk result (IsStagedFrom (contents_of self.now)) }
         ensures leaves { IfOk result (λ s. contents_of (put_in self.now s) ≡ record (contents_of self.now) { point = length self.now.records }) }
         ensures numbered { IfOk result (λ s. IsNumbered self.now (put_in self.now s)) }
-        ensures kept { IfOk result (λ s. joins ≡ false → OnlyOps self.now → AreAmong s.published self.now.published) }
+        ensures kept { IfOk result (λ s. OnlyOps self.now → AreAmong s.published self.now.published) }
     {
-        let showing = self.refreshed(alloc, joins)?;
+        let showing = self.refreshed(alloc)?;
         let _below = showing.next();
         Ok(Staged {
             history: None,
@@ -190,11 +189,11 @@ impl Engine {
     }
 
     /// What searches show of all records: what they show where nothing came, with the ids that changed, or made anew where more than ids changed.
-    fn refreshed(&self, alloc: Global, joins: bool) -> Result<Showing, AllocError>
+    fn refreshed(&self, alloc: Global) -> Result<Showing, AllocError>
         ensures snapshot { IfOk result (λ s. s.snapshot ≡ record { mapping = self.now.mapping; documents = documents (operations self.now.records) }) }
         ensures numbers { IfOk result (λ s. IsFronted self.now.next self.now.published s.published) }
         ensures rises { IfOk result (λ s. self.now.next ≤ s.next) }
-        ensures kept { IfOk result (λ s. joins ≡ false → OnlyOps self.now → AreAmong s.published self.now.published) }
+        ensures kept { IfOk result (λ s. OnlyOps self.now → AreAmong s.published self.now.published) }
     {
         if self.history.len() == self.point {
             let showing = self.showing.copy()?;
@@ -206,7 +205,7 @@ impl Engine {
             return Ok(showing);
         };
         let entries = documents_at(alloc, &self.history, &ids)?;
-        let showing = self.showing.with(alloc, &ids, &entries, joins)?;
+        let showing = self.showing.with(alloc, &ids, &entries)?;
         Ok(showing)
     }
 
@@ -251,12 +250,13 @@ impl Engine {
         self.showing.begin_merge_of(alloc, numbers)
     }
 
-    /// The numbers of segments that go well into one, where searches look through many: of the smallest size of which there are two.
+    /// The numbers of small segments that go well into one, where searches look through many of them.
     pub fn to_merge(&self, alloc: Global) -> Result<Option<Vec<u64>>, AllocError>
-        ensures none { IfOk result (λ o. o ≡ None → length self.now.published ≤ 8) }
-        ensures some { IfOk result (λ o. IfSome o (λ v. 8 < length self.now.published)) }
+        ensures none { IfOk result (λ o. o ≡ None → small_count self.now.published self.now.live ≤ 8) }
+        ensures some { IfOk result (λ o. IfSome o (λ v. 8 < small_count self.now.published self.now.live)) }
         ensures there { IfOk result (λ o. IfSome o (λ v. 2 ≤ length (numbered v.items self.now.published))) }
         ensures few { IfOk result (λ o. IfSome o (λ v. length v.items ≤ 10)) }
+        ensures fit { IfOk result (λ o. IfSome o (λ v. FitOneMerge (numbered v.items self.now.published) (live_of v.items self.now.published self.now.live))) }
     {
         self.showing.to_merge(alloc)
     }
@@ -296,6 +296,13 @@ impl Engine {
         ensures below { AreBelow self.now.next self.now.published }
     {
         self.showing.next()
+    }
+
+    /// Whether searches show all records.
+    pub fn is_all_shown(&self) -> bool
+        ensures { IsTrue result ↔ (self.now.point ≡ length self.now.records) }
+    {
+        self.history.len() == self.point
     }
 
     /// How many records searches show.

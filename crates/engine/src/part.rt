@@ -140,9 +140,18 @@ impl Part {
 
     /// How many documents were put into it, live or not.
     pub(crate) fn weight(&self) -> usize
-        ensures { result < 2 ^ 32 }
+        ensures { result ≡ length self.now.built }
     {
         self.block.len()
+    }
+
+    /// How many of them are live.
+    pub(crate) fn live_len(&self) -> usize
+        ensures is { result ≡ length self.now.documents }
+        ensures few { result < 2 ^ 32 }
+    {
+        let _few = self.block.len();
+        self.live.count()
     }
 
     /// Its documents.

@@ -8,13 +8,13 @@ ghost use Rattle.op.specs.Documents.{documents};
 ghost use Rattle.engine.specs.Answer.{is_found};
 ghost use Rattle.engine.specs.Entry.{entry_view};
 ghost use Rattle.engine.specs.Parts.{all_published, documents_of_parts, has_id, is_among, merged, without, woven, AllInOrder, AreParts};
-ghost use Rattle.engine.specs.Live.{live_of};
-ghost use Rattle.engine.specs.Published.{numbered, AreAmong, IsFronted, IsReplaced};
+ghost use Rattle.engine.specs.Live.{live_of, small_count, FitOneMerge};
+ghost use Rattle.engine.specs.Published.{are_taken, numbered, AreAmong, AreDistinct, IsFronted, IsReplaced};
 ghost use Rattle.engine.specs.Before.{first_of_each};
 ghost use Rattle.engine.specs.Shown.{seen_all};
 
 use crate::block::Shown;
-use crate::choosing::{FEW_SEGMENTS, parts_numbered, smallest_numbers};
+use crate::choosing::{FEW_SMALL, count_small, parts_numbered, smallest_numbers};
 use crate::documents::{Entry, documents_of};
 use crate::merging::{merge, merge_owned};
 use crate::paging::{behind, find_pivot, page_behind};
@@ -26,9 +26,6 @@ use query::Query;
 use std::alloc::{AllocError, Global};
 use std::marker::Model;
 use std::sync::Arc;
-
-/// So many parts stay side by side, whatever their sizes.
-const FEW_PARTS: usize = 16;
 
 /// There are fewer parts.
 const MOST_PARTS: usize = 4_294_967_295;
@@ -116,14 +113,16 @@ impl PartList {
         Ok(PartList { mapping, parts })
     }
 
-    /// The numbers of parts that go well into one, where there are many.
+    /// The numbers of small parts that go well into one, where there are many.
     pub(crate) fn to_merge(&self, alloc: Global) -> Result<Option<Vec<u64>>, AllocError>
-        ensures none { IfOk result (λ o. o ≡ None → length self.now.published ≤ 8) }
-        ensures some { IfOk result (λ o. IfSome o (λ v. 8 < length self.now.published)) }
+        requires { AreDistinct self.now.published }
+        ensures none { IfOk result (λ o. o ≡ None → small_count self.now.published self.now.live ≤ 8) }
+        ensures some { IfOk result (λ o. IfSome o (λ v. 8 < small_count self.now.published self.now.live)) }
         ensures there { IfOk result (λ o. IfSome o (λ v. 2 ≤ length (numbered v.items self.now.published))) }
         ensures few { IfOk result (λ o. IfSome o (λ v. length v.items ≤ 10)) }
+        ensures fit { IfOk result (λ o. IfSome o (λ v. FitOneMerge (numbered v.items self.now.published) (live_of v.items self.now.published self.now.live))) }
     {
-        if self.len() <= FEW_SEGMENTS {
+        if count_small(&self.parts) <= FEW_SMALL {
             return Ok(None);
         }
         let numbers = smallest_numbers(alloc, &self.parts)?;
@@ -145,37 +144,31 @@ impl PartList {
         page_of(alloc, &self.mapping, &self.parts, query, from, size)
     }
 
-    /// What is shown where some ids have these documents now, and the others what they had. New documents stand in a part of this number.
-    /// Where it joins, this part has the documents of the newest others, too, as they become many; else each other stays.
+    /// What is shown where some ids have these documents now, and the others what they had. New documents stand in a part of this number, in front
+    /// of the others.
     pub(crate) fn with(
         &self,
         alloc: Global,
         number: u64,
         ids: &[DocId],
         entries: &[Entry<'_>],
-        joins: bool,
     ) -> Result<PartList, AllocError>
         requires sorted { is_sorted id_cmp (map entry_view entries.now) ≡ true }
         requires only { (id : Id) → has_id id (map entry_view entries.now) ≡ true → is_among ids.now id ≡ true }
         ensures mapping { IfOk result (λ l. l.mapping ≡ self.now.mapping) }
         ensures documents { IfOk result (λ l. l.documents ≡ merged (map entry_view entries.entry.now) (without ids.now self.now.documents)) }
         ensures published { IfOk result (λ l. IsFronted number self.now.published l.published) }
-        ensures kept { IfOk result (λ l. joins ≡ false → AreAmong l.published self.now.published) }
+        ensures kept { IfOk result (λ l. AreAmong l.published self.now.published) }
     {
-        let mut newer = parts_without(alloc, &self.parts, ids)?;
+        let mut parts = parts_without(alloc, &self.parts, ids)?;
         if entries.is_empty() {
             let mapping = Arc::try_clone(&self.mapping)?;
-            return Ok(PartList {
-                mapping,
-                parts: newer,
-            });
+            return Ok(PartList { mapping, parts });
         }
-        let taken = taken_if(joins, &newer, entries.len());
-        let mut parts = newer.split_off(taken)?;
         if parts.len() >= MOST_PARTS {
             return Err(AllocError);
         }
-        let part = joined(alloc, &self.mapping, number, entries, &newer)?;
+        let part = Part::of(alloc, &self.mapping, number, entries)?;
         parts.insert(0, part)?;
         let mapping = Arc::try_clone(&self.mapping)?;
         Ok(PartList { mapping, parts })
@@ -186,7 +179,8 @@ impl PartList {
         ensures mapping { IfOk result (λ p. p.mapping ≡ self.now.mapping) }
         ensures documents { IfOk result (λ p. p.documents ≡ self.now.documents) }
     {
-        joined(alloc, &self.mapping, 0, &[], &self.parts)
+        let entries = entries_of_parts(alloc, &self.parts)?;
+        Part::of(alloc, &self.mapping, 0, &entries)
     }
 
     /// The same with one part of this number in place of those that were taken, where these are all there. It shows what is live in them, by a
@@ -198,6 +192,8 @@ impl PartList {
         taken: &[Part],
         made: &Part,
     ) -> Result<Option<PartList>, AllocError>
+        requires distinct { AreDistinct self.now.published }
+        requires taken { are_taken (all_published taken.now) ≡ true }
         ensures mapping { IfOk result (λ o. IfSome o (λ l. l.mapping ≡ self.now.mapping)) }
         ensures documents { IfOk result (λ o. IfSome o (λ l. l.documents ≡ self.now.documents)) }
         ensures there { IfOk result (λ o. IfSome o (λ l. AreAmong self.now.published (all_published taken.now))) }
@@ -334,51 +330,6 @@ fn parts_without(alloc: Global, parts: &[Part], ids: &[DocId]) -> Result<Vec<Par
         left.push(part.without(alloc, ids)?)?;
     }
     Ok(left)
-}
-
-/// How many of the newest parts go into a new one of so many documents, where it joins.
-fn taken_if(joins: bool, parts: &[Part], documents: usize) -> usize
-    ensures within { result ≤ length parts.now }
-    ensures none { joins ≡ false → result ≡ 0 }
-{
-    if joins { taken_in(parts, documents) } else { 0 }
-}
-
-/// The same: once there are many, each that is no larger than what stands before it. So the parts that stay grow twofold each, and a document goes
-/// into a new one no more often than the logarithm of their number says.
-fn taken_in(parts: &[Part], documents: usize) -> usize
-    ensures { result ≤ length parts.now }
-{
-    if parts.len() < FEW_PARTS {
-        return 0;
-    }
-    let mut size = documents;
-    for (at, part) in parts.iter().enumerate() {
-        if part.weight() > size {
-            return at;
-        }
-        size = size.saturating_add(part.weight());
-    }
-    parts.len()
-}
-
-/// One part of entries and of the documents of parts.
-fn joined(
-    alloc: Global,
-    mapping: &Arc<Mapping, Global>,
-    number: u64,
-    entries: &[Entry<'_>],
-    parts: &[Part],
-) -> Result<Part, AllocError>
-    requires sorted { is_sorted id_cmp (map entry_view entries.now) ≡ true }
-    requires parts { AllInOrder (documents_of_parts parts.now) }
-    ensures mapping { IfOk result (λ p. p.mapping ≡ arc_value mapping.now) }
-    ensures documents { IfOk result (λ p. p.documents ≡ merged (map entry_view entries.entry.now) (woven (documents_of_parts parts.now))) }
-    ensures number { IfOk result (λ p. p.number ≡ number) }
-{
-    let older = entries_of_parts(alloc, parts)?;
-    let all = merge(alloc, entries, &older)?;
-    Part::of(alloc, mapping, number, &all)
 }
 
 /// The documents of parts, in byte order of their ids.

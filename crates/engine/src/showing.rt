@@ -7,8 +7,8 @@ ghost use Rattle.op.specs.Documents.{documents};
 ghost use Rattle.engine.specs.Contents.{segments_shown};
 ghost use Rattle.engine.specs.Entry.{entry_view};
 ghost use Rattle.engine.specs.Parts.{has_id, is_among, merged, shown_through, without, IsMade};
-ghost use Rattle.engine.specs.Live.{live_of, woven};
-ghost use Rattle.engine.specs.Published.{are_taken, next_after, numbered, taken_of, AreAmong, AreBelow, IsFronted, IsSwapped};
+ghost use Rattle.engine.specs.Live.{live_of, small_count, woven, FitOneMerge};
+ghost use Rattle.engine.specs.Published.{are_taken, next_after, numbered, taken_of, AreAmong, AreBelow, AreDistinct, IsFronted, IsSwapped};
 
 use crate::documents::Entry;
 use crate::part::Part;
@@ -88,23 +88,21 @@ impl Showing {
         self.next
     }
 
-    /// What is shown where some ids have these documents now, and the others what they had. Where it joins, small parts may go into one; else
-    /// each part stays.
+    /// What is shown where some ids have these documents now, and the others what they had. Each part stays.
     pub(crate) fn with(
         &self,
         alloc: Global,
         ids: &[DocId],
         entries: &[Entry<'_>],
-        joins: bool,
     ) -> Result<Showing, AllocError>
         requires sorted { is_sorted id_cmp (map entry_view entries.now) ≡ true }
         requires only { (id : Id) → has_id id (map entry_view entries.now) ≡ true → is_among ids.now id ≡ true }
         ensures snapshot { IfOk result (λ s. s.snapshot ≡ record self.now.snapshot { documents = merged (map entry_view entries.entry.now) (without ids.now self.now.snapshot.documents) }) }
         ensures published { IfOk result (λ s. IsFronted self.now.next self.now.published s.published) }
-        ensures kept { IfOk result (λ s. joins ≡ false → AreAmong s.published self.now.published) }
+        ensures kept { IfOk result (λ s. AreAmong s.published self.now.published) }
         ensures rises { IfOk result (λ s. self.now.next ≤ s.next) }
     {
-        let parts = self.parts.with(alloc, self.next, ids, entries, joins)?;
+        let parts = self.parts.with(alloc, self.next, ids, entries)?;
         shown(alloc, parts, self.next.saturating_add(1))
     }
 
@@ -133,12 +131,13 @@ impl Showing {
         Ok(Merging { parts })
     }
 
-    /// The numbers of parts that go well into one, where there are many.
+    /// The numbers of small parts that go well into one, where there are many.
     pub(crate) fn to_merge(&self, alloc: Global) -> Result<Option<Vec<u64>>, AllocError>
-        ensures none { IfOk result (λ o. o ≡ None → length self.now.published ≤ 8) }
-        ensures some { IfOk result (λ o. IfSome o (λ v. 8 < length self.now.published)) }
+        ensures none { IfOk result (λ o. o ≡ None → small_count self.now.published self.now.live ≤ 8) }
+        ensures some { IfOk result (λ o. IfSome o (λ v. 8 < small_count self.now.published self.now.live)) }
         ensures there { IfOk result (λ o. IfSome o (λ v. 2 ≤ length (numbered v.items self.now.published))) }
         ensures few { IfOk result (λ o. IfSome o (λ v. length v.items ≤ 10)) }
+        ensures fit { IfOk result (λ o. IfSome o (λ v. FitOneMerge (numbered v.items self.now.published) (live_of v.items self.now.published self.now.live))) }
     {
         let numbers = self.parts.to_merge(alloc)?;
         Ok(numbers)
@@ -195,7 +194,8 @@ impl Showing {
 
 /// What searches show through these parts.
 fn shown(alloc: Global, parts: PartList, next: u64) -> Result<Showing, AllocError>
-    requires { AreBelow next parts.published }
+    requires below { AreBelow next parts.published }
+    requires distinct { AreDistinct parts.published }
     ensures { IfOk result (λ s. s ≡ record { snapshot = shown_through parts; published = parts.published; live = parts.live; next = next }) }
 {
     let parts = Arc::new(alloc, parts)?;

@@ -15,8 +15,6 @@ use std::sync::Arc;
 pub enum SnapshotChange {
     /// Searches show all records. Each segment stays, unless more than operations came.
     Refresh,
-    /// Searches show all records, and small segments go into one as they become many.
-    JoinedRefresh,
     /// These are the records, and searches show them all.
     Reopen(Vec<Record>),
 }

@@ -2,7 +2,7 @@
 ghost use Rattle.std.specs.Prelude.{◌≡◌, ◌<◌, true, false, All, Contains, map, length, nat_lt, IfOk, IfSome};
 ghost use Rattle.std.specs.Arc.{arc_value};
 ghost use Rattle.engine.specs.Entry.{entry_view};
-ghost use Rattle.engine.specs.Parts.{all_published, documents_of_parts, merge_of, published_of, woven, AllInOrder, IsMade, IsSplit};
+ghost use Rattle.engine.specs.Parts.{all_published, documents_of_parts, merge_of, published_of, woven, AllInOrder, AreKnown, IsMade, IsSplit};
 ghost use Rattle.engine.specs.Published.{are_taken, greatest, AreAmong};
 ghost use Rattle.std.specs.List.{list_all};
 
@@ -116,6 +116,21 @@ fn is_among(all: &[Part], part: &Part) -> bool
     false
 }
 
+/// Whether one of all parts is one of those that were taken: its number says it, and no document needs to be compared.
+fn is_taken(_all: &[Part], taken: &[Part], part: &Part) -> bool
+    requires known { AreKnown (all_published _all.now) (all_published taken.now) }
+    requires there { Contains (all_published _all.now) (published_of part.now) }
+    ensures yes { result ≡ true → Contains (all_published taken.now) (published_of part.now) }
+    ensures no { result ≡ false → Contains (all_published taken.now) (published_of part.now) → ⊥ }
+{
+    for other in taken {
+        if other.number() == part.number() {
+            return true;
+        }
+    }
+    false
+}
+
 /// Parts in two halves.
 #[derive(Drop)]
 pub(crate) struct Halves {
@@ -125,13 +140,14 @@ pub(crate) struct Halves {
 
 /// Parts in two halves: those that were taken go, the others stay.
 pub(crate) fn split(alloc: Global, parts: &[Part], taken: &[Part]) -> Result<Halves, AllocError>
+    requires { AreKnown (all_published parts.now) (all_published taken.now) }
     ensures { IfOk result (λ h. IsSplit (all_published taken.now) parts.now h.stay.items h.go.items) }
 {
     let mut stay = Vec::new(alloc);
     let mut go = Vec::new(alloc);
     for part in parts {
         let copy = part.copy()?;
-        if is_among(taken, part) {
+        if is_taken(parts, taken, part) {
             go.push(copy)?;
         } else {
             stay.push(copy)?;
@@ -163,11 +179,14 @@ pub(crate) fn part_showing(
     Ok(part)
 }
 
-/// The part without the documents that aren't among the live ones, if it then has just these.
+/// The part without the documents that aren't among the live ones, if it then has just these. Mostly none died beside a merge.
 fn showing(alloc: Global, part: &Part, live: &[Entry<'_>]) -> Result<Option<Part>, AllocError>
     ensures { IfOk result (λ o. IfSome o (λ p. p ≡ record part.now { documents = map entry_view live.entry.now })) }
 {
     let all = part.entries(alloc)?;
+    if are_same(&all, live) {
+        return Ok(Some(part.copy()?));
+    }
     let dead = ids_beside(alloc, &all, live)?;
     let left = part.without(alloc, &dead)?;
     if shows(alloc, &left, live)? {

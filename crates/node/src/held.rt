@@ -19,9 +19,10 @@ use crate::standing::stands_at;
 use crate::syncing::synced;
 use crate::telling::{Inputs, Spot, tell};
 use doc::DocId;
+use engine::Merged;
 use journal::{Deed, Deeds, Journal, Opening};
 use replica::{Copy, CopyFault, Input};
-use std::alloc::Global;
+use std::alloc::{AllocError, Global};
 use std::marker::Model;
 use translog::LogDevice;
 
@@ -172,6 +173,13 @@ impl<D: LogDevice> Held<D> {
         ensures { D.in_memory ≡ true → result ≡ true }
     {
         self.copy.is_synced()
+    }
+
+    /// Puts a merged part in place of those that it is made of, as the copy does; it makes no entry.
+    pub fn swap_merged(&mut self, alloc: Global, merged: Merged) -> Result<bool, AllocError>
+        ensures { self.new ≡ self.old }
+    {
+        self.copy.swap_merged(alloc, merged)
     }
 
     /// The journal, for which the copy is given up.

@@ -7,7 +7,7 @@ use group::{Chair, Group};
 use shard::{Desk, SharedShard};
 use std::alloc::Global;
 use std::sync::Wait;
-use std::thread::Threads;
+use std::thread::{Threads, join};
 use std::time::Clock;
 use std::{io, thread};
 use translog::LogDevice;
@@ -23,8 +23,32 @@ pub(crate) struct OneCopy<'a, D: LogDevice> {
     pub(crate) shard: &'a SharedShard<D>,
 }
 
-/// Serves connections to an index of one copy until the last that is wanted has ended. A fault on one ends that connection alone.
+/// Serves connections to an index of one copy until the last that is wanted has ended. A fault on one ends that connection alone. Beside them a thread
+/// merges the segments of the index.
 pub(crate) fn serve_connections<R, D, W>(
+    rt: &R,
+    alloc: Global,
+    clients: &Clients<'_, W>,
+    index: &OneCopy<'_, D>,
+) -> io::Result<()>
+where
+    R: Threads + Wait + Clock + Sync,
+    D: LogDevice + Send,
+    W: Watcher,
+{
+    join(
+        rt,
+        || index.shard.merge_beside(rt),
+        || {
+            let served = serve_lanes(rt, alloc, clients, index);
+            index.shard.end_merges(rt);
+            served
+        },
+    )
+    .1
+}
+
+fn serve_lanes<R, D, W>(
     rt: &R,
     alloc: Global,
     clients: &Clients<'_, W>,

@@ -569,7 +569,7 @@ where
     let alloc = rt.alloc();
     let name = String::from_str(alloc, shard.index())?;
     let mapping = shard.mapping().copy(alloc)?;
-    let shared = SharedShard::new(alloc, shard);
+    let shared = SharedShard::new(alloc, shard)?;
     let listener = bound(rt, settings.port, output)?;
     let telling = Telling {
         rt,

@@ -9,8 +9,9 @@ ghost use Rattle.shard.specs.Seen.{IsReply, IsSeen};
 
 use crate::answering::{count_of, search_of};
 use crate::shard::Shard;
+use crossbeam_channel::{Receiver, Sender, unbounded};
 use doc::Mapping;
-use engine::Snapshot;
+use engine::{Merged, Merging, Snapshot};
 use front::Service;
 use front::command::Command;
 use front::reply::{Refusal, Reply};
@@ -71,6 +72,19 @@ fn is_search(command: &Command) -> bool {
     matches!(command, Command::Search(_) | Command::Count(_))
 }
 
+/// Whether a command has searches see what was written, by a segment more.
+fn is_refresh(command: &Command) -> bool {
+    match command {
+        Command::Refresh => true,
+        Command::Write(write) => write.refresh,
+        Command::Bulk(_)
+        | Command::Get(_)
+        | Command::Search(_)
+        | Command::Count(_)
+        | Command::Promote(_) => false,
+    }
+}
+
 /// The reply, or the refusal where memory was wanting for it.
 fn or_refused(reply: Result<Reply, AllocError>) -> Reply
     ensures ok { IfOk reply (λ r. result ≡ r) }
@@ -82,23 +96,39 @@ fn or_refused(reply: Result<Reply, AllocError>) -> Reply
     }
 }
 
+/// What the thread that builds merges is sent.
+#[derive(Drop)]
+enum Order {
+    Build(Merging),
+    End,
+}
+
 /// An index of one copy behind a lock, which a write holds until the device has synced it. What searches see stands behind a lock of its own, which
-/// is held no longer than it takes to look there, so no search waits for a write.
+/// is held no longer than it takes to look there, so no search waits for a write. Segments are merged by a thread of its own (`merge_beside`), which
+/// holds the lock only while it puts a merge in place.
 #[derive(Drop)]
 pub struct SharedShard<D: LogDevice> {
     alloc: Global,
     shard: Mutex<Shard<D>>,
     seen: Mutex<Option<Seen>>,
+    /// Whether a merge is being built.
+    is_merging: Mutex<bool>,
+    to_merger: Sender<Order, Global>,
+    orders: Receiver<Order, Global>,
 }
 
 impl<D: LogDevice> SharedShard<D> {
-    pub fn new(alloc: Global, shard: Shard<D>) -> SharedShard<D> {
+    pub fn new(alloc: Global, shard: Shard<D>) -> Result<SharedShard<D>, AllocError> {
         let seen = Seen::of(&shard);
-        SharedShard {
+        let (to_merger, orders) = unbounded(alloc)?;
+        Ok(SharedShard {
             alloc,
             shard: Mutex::new(shard),
             seen: Mutex::new(seen),
-        }
+            is_merging: Mutex::new(false),
+            to_merger,
+            orders,
+        })
     }
 
     /// What searches see.
@@ -128,11 +158,20 @@ impl<D: LogDevice> SharedShard<D> {
     fn call<R: Wait>(&self, rt: &R, command: Command) -> Reply
         ensures { ∥ IsReply (command_view command) (reply_view result) ∥₁ }
     {
+        let refreshes = is_refresh(&command);
         let mut held = self.shard.lock(rt);
         let reply = held.call(command);
-        let next = Seen::of(&*held);
-        drop(self.replace(rt, next));
+        self.show(rt, &*held);
+        if refreshes {
+            self.begin_merge(rt, &*held);
+        }
         reply
+    }
+
+    /// Has searches see what the index shows now.
+    fn show<R: Wait>(&self, rt: &R, shard: &Shard<D>) {
+        let next = Seen::of(shard);
+        drop(self.replace(rt, next));
     }
 
     /// Has searches see this, and gives back what they saw.
@@ -141,6 +180,53 @@ impl<D: LogDevice> SharedShard<D> {
         let before = held.take();
         *held = next;
         before
+    }
+
+    /// Has a merge built where searches look through many segments and none is being built. Without memory for that the next refresh tries again.
+    fn begin_merge<R: Wait>(&self, rt: &R, shard: &Shard<D>) {
+        let mut is_merging = self.is_merging.lock(rt);
+        if *is_merging {
+            return;
+        }
+        if let Ok(Some(merging)) = shard.begin_next_merge() {
+            *is_merging = self.to_merger.send(rt, Order::Build(merging)).is_ok();
+        }
+    }
+
+    /// Builds merges beside the commands, and puts them in place, until it is ended.
+    pub fn merge_beside<R: Wait>(&self, rt: &R) {
+        for _ in rt.forever() {
+            let Ok(Order::Build(merging)) = self.orders.recv(rt) else {
+                break;
+            };
+            let merged = merging.build(self.alloc).ok();
+            drop(merging);
+            self.put_merged(rt, merged);
+        }
+    }
+
+    /// Ends `merge_beside`, once it has built what it builds.
+    pub fn end_merges<R: Wait>(&self, rt: &R) {
+        let _ = self.to_merger.send(rt, Order::End);
+    }
+
+    /// Puts a merge in place that was built, and begins the next one. One whose segments are gone is let go.
+    fn put_merged<R: Wait>(&self, rt: &R, merged: Option<Merged>) {
+        let mut held = self.shard.lock(rt);
+        self.note_built(rt);
+        let Some(merged) = merged else {
+            return;
+        };
+        if held.swap_merged(merged).is_ok() {
+            self.show(rt, &*held);
+            self.begin_merge(rt, &*held);
+        }
+    }
+
+    /// No merge is being built any more.
+    fn note_built<R: Wait>(&self, rt: &R) {
+        let mut is_merging = self.is_merging.lock(rt);
+        *is_merging = false;
     }
 }
 

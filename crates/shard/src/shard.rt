@@ -12,7 +12,7 @@ ghost use Rattle.shard.specs.Seen.{IsSeen};
 use crate::answering::reply_to;
 use crate::ready::{is_primary, is_write, make_ready};
 use doc::{DocFault, Mapping};
-use engine::Snapshot;
+use engine::{Merged, Merging, Snapshot};
 use front::reply::Refusal;
 use front::{Command, Reply, Service};
 use master::Master;
@@ -86,6 +86,19 @@ impl<D: LogDevice> Shard<D> {
     {
         make_ready(self.alloc, &mut self.copy, &mut self.master, true)?;
         Ok(self.copy.snapshot().is_some() && is_primary(self.copy.role()))
+    }
+
+    /// Begins a merge of segments that go well into one, where searches look through many. The index stays as it is.
+    pub(crate) fn begin_next_merge(&self) -> Result<Option<Merging>, AllocError> {
+        self.copy.begin_next_merge(self.alloc)
+    }
+
+    /// Puts a merged segment in place of those that it is made of, and tells whether these are there. What the index has and shows stays.
+    pub(crate) fn swap_merged(&mut self, merged: Merged) -> Result<bool, AllocError>
+        ensures copy { self.new.copy ≡ self.old.copy }
+        ensures master { self.new.master ≡ self.old.master }
+    {
+        self.copy.swap_merged(self.alloc, merged)
     }
 
     /// What searches see; nothing while the copy is closed.

@@ -2,7 +2,7 @@
 
 use crate::records::{delete_of, index};
 use doc::Mapping;
-use engine::{Engine, Merged, SnapshotChange};
+use engine::{Engine, Merged};
 use query::SearchBody;
 use serde_json::Value;
 use std::alloc::{AllocError, Global};
@@ -92,10 +92,13 @@ fn is_merged_twice(alloc: Global, engine: &mut Engine) -> Result<bool, Fail> {
     swap(alloc, engine, late, first)
 }
 
-/// Has searches show what was written, with small segments in one.
-fn show_joined(alloc: Global, engine: &mut Engine) -> Result<(), Fail> {
-    let staged = engine.stage(alloc, SnapshotChange::JoinedRefresh)?;
-    engine.put(staged);
+/// Has searches show what was written, and merges segments where there are many.
+fn show_merged(alloc: Global, engine: &mut Engine) -> Result<(), Fail> {
+    let _point = engine.refresh(alloc)?;
+    if let Some(numbers) = engine.to_merge(alloc)? {
+        let merged = engine.begin_merge_of(alloc, &numbers)?.build(alloc)?;
+        let _is_there = engine.swap_merged(alloc, merged)?;
+    }
     Ok(())
 }
 
@@ -144,24 +147,23 @@ fn a_merge_of_what_a_restart_left_is_refused(rt: HostRuntime) -> Result<(), Fail
     Ok(())
 }
 
-/// Whether searches find each of 30 documents that were shown one by one, each with small segments in one, and one more write beside a delete.
-fn are_joined(alloc: Global, engine: &mut Engine) -> Result<bool, Fail> {
+/// Whether searches find each of 30 documents that were shown one by one, with merges between, and one more write beside a delete; and segments stay few.
+fn are_merged(alloc: Global, engine: &mut Engine) -> Result<bool, Fail> {
     for seq in 10..40 {
         write(alloc, engine, seq)?;
-        show_joined(alloc, engine)?;
+        show_merged(alloc, engine)?;
     }
-    let number = engine.next_number();
     let record = delete_of(alloc, 40, "d11")?;
     let _taken = engine.apply(alloc, &record)?;
-    show_joined(alloc, engine)?;
-    Ok(number == 31 && finds(alloc, engine, 29, 1, "d12")?)
+    show_merged(alloc, engine)?;
+    Ok(engine.segments() <= 8 && finds(alloc, engine, 29, 1, "d12")?)
 }
 
 #[test]
 fn small_segments_go_into_one(rt: HostRuntime) -> Result<(), Fail> {
     let alloc = rt.alloc();
     let mut engine = empty(alloc)?;
-    let is_so = are_joined(alloc, &mut engine);
+    let is_so = are_merged(alloc, &mut engine);
     drop(engine);
     assert!(rt; is_so?);
     Ok(())

@@ -11,7 +11,9 @@ ghost use Rattle.world.specs.World.{answering, at_copy, at_master, copy_in, deci
 mod copies;
 
 use crate::event::{Event, EventAnswer};
-use crate::nodes::copies::{add_one, added, begun, place_of, step_copy, swap_at, tear_copy};
+use crate::nodes::copies::{
+    add_one, added, begun, merge_at, place_of, step_copy, swap_at, tear_copy,
+};
 use doc::Mapping;
 use engine::Merging;
 use master::{Decision, Master, MasterFault, Request, State};
@@ -194,6 +196,16 @@ impl Nodes {
             swapped?;
         }
         Ok(true)
+    }
+
+    /// Merges at once what goes well into one, at a copy whose searches look through many parts. Nothing where the copy isn't there.
+    pub(crate) fn merge_next(&mut self, alloc: Global, id: u32) -> Result<(), AllocError>
+        ensures { self.new ≡ self.old }
+    {
+        match place_of(&self.copies, id) {
+            Some(place) => merge_at(alloc, &mut self.copies, place),
+            None => Ok(()),
+        }
     }
 
     /// A step of a copy.

@@ -76,6 +76,13 @@ impl World {
         self.nodes.swap_merged(alloc, copy)
     }
 
+    /// Merges at once what goes well into one, at a copy whose searches look through many parts. Nothing where the copy isn't there.
+    pub fn merge_next(&mut self, alloc: Global, copy: u32) -> Result<(), AllocError>
+        ensures { self.new ≡ self.old }
+    {
+        self.nodes.merge_next(alloc, copy)
+    }
+
     /// The mapping that documents are read under.
     pub fn mapping(&self) -> &Mapping
         ensures { result.now ≡ self.now.mapping }

@@ -47,6 +47,20 @@ pub(crate) fn swap_at(
     Ok(())
 }
 
+/// Merges at once what goes well into one at the copy that stands at this place, where one stands there.
+pub(crate) fn merge_at(
+    alloc: Global,
+    copies: &mut Vec<OneCopy>,
+    place: usize,
+) -> Result<(), AllocError>
+    ensures { copies.new.items ≡ copies.old.items }
+{
+    if place < copies.len() {
+        let _is_merged = copies[place].merge_next(alloc)?;
+    }
+    Ok(())
+}
+
 /// A step of a copy, with the messages and the acknowledged operations that it adds. Room for these is made before the step is done.
 pub(crate) fn step_copy(
     alloc: Global,

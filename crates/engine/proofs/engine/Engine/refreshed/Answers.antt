@@ -40,7 +40,7 @@ pub returns-then-len-self-clause-kept : goal.returns-then-len-self-clause-kept
 returns-then-len-self-clause-kept c =
     let e = c.args.self.now in
     let same : c.in_ok-showing.showing.published ≡ e.published = ap (λ (s : ShowingData). s.published) c.in_ok-showing.ensures ∙ ap (λ (e : EngineData). e.published) c.self.view_is in
-    λ none ops. subst (λ (ss : List Published). AreAmong ss e.published) (sym same) (old-among e.published)
+    λ ops. subst (λ (ss : List Published). AreAmong ss e.published) (sym same) (old-among e.published)
 
 -- a segment that comes bears the next number
 pub returns-clause-numbers : goal.returns-clause-numbers
@@ -52,7 +52,7 @@ returns-clause-rises c = subst (λ (e : EngineData). e.next ≤ c.in_ok-showing-
 
 pub returns-clause-kept : goal.returns-clause-kept
 returns-clause-kept c =
-    λ none ops. subst (λ (e : EngineData). AreAmong c.in_ok-showing-3.showing.published e.published) c.self.view_is (c.in_ok-showing-3.ensures.kept none)
+    λ ops. subst (λ (e : EngineData). AreAmong c.in_ok-showing-3.showing.published e.published) c.self.view_is c.in_ok-showing-3.ensures.kept
 
 -- where more than ids changed one comes, and all others go
 pub returns-in_default-clause-numbers : goal.returns-in_default-clause-numbers

@@ -1,9 +1,19 @@
 use Rattle.std.proofs.Common.{◌<◌, ◌∙◌, ◌++◌, ◌∷◌, [], refl, ap, sym, subst, arith, length, List}
 use Rattle.std.specs.Arc.{arc_value}
 use Rattle.engine.specs.Parts.{PartData, PartListData, all_published}
-use Rattle.engine.specs.Published.{AreAmong, IsReplaced}
+use Rattle.engine.specs.Published.{AreAmong, AreDistinct, IsReplaced}
 use Rattle.engine.proofs.SwapLaws.{split-order, replaced-parts, replaced-woven, replaced}
 use Rattle.engine.proofs.part_list.PartList.swapped.Goals as goal
+
+-- all that were taken are there
+pub split-requires : goal.split-requires
+split-requires c =
+    let taken = all_published c.args.taken.now in
+    rw c.deref-2.ensures.value (record {
+      among = rw c.deref.ensures.value at (c.if-not-are_among.ensures.yes refl);
+      distinct = subst (λ (l : PartListData). AreDistinct l.published) (sym c.self.view_is) c.requires.distinct;
+      are = c.requires.taken;
+    })
 
 -- the parts that go into the merged one are in order
 pub part_showing-requires : goal.part_showing-requires

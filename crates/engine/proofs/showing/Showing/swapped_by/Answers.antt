@@ -4,16 +4,28 @@ use Rattle.doc.specs.Mapping.{MappingData}
 use Rattle.engine.specs.Answer.{SnapshotData}
 use Rattle.engine.specs.Contents.{ShowingData, segments_shown}
 use Rattle.engine.specs.Published.{Segments, AreAmong, AreBelow, IsSwapped}
-use Rattle.engine.proofs.PublishedLaws.{below-numbered, replaced-numbered, swapped}
+use Rattle.engine.proofs.PublishedLaws.{below-numbered, replaced-distinct, replaced-numbered, swapped}
 use Rattle.engine.proofs.showing.Showing.swapped_by.Goals as goal
 
+pub swapped-requires-clause-distinct : goal.swapped-requires-clause-distinct
+swapped-requires-clause-distinct c = rw c.deref.ensures c.self.invariant.distinct
+
+pub swapped-requires-clause-taken : goal.swapped-requires-clause-taken
+swapped-requires-clause-taken c = rw c.parts.ensures c.requires
+
 -- the number of the merged segment isn't given again
-pub shown-requires : goal.shown-requires
-shown-requires c =
+pub shown-requires-clause-below : goal.shown-requires-clause-below
+shown-requires-clause-below c =
     let before = arc_value c.self.inside.parts in
     let replaced = rw (c.in-Some.is, c.deref.ensures, c.parts.ensures) at c.in_ok-parts.ensures.swapped in
     subst (λ n. AreBelow n c.in-Some.parts.published) (sym c.saturating_add.ensures)
     (below-numbered before.published c.in-Some.parts.published c.self.inside.next c.self.invariant.below (replaced-numbered c.args.taken.now.published c.self.inside.next before.mapping before.published c.in-Some.parts.published replaced))
+
+pub shown-requires-clause-distinct : goal.shown-requires-clause-distinct
+shown-requires-clause-distinct c =
+    let before = arc_value c.self.inside.parts in
+    let replaced = rw (c.in-Some.is, c.deref.ensures, c.parts.ensures) at c.in_ok-parts.ensures.swapped in
+    replaced-distinct before.published c.self.inside.next c.self.invariant.below c.self.invariant.distinct c.args.taken.now.published c.in-Some.parts.published before.mapping replaced
 
 pub returns-in_ok-showing-in-Some-clause-there : goal.returns-in_ok-showing-in-Some-clause-there
 returns-in_ok-showing-in-Some-clause-there c =

@@ -1,0 +1,96 @@
+//! Merges of a copy's segments: they are built on a thread of its own, and put in place between two posts.
+
+use crate::channels::sent;
+use crate::gate::Gate;
+use crate::post::Post;
+use crate::worker::Worker;
+use crossbeam_channel::{Receiver, Sender};
+use engine::{Merged, Merging};
+use replica::Input;
+use std::alloc::Global;
+use std::sync::Wait;
+use translog::LogDevice;
+
+/// What builds the merges of a copy, until its worker has ended.
+#[derive(Drop)]
+pub(crate) struct Merger<R: Wait + Drop> {
+    pub(crate) rt: R,
+    pub(crate) alloc: Global,
+    pub(crate) merges: Receiver<Merging, Global>,
+    pub(crate) worker: Sender<Post, Global>,
+}
+
+impl<R: Wait + Drop> Merger<R> {
+    /// Builds one merge after another, and hands each to the worker.
+    pub(crate) fn run(self) {
+        for _ in self.rt.forever() {
+            let Ok(merging) = self.merges.recv(&self.rt) else {
+                break;
+            };
+            if !self.build(merging) {
+                break;
+            }
+        }
+    }
+
+    /// Builds a merge, and tells whether the worker takes it. Without memory for it the worker is told so.
+    fn build(&self, merging: Merging) -> bool {
+        let merged = merging.build(self.alloc).ok();
+        drop(merging);
+        sent(&self.rt, &self.worker, Post::Merged(merged))
+    }
+}
+
+/// A worker's way to what builds its merges.
+#[derive(Drop)]
+pub(crate) struct Merges {
+    to: Sender<Merging, Global>,
+    /// Whether one is being built.
+    is_under_way: bool,
+}
+
+impl Merges {
+    pub(crate) fn new(to: Sender<Merging, Global>) -> Merges {
+        Merges {
+            to,
+            is_under_way: false,
+        }
+    }
+
+    /// Has a merge built.
+    fn begin<R: Wait>(&mut self, rt: &R, merging: Merging) {
+        self.is_under_way = sent(rt, &self.to, merging);
+    }
+}
+
+impl<D: LogDevice, G: Gate> Worker<D, G> {
+    /// Has a merge built where searches look through many segments and none is being built. Without memory for that the next refresh tries again.
+    pub(crate) fn begin_merge<R: Wait>(&mut self, rt: &R) {
+        if self.merges.is_under_way || !self.is_open() {
+            return;
+        }
+        if let Ok(Some(merging)) = self.copy().begin_next_merge(self.alloc) {
+            self.merges.begin(rt, merging);
+        }
+    }
+
+    /// Puts a merge in place that was built. One whose segments are gone by then is let go, and the next one is begun; without memory for one the next
+    /// refresh begins it.
+    pub(crate) fn put_merged<R: Wait>(&mut self, rt: &R, merged: Option<Merged>) {
+        self.merges.is_under_way = false;
+        let Some(merged) = merged else {
+            return;
+        };
+        if let Ok(true) = self.cell.swap_merged(self.alloc, merged) {
+            self.show_merged(rt);
+        }
+        self.begin_merge(rt);
+    }
+
+    /// Has searches look through the merged segment, by a refresh, where that shows them nothing else; where it would, they do from the next one on.
+    fn show_merged<R: Wait>(&mut self, rt: &R) {
+        if self.is_open() && self.copy().is_all_shown() {
+            self.call(rt, Input::Refresh);
+        }
+    }
+}
