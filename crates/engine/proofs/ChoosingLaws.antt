@@ -4,18 +4,17 @@ use Rattle.std.specs.Prelude.{min, nat_le, nat_lt, sum_by, ◌==◌, ◌&&◌, �
 use Rattle.std.specs.List.{list_any, AllByRecursion, AllZip}
 use Rattle.std.proofs.lemmas.List.Folds.{list_any-append}
 use Rattle.std.proofs.lemmas.Bool.Decides.{nat_tests}
-use Rattle.std.proofs.lemmas.List.Elements.{filter-append, filter_more}
+use Rattle.std.proofs.lemmas.List.Elements.{filter-append}
 use Rattle.std.proofs.lemmas.List.Sums.{sum_by-cons, sum_by_push}
 use Rattle.std.proofs.lemmas.List.{append-nil, length-map, length_push, map-append, take-append-drop}
-use Rattle.doc.specs.Id.{Id}
 use Rattle.doc.specs.Mapping.{MappingData}
 use Rattle.op.specs.Documents.{Documents}
 use Rattle.engine.specs.Choosing.{ChoiceData, chosen_with, goes}
 use Rattle.engine.specs.Live.{counted, is_small, live_of, small_count, FitOneMerge}
-use Rattle.engine.specs.Parts.{PartData, all_published, documents_of_parts, published_of, woven, has_id, times, AreParts, AllInOrder}
+use Rattle.engine.specs.Parts.{PartData, all_published, documents_of_parts, published_of, woven, AreParts}
 use Rattle.engine.specs.Published.{Published, greatest, is_numbered, numbered, AreDistinct}
-use Rattle.engine.proofs.PartLaws.{head_is, tail_is}
-use Rattle.engine.proofs.SwapLaws.{HaveMapping, taken-push}
+use Rattle.engine.proofs.LivingLaws.{filter-parts}
+use Rattle.engine.proofs.SwapLaws.{taken-push}
 
 -- parts that bear one of some numbers
 module _ (ns : List ℕ) where
@@ -39,63 +38,11 @@ module _ (ns : List ℕ) where
     | false ↦ chosen-live ps
   ]
 
-  chosen-order : (ps : List PartData) → AllInOrder (documents_of_parts ps) → AllInOrder (documents_of_parts (chosen_of ps))
-  chosen-order [] all = tt
-  chosen-order (p ∷ ps) all = elim (is_chosen p) as (λ b. AllInOrder (documents_of_parts (cond b (p ∷ chosen_of ps) (chosen_of ps)))) [
-    | true ↦ (all.0, chosen-order ps all.1)
-    | false ↦ chosen-order ps all.1
-  ]
-
-  chosen-times : (q : Id) (ps : List PartData) → times q (documents_of_parts (chosen_of ps)) ≤ times q (documents_of_parts ps)
-  chosen-times q [] = omega arith
-  chosen-times q (p ∷ ps) =
-      let rest = chosen-times q ps in
-      elim (is_chosen p) as (λ b. times q (documents_of_parts (cond b (p ∷ chosen_of ps) (chosen_of ps))) ≤ cond (has_id q p.documents) 1 0 + times q (documents_of_parts ps)) [
-        | true ↦ omega (arith, rest)
-        | false ↦ omega (arith, rest)
-      ]
-
-  chosen-mappings : (m : MappingData) (ps : List PartData) → HaveMapping m ps → HaveMapping m (chosen_of ps)
-  chosen-mappings m [] same = refl
-  chosen-mappings m (p ∷ ps) same =
-      let rest = chosen-mappings m ps (tail_is _ _ _ _ same) in
-      elim (is_chosen p) as (λ b. HaveMapping m (cond b (p ∷ chosen_of ps) (chosen_of ps))) [
-        | true ↦ ap (λ x. x ∷ map (λ (p : PartData). p.mapping) (chosen_of ps)) (head_is _ _ _ _ same) ∙ ap (λ xs. m ∷ xs) rest
-        | false ↦ rest
-      ]
-
-  chosen-few : (ps : List PartData) → length (chosen_of ps) ≤ length ps
-  chosen-few [] = omega arith
-  chosen-few (p ∷ ps) =
-      let rest = chosen-few ps in
-      elim (is_chosen p) as (λ b. length (cond b (p ∷ chosen_of ps) (chosen_of ps)) ≤ suc (length ps)) [
-        | true ↦ omega (arith, rest)
-        | false ↦ omega (arith, rest)
-      ]
-
   pub chosen-parts : (m : MappingData) (ps : List PartData) → AreParts m ps → AreParts m (chosen_of ps)
-  chosen-parts m ps are = record {
-    mappings = chosen-mappings m ps are.mappings;
-    apart = record {
-      sorted = chosen-order ps are.apart.sorted;
-      once = λ q. omega (arith, chosen-times q ps, are.apart.once q);
-    };
-    few = omega (arith, chosen-few ps, are.few);
-  }
+  chosen-parts m ps are = filter-parts is_chosen m ps are
 
   pub chosen-woven : (ps : List PartData) → woven (documents_of_parts (chosen_of ps)) ≡ woven (live_of ns (all_published ps) (documents_of_parts ps))
   chosen-woven ps = ap woven (chosen-live ps)
-
-  -- one part more
-  pub chosen-more : (ps : List PartData) (i : ℕ) (x : PartData) (b : Bool) (so_far now : List PartData) → i < length ps → x ≡ get_or ps i x → b ≡ is_chosen x
-      → now ≡ (if b then so_far ++ x ∷ [] else so_far) → so_far ≡ chosen_of (take i ps) → now ≡ chosen_of (take (i + 1) ps)
-  chosen-more ps i x b so_far now lt is same new old =
-      new ∙ pushed b so_far ∙ ap (λ (qs : List PartData). qs ++ cond b (x ∷ []) []) old ∙ ap (λ b. chosen_of (take i ps) ++ cond b (x ∷ []) []) same
-      ∙ ap (λ (y : PartData). chosen_of (take i ps) ++ cond (is_chosen y) (y ∷ []) []) is ∙ sym (filter_more is_chosen ps i x lt)
-    where
-      pushed : (b : Bool) (qs : List PartData) → (if b then qs ++ x ∷ [] else qs) ≡ qs ++ cond b (x ∷ []) []
-      pushed true qs = refl
-      pushed false qs = sym (append-nil qs)
 
 -- without parts there are no documents
 pub none-woven : (ps : List PartData) → length ps ≡ 0 → woven (documents_of_parts ps) ≡ []

@@ -15,4 +15,5 @@ pub mod PageLaws
 pub mod SwapLaws
 pub mod PublishedLaws
 pub mod AheadLaws
+pub mod LivingLaws
 pub mod ChoosingLaws

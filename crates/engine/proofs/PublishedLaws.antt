@@ -1,12 +1,13 @@
 -- The numbers of segments, and which of them stay.
-use Rattle.std.proofs.Common.{◌≡◌, ◌<◌, ◌≤◌, ℕ, ◌+◌, zero, suc, Bool, true, false, List, [], ◌∷◌, ◌++◌, cond, drop, length, length-append, refl, sym, ap, ◌∙◌, subst, arith, inl, inr}
+use Rattle.std.proofs.Common.{◌≡◌, ◌<◌, ◌≤◌, ℕ, ◌+◌, Bool, true, false, List, [], ◌∷◌, ◌++◌, cond, length, length-append, refl, sym, ap, ◌∙◌, subst, arith, inl, inr}
 use Rattle.std.specs.Prelude.{◌⊎◌, ◌&&◌, if◌then◌else◌, All, Contains, nat_lt, nat_le, ◌==◌, ◌||◌, slice_index_or}
 use Rattle.std.specs.List.{list_all, AllByRecursion}
-use Rattle.std.proofs.lemmas.List.Elements.{All-nil, All-cons, All-append, All-drop, All-contains, All-contains_itself, Contains-append_cases, Contains-append_left, Contains-append_right, Contains-push, Contains-push_cases, filter-append, recursion_from_All}
+use Rattle.std.proofs.lemmas.List.Elements.{All-nil, All-cons, All-append, All-contains, All-contains_itself, Contains-append_left, Contains-append_right, Contains-push, Contains-push_cases, filter-append, recursion_from_All}
 use Rattle.std.proofs.lemmas.Bool.Decides.{nat_tests}
 use Rattle.doc.specs.Mapping.{MappingData}
-use Rattle.engine.specs.Parts.{AreKnown}
-use Rattle.engine.specs.Published.{Published, Segments, greatest, is_numbered, next_after, numbered, are_taken, taken_of, AreAmong, AreBelow, AreDistinct, IsFronted, IsLeft, IsReplaced, IsSwapped, nothing, remains, was_taken}
+use Rattle.op.specs.Documents.{Documents}
+use Rattle.engine.specs.Live.{is_live, living}
+use Rattle.engine.specs.Published.{Published, Segments, greatest, is_numbered, next_after, numbered, are_taken, taken_of, AreBelow, AreDistinct, AreSome, IsFronted, IsLeft, IsReplaced, IsSwapped, nothing, remains, was_taken, no_more, stays, goes}
 
 -- all are new or were there before
 abbrev pub AreNumbered : List Published → ℕ → List Published → Type 0
@@ -15,40 +16,49 @@ AreNumbered old number ss = All (λ s. Contains old s ⊎ (s.number ≡ number))
 pub all-one : (P : Published → Type 0) (s : Published) → P s → All P (s ∷ [])
 all-one P s is = All-cons P s [] is (All-nil P)
 
-pub old-numbered : (old : List Published) (number : ℕ) → AreNumbered old number old
-old-numbered old number = λ k d lt. inl (All-contains_itself old k d lt)
+none-left : (old : List Published) → AreSome old []
+none-left [] = no_more
+none-left (s ∷ old) = goes s old [] (none-left old)
 
-pub old-among : (old : List Published) → AreAmong old old
-old-among old = All-contains_itself old
+-- those in which a document is live are some of all
+living-some : (old : List Published) (ls : List Documents) → AreSome old (living old ls)
+living-some [] ls = no_more
+living-some (s ∷ old) [] = none-left (s ∷ old)
+living-some (s ∷ old) (l ∷ ls) = elim (is_live l) as (λ b. AreSome (s ∷ old) (cond b (s ∷ living old ls) (living old ls))) [
+  | true ↦ stays s old (living old ls) (living-some old ls)
+  | false ↦ goes s old (living old ls) (living-some old ls)
+]
 
--- none comes
-pub fronted-none : (number : ℕ) (old new : List Published) → new ≡ old → IsFronted number old new
-fronted-none number old new same = record { front = []; joined = 0; is = same; one = omega arith; numbers = All-nil (λ (s : Published). s.number ≡ number) }
+-- one comes, unless no document is live in it, and some of the others stay
+pub fronted-living : (number : ℕ) (old new : List Published) (s : Published) (l : Documents) (ls : List Documents) → s.number ≡ number → new ≡ living (s ∷ old) (l ∷ ls) → IsFronted number old new
+fronted-living number old new s l ls bears is = subst (IsFronted number old) (sym is) (either (is_live l))
+  where
+    either : (b : Bool) → IsFronted number old (cond b (s ∷ living old ls) (living old ls))
+    either true = record { front = s ∷ []; left = living old ls; some = living-some old ls; is = refl; one = omega arith; numbers = all-one (λ (t : Published). t.number ≡ number) s bears }
+    either false = record { front = []; left = living old ls; some = living-some old ls; is = refl; one = omega arith; numbers = All-nil (λ (t : Published). t.number ≡ number) }
 
 -- one comes, and all others go
 pub fronted-alone : (number : ℕ) (old new : List Published) (s : Published) → new ≡ s ∷ [] → s.number ≡ number → IsFronted number old new
 fronted-alone number old new s same is = record {
   front = s ∷ [];
-  joined = length old;
-  is = same ∙ ap (λ ss. s ∷ ss) (sym (drop-length old));
+  left = [];
+  some = none-left old;
+  is = same;
   one = omega arith;
   numbers = all-one (λ (t : Published). t.number ≡ number) s is;
 }
-  where
-    drop-length : (ss : List Published) → drop (length ss) ss ≡ []
-    drop-length [] = refl
-    drop-length (t ∷ ts) = drop-length ts
+
+some-old : (old left : List Published) → AreSome old left → All (λ s. Contains old s) left
+some-old _ _ no_more = All-nil (λ s. Contains [] s)
+some-old _ _ (stays s old left rest) =
+    All-cons (λ t. Contains (s ∷ old) t) s left (Contains-append_left (s ∷ []) old s (Contains-push [] s))
+    (λ k d lt. Contains-append_right (s ∷ []) old (slice_index_or left k d) (some-old old left rest k d lt))
+some-old _ _ (goes s old left rest) = λ k d lt. Contains-append_right (s ∷ []) old (slice_index_or left k d) (some-old old left rest k d lt)
 
 pub fronted-numbered : (number : ℕ) (old new : List Published) → IsFronted number old new → AreNumbered old number new
 fronted-numbered number old new is =
     subst (AreNumbered old number) (sym is.is)
-    (All-append (λ s. Contains old s ⊎ (s.number ≡ number)) is.front (drop is.joined old) (λ k d lt. inr (is.numbers k d lt)) (All-drop (λ s. Contains old s ⊎ (s.number ≡ number)) is.joined old (old-numbered old number)))
-
--- where none is joined each is there still
-pub fronted-among : (front old new : List Published) (n : ℕ) → new ≡ front ++ drop n old → n ≡ 0 → AreAmong new old
-fronted-among front old new n is none =
-    subst (λ ss. All (λ s. Contains ss s) old) (sym (is ∙ ap (λ n. front ++ drop n old) none))
-    (λ k d lt. Contains-append_right front old (slice_index_or old k d) (All-contains_itself old k d lt))
+    (All-append (λ s. Contains old s ⊎ (s.number ≡ number)) is.front is.left (λ k d lt. inr (is.numbers k d lt)) (λ k d lt. inl (some-old old is.left is.some k d lt)))
 
 pub rises : (n : ℕ) → n < 18446744073709551616 → n ≤ next_after n
 rises n fits = grind (arith, nat_tests)
@@ -88,7 +98,7 @@ left-old taken _ _ (was_taken s old left there rest) = older taken old left s (l
 replaced-cases : (taken : List Published) (number : ℕ) (m : MappingData) (old new : List Published) (s : Published) → IsReplaced taken number m old new → Contains new s → IsOld taken old s ⊎ (s.number ≡ number)
 replaced-cases taken number m old new s is there =
     elim (Contains-push_cases is.left is.merged s (subst (λ (ss : List Published). Contains ss s) is.is there)) [
-      | inl stays ↦ inl (All-contains (IsOld taken old) is.left s (left-old taken old is.left is.others) stays)
+      | inl kept ↦ inl (All-contains (IsOld taken old) is.left s (left-old taken old is.left is.others) kept)
       | inr same ↦ inr (ap (λ (t : Published). t.number) (sym same) ∙ is.numbered)
     ]
 
@@ -112,11 +122,11 @@ second_of true b is = is
 second_of false b is = cc
 
 -- those that were taken are there no more: they were in use, and don't bear the greatest number
-pub swapped : (taken : List Published) (old new : Segments) → are_taken taken ≡ true → AreBelow old.next old.published → AreAmong old.published taken → IsReplaced taken old.next old.mapping old.published new.published
+pub swapped : (taken : List Published) (old new : Segments) → are_taken taken ≡ true → AreBelow old.next old.published → IsReplaced taken old.next old.mapping old.published new.published
     → new.next ≡ next_after old.next → IsSwapped taken old new
-swapped taken old new are below among is next = record {
+swapped taken old new are below is next = record {
   replaced = is;
-  gone = λ k d lt. not_there (slice_index_or taken k d) (All-contains_itself taken k d lt) (among k d lt) (small k d lt);
+  gone = λ k d lt there. not_there (slice_index_or taken k d) (All-contains_itself taken k d lt) there (small k d lt);
   next = next;
   below = subst (λ n. AreBelow n new.published) (sym next) (below-numbered old.published new.published old.next below (replaced-numbered taken old.next old.mapping old.published new.published is));
 }
@@ -165,10 +175,10 @@ one_at_most false = omega arith
 borne-append : (n : ℕ) (ss ts : List Published) → borne n (ss ++ ts) ≡ borne n ss + borne n ts
 borne-append n ss ts = ap length (filter-append (is_numbered (n ∷ [])) ss ts) ∙ length-append (numbered (n ∷ []) ss) (numbered (n ∷ []) ts)
 
-borne-drop : (n k : ℕ) (ss : List Published) → borne n (drop k ss) ≤ borne n ss
-borne-drop n zero ss = omega arith
-borne-drop n (suc k) [] = omega arith
-borne-drop n (suc k) (s ∷ ss) = omega (arith, borne-drop n k ss, one_borne n s ss)
+borne-some : (n : ℕ) (old left : List Published) → AreSome old left → borne n left ≤ borne n old
+borne-some n _ _ no_more = omega arith
+borne-some n _ _ (stays s old left rest) = omega (arith, borne-some n old left rest, one_borne n s old, one_borne n s left)
+borne-some n _ _ (goes s old left rest) = omega (arith, borne-some n old left rest, one_borne n s old)
 
 borne-left : (n : ℕ) (taken old left : List Published) → IsLeft taken old left → borne n left ≤ borne n old
 borne-left n taken _ _ nothing = omega arith
@@ -207,7 +217,7 @@ module _ (old : List Published) (next : ℕ) (below : AreBelow next old) (distin
 
   pub fronted-distinct : (new : List Published) → IsFronted next old new → AreDistinct new
   fronted-distinct new is n lt =
-      omega (arith, joined-distinct (drop is.joined old) is.front (λ n. borne-drop n is.joined old) is.one is.numbers n lt, ap (borne n) is.is, borne-append n is.front (drop is.joined old))
+      omega (arith, joined-distinct is.left is.front (λ n. borne-some n old is.left is.some) is.one is.numbers n lt, ap (borne n) is.is, borne-append n is.front is.left)
 
   pub replaced-distinct : (taken new : List Published) (m : MappingData) → IsReplaced taken next m old new → AreDistinct new
   replaced-distinct taken new m is n lt =
@@ -215,47 +225,3 @@ module _ (old : List Published) (next : ℕ) (below : AreBelow next old) (distin
 
 pub distinct-one : (s : Published) → AreDistinct (s ∷ [])
 distinct-one s n lt = few-borne n (s ∷ [])
-
--- ---- what a number says
-
-one_is : (n : ℕ) (s : Published) (ss : List Published) → s.number ≡ n → borne n (s ∷ ss) ≡ 1 + borne n ss
-one_is n s ss same = one_borne n s ss ∙ ap (λ b. one_if b + borne n ss) bears
-  where
-    bears : (n == s.number) ≡ true
-    bears = grind (arith, nat_tests, same)
-
-front_cases : (x : Published) (xs : List Published) (s : Published) → Contains (x ∷ xs) s → (x ≡ s) ⊎ Contains xs s
-front_cases x xs s there = elim (Contains-append_cases (x ∷ []) xs s there) [
-  | inl here ↦ elim (Contains-push_cases [] x s here) [ inl none ↦ absurd (omega (arith, none.1)) | inr same ↦ inl same ]
-  | inr behind ↦ inr behind
-]
-
-there_borne : (n : ℕ) (ss : List Published) (s : Published) → Contains ss s → s.number ≡ n → 1 ≤ borne n ss
-there_borne n [] s there same = absurd (omega (arith, there.1))
-there_borne n (x ∷ xs) s there same = cases (λ behind. there_borne n xs s behind same) (front_cases x xs s there)
-  where
-    cases : (Contains xs s → 1 ≤ borne n xs) → (x ≡ s) ⊎ Contains xs s → 1 ≤ borne n (x ∷ xs)
-    cases rest (inl is) = omega (arith, one_is n x xs (ap (λ (t : Published). t.number) is ∙ same))
-    cases rest (inr behind) = omega (arith, one_borne n x xs, rest behind)
-
-same_one : (n : ℕ) (ss : List Published) (s t : Published) → borne n ss ≤ 1 → Contains ss s → Contains ss t → s.number ≡ n → t.number ≡ n → s ≡ t
-same_one n [] s t few a b p q = absurd (omega (arith, a.1))
-same_one n (x ∷ xs) s t few a b p q =
-    cases (λ a b. same_one n xs s t (omega (arith, few, one_borne n x xs)) a b p q) (front_cases x xs s a) (front_cases x xs t b)
-  where
-    cases : (Contains xs s → Contains xs t → s ≡ t) → (x ≡ s) ⊎ Contains xs s → (x ≡ t) ⊎ Contains xs t → s ≡ t
-    cases rest (inl is) (inl it) = sym is ∙ it
-    cases rest (inl is) (inr b) = absurd (omega (arith, few, one_is n x xs (ap (λ (t : Published). t.number) is ∙ p), there_borne n xs t b q))
-    cases rest (inr a) (inl it) = absurd (omega (arith, few, one_is n x xs (ap (λ (t : Published). t.number) it ∙ q), there_borne n xs s a p))
-    cases rest (inr a) (inr b) = rest a b
-
--- of those that a merge took and one of all, the one that bears its number is it
-pub known : (all taken : List Published) → AreKnown all taken → (s t : Published) → Contains all s → Contains taken t → t.number ≡ s.number → t ≡ s
-known all taken is s t there was same =
-    same_one t.number all t s (is.distinct t.number below) (All-contains (λ (t : Published). Contains all t) taken t is.among was) there refl (sym same)
-  where
-    small : nat_lt t.number greatest ≡ true
-    small = All-contains (λ (t : Published). nat_lt t.number greatest ≡ true) taken t (all-of (λ (s : Published). nat_lt s.number greatest) taken (second_of (nat_le 2 (length taken)) (list_all (λ (s : Published). nat_lt s.number greatest) taken) is.are)) was
-
-    below : t.number < greatest
-    below = let is = small in grind (arith, nat_tests, is)

@@ -1,5 +1,5 @@
 -- What changes where only some ids have new operations.
-use Rattle.std.proofs.Common.{◌≡◌, ◌≤◌, ◌<◌, ◌+◌, ◌-◌, ℕ, ℤ, length, take, drop, get_or, length-drop, arith, Bool, true, false, cond, List, [], ◌∷◌, Option, Some, None, if◌then◌else◌, refl, sym, ap, ◌∙◌}
+use Rattle.std.proofs.Common.{◌≡◌, ◌≤◌, ◌<◌, ◌+◌, ◌-◌, ℕ, ℤ, length, map, take, drop, get_or, length-drop, arith, Bool, true, false, cond, List, [], ◌∷◌, Option, Some, None, if◌then◌else◌, refl, sym, ap, ◌∙◌}
 use Rattle.std.specs.Prelude.{is_some, not, nat_lt, ◌||◌, fold}
 use Rattle.std.specs.declared.cmp.Ordering.{Ordering}
 use Rattle.std.specs.declared.cmp.Ordering.TheVariants.{Less, Equal, Greater}
@@ -11,16 +11,21 @@ use Rattle.op.specs.declared.record.Record.TheVariants.{Op as Kept}
 use Rattle.op.specs.Records.{after_record, operations, shown}
 use Rattle.engine.specs.Entry.{put_if}
 use Rattle.engine.proofs.ChosenLaws.{among-more}
+use Rattle.std.specs.List.{list_any}
 use Rattle.std.specs.Option.{option_or}
+use Rattle.std.proofs.lemmas.List.Folds.{list_any_more}
 use Rattle.std.specs.Cmp.Lexicographic.{nat_list_cmp_total}
-use Rattle.std.specs.FinMap.Entries.{is_sorted, same_entries, is_sorted-where_key, is_sorted-put, find-put}
+use Rattle.std.specs.FinMap.Entries.{is_sorted, same_entries, is_sorted-where_key, is_sorted-put, find-put, find-where_key, where_key}
 use Rattle.std.proofs.lemmas.Map.Lookups.{exact_bytes}
 use Rattle.doc.specs.Id.{Id, id_cmp, is_id}
 use Rattle.op.specs.declared.operation.Op.{Op}
 use Rattle.op.specs.Documents.{Document, Documents, document_at, documents, document_of}
 use Rattle.op.specs.Operations.{placed, add, op_at, is_on, last_on}
 use Rattle.op.proofs.DocumentLaws.{document_at-documents, is_sorted-documents}
+use Rattle.engine.specs.Live.{changed_live, unchanged}
 use Rattle.engine.specs.Parts.{merged, without, is_among, has_id}
+use Rattle.engine.specs.Published.{Published}
+use Rattle.engine.specs.SnapshotChange.{is_write}
 use Rattle.engine.proofs.PartLaws.{true_T, T_true, find-merged, in_order-merged, or_none}
 use Rattle.engine.proofs.ApartLaws.{find-without}
 
@@ -72,7 +77,43 @@ module _ (new old : List Op) (ids : List Id) (es : Documents) (sorted : is_sorte
       ∙ ap (option_or (if is_among ids id then document_at (documents new) id else None)) (find-without ids (documents old) id)
       ∙ joined_at id (is_among ids id) (same id))
 
+-- documents of some ids are those at the ids that pass a test, where the same ids pass
+pub are-where : (new : List Op) (ids : List Id) (es : Documents) → is_sorted id_cmp es ≡ true → ((id : Id) → document_at es id ≡ (if is_among ids id then document_at (documents new) id else None))
+    → (p : Id → Bool) → ((id : Id) → is_among ids id ≡ p id) → es ≡ where_key id_cmp p (documents new)
+are-where new ids es sorted at p same =
+    same_entries id_cmp nat_list_cmp_total exact_bytes _ _ (true_T _ sorted)
+    (is_sorted-where_key id_cmp p (documents new) (true_T _ (is_sorted-documents new)))
+    (λ id. at id
+    ∙ ap (λ b. if b then document_at (documents new) id else None) (same id)
+    ∙ sym (find-where_key id_cmp p id (λ x tied. ap p (sym (exact_bytes id x tied))) (documents new)))
+
+-- ---- a test of ids that answers as another
+
+module _ (p q : Id → Bool) (same : (id : Id) → p id ≡ q id) where
+  unchanged-same : (ds : Documents) → unchanged p ds ≡ unchanged q ds
+  unchanged-same [] = refl
+  unchanged-same (d ∷ ds) =
+      ap (λ b. cond (not b) (d ∷ unchanged p ds) (unchanged p ds)) (same d.0)
+      ∙ ap (λ es. cond (not (q d.0)) (d ∷ es) es) (unchanged-same ds)
+
+  still-same : (ls : List Documents) → map (unchanged p) ls ≡ map (unchanged q) ls
+  still-same [] = refl
+  still-same (l ∷ ls) = ap (λ es. es ∷ map (unchanged p) ls) (unchanged-same l) ∙ ap (λ es. unchanged q l ∷ es) (still-same ls)
+
+  pub changed_live-same : (new : Published) (ls : List Documents) → changed_live p new ls ≡ changed_live q new ls
+  changed_live-same new ls = ap (λ es. new.documents ∷ es) (still-same ls)
+
 -- ---- the ids of the records behind a point
+
+pub writes-more : (rs : List Record) (i : ℕ) (r : Record) (g : ℤ) (o : Op) (after before : List Id) → i < length rs → r ≡ get_or rs i r → r ≡ Kept g o
+    → ((id : Id) → is_among after id ≡ (is_among before id || is_on id o))
+    → ((id : Id) → is_among before id ≡ list_any (is_write id) (take i rs))
+    → (id : Id) → is_among after id ≡ list_any (is_write id) (take (i + 1) rs)
+writes-more rs i r g o after before lt is kept more so_far id =
+    more id
+    ∙ ap (λ b. b || is_on id o) (so_far id)
+    ∙ ap (λ (q : Record). list_any (is_write id) (take i rs) || is_write id q) (sym kept ∙ is)
+    ∙ sym (list_any_more (is_write id) rs i r lt)
 
 both_false : (a b : Bool) → (a || b) ≡ false → (a ≡ false) × (b ≡ false)
 both_false true b is = cc

@@ -1,8 +1,8 @@
 -- One part in place of those that were taken.
 use Rattle.std.proofs.Common.{◌≡◌, ◌<◌, ◌≤◌, ℕ, ◌+◌, zero, suc, Bool, true, false, cond, List, [], ◌∷◌, ◌++◌, length, map, refl, sym, ap, ◌∙◌, subst, arith, Option, Some, None, inl, inr, get_or, take, add-one}
-use Rattle.std.specs.Prelude.{is_some, replicate, ◌&&◌, All, Contains}
+use Rattle.std.specs.Prelude.{is_some, replicate, slice_index_or, ◌&&◌, All, Contains}
 use Rattle.std.specs.List.{list_all}
-use Rattle.std.proofs.lemmas.List.Elements.{All-contains_itself, Contains-push_cases}
+use Rattle.std.proofs.lemmas.List.Elements.{All-contains, All-contains_itself, Contains-append_left, Contains-push, Contains-push_cases}
 use Rattle.std.proofs.Math.Seq.{take-suc}
 use Rattle.std.specs.Option.{option_or}
 use Rattle.std.specs.Cmp.Lexicographic.{nat_list_cmp_total}
@@ -165,6 +165,26 @@ module _ (taken : List Published) where
   split-left _ _ _ (goes before stay gone ps go p split there is go_is) =
       subst (λ (ss : List Published). IsLeft taken ss (all_published stay)) (sym (ap all_published is ∙ published-push before p))
       (left-goes (all_published before) (all_published stay) (published_of p) (split-left before stay gone split) there)
+
+-- where none goes, none of those that were taken is there
+pub split-none : (taken : List Published) (ps stay go : List PartData) → IsSplit taken ps stay go → length go ≤ 0 → (s : Published) → Contains (all_published ps) s → Contains taken s → ⊥
+split-none taken _ _ _ none few s here there = absurd (omega (arith, here.1))
+split-none taken _ _ _ (stays before kept ps stay go p split not_there is stay_is) few s here there =
+    elim (Contains-push_cases (all_published before) (published_of p) s (subst (λ ss. Contains ss s) (ap all_published is ∙ published-push before p) here)) [
+      | inl old ↦ split-none taken before kept go split few s old there
+      | inr same ↦ not_there (subst (Contains taken) (sym same) there)
+    ]
+split-none taken _ _ _ (goes before stay gone ps go p split there is go_is) few s here was = absurd (omega (arith, few, ap length go_is, length_push gone p))
+
+-- where one goes, it was taken
+pub split-some : (taken : List Published) (ps stay go : List PartData) → IsSplit taken ps stay go → 1 ≤ length go → All (λ s. Contains (all_published ps) s → ⊥) taken → ⊥
+split-some taken _ _ _ none some gone = absurd (omega (arith, some))
+split-some taken _ _ _ (stays before kept ps stay go p split not_there is stay_is) some gone =
+    split-some taken before kept go split some
+    (λ k d lt here. gone k d lt (subst (λ ss. Contains ss (slice_index_or taken k d)) (sym (ap all_published is ∙ published-push before p)) (Contains-append_left (all_published before) (published_of p ∷ []) (slice_index_or taken k d) here)))
+split-some taken _ _ _ (goes before stay gone_before ps go p split there is go_is) some gone =
+    All-contains (λ s. Contains (all_published ps) s → ⊥) taken (published_of p) gone there
+    (subst (λ ss. Contains ss (published_of p)) (sym (ap all_published is ∙ published-push before p)) (Contains-push (all_published before) (published_of p)))
 
 -- the parts that stay, and one part that shows what the others do
 module _ (m : MappingData) (taken : List Published) (ps stay go : List PartData) (p : PartData) (split : IsSplit taken ps stay go) (are : AreParts m ps)

@@ -1,8 +1,8 @@
 -- The documents that are live in segments.
-use Rattle.std.specs.Prelude.{ℕ, ◌≡◌, ◌≤◌, ◌+◌, ◌&&◌, Bool, true, List, [], ◌∷◌, fold, if◌then◌else◌, length, min, nat_le, nat_lt, sum_by}
+use Rattle.std.specs.Prelude.{ℕ, ◌≡◌, ◌<◌, ◌≤◌, ◌+◌, ◌&&◌, Bool, true, not, All, List, [], ◌∷◌, fold, if◌then◌else◌, length, map, min, nat_le, nat_lt, sum_by}
 use Rattle.std.specs.List.{AllZip}
-use Rattle.std.specs.FinMap.Entries.{put}
-use Rattle.doc.specs.Id.{id_cmp}
+use Rattle.std.specs.FinMap.Entries.{put, where_key}
+use Rattle.doc.specs.Id.{Id, id_cmp}
 use Rattle.op.specs.Documents.{Documents}
 use Rattle.engine.specs.Published.{Published, greatest, is_numbered}
 
@@ -20,6 +20,32 @@ abbrev pub live_of : List ℕ → List Published → List Documents → List Doc
 live_of ns [] ls = []
 live_of ns (s ∷ ss) [] = []
 live_of ns (s ∷ ss) (l ∷ ls) = if is_numbered ns s then l ∷ live_of ns ss ls else live_of ns ss ls
+
+-- whether one of these documents is live in a segment: whether there is one
+abbrev pub is_live : Documents → Bool
+is_live ds = nat_lt 0 (length ds)
+
+-- the segments in which a document is live, where this is live in all
+abbrev pub living : List Published → List Documents → List Published
+living [] ls = []
+living (s ∷ ss) [] = []
+living (s ∷ ss) (l ∷ ls) = if is_live l then s ∷ living ss ls else living ss ls
+
+-- a document is live in each segment, or there is one segment alone
+abbrev pub AreLive : List Documents → Type 0
+AreLive ls = 1 < length ls → All (λ l. is_live l ≡ true) ls
+
+-- the documents whose ids didn't change
+abbrev pub unchanged : (Id → Bool) → Documents → Documents
+unchanged is_changed ds = where_key id_cmp (λ i. not (is_changed i)) ds
+
+-- what is live in a new segment and in the old ones after a change of some ids
+abbrev pub changed_live : (Id → Bool) → Published → List Documents → List Documents
+changed_live is_changed new ls = new.documents ∷ map (unchanged is_changed) ls
+
+-- the segments then: those of the new one and the old ones in which a document is live
+abbrev pub changed_segments : (Id → Bool) → Published → List Published → List Documents → List Published
+changed_segments is_changed new ss ls = living (new ∷ ss) (changed_live is_changed new ls)
 
 -- whether a segment is small: few documents are live in it, and a merge may take it
 abbrev pub is_small : Published → Documents → Bool

@@ -1,14 +1,16 @@
 -- Documents that stand in several parts.
 -- For proofs alone: no public contract rests on it.
-use Rattle.std.specs.Prelude.{◌≡◌, ℕ, ◌≤◌, ◌+◌, ◌++◌, Bool, true, not, Contains, Option, List, [], ◌∷◌, ◌<◌, drop, is_some, if◌then◌else◌, length, map, replicate}
+use Rattle.std.specs.Prelude.{◌≡◌, ℕ, ◌≤◌, ◌+◌, ◌++◌, Bool, true, Contains, Option, List, [], ◌∷◌, ◌<◌, drop, is_some, if◌then◌else◌, length, map, replicate}
 use Rattle.doc.specs.Mapping.{MappingData}
 use Rattle.engine.specs.Answer.{SnapshotData}
 pub use Rattle.engine.specs.Live.{merged, woven}
-use Rattle.engine.specs.Published.{Published, MergeData, are_taken, taken_of, AreAmong, AreBelow, AreDistinct}
+use Rattle.engine.specs.Live.{is_live, unchanged}
+use Rattle.engine.specs.Published.{Published, MergeData, are_taken, taken_of, AreBelow, AreDistinct}
 use Rattle.std.specs.Option.{ForSome}
 use Rattle.std.specs.List.{AllByRecursion, list_any}
-use Rattle.std.specs.FinMap.Entries.{where_key, is_sorted}
+use Rattle.std.specs.FinMap.Entries.{is_sorted}
 use Rattle.doc.specs.Id.{Id, id_cmp, is_id}
+use Rattle.segment.specs.Merged.{chosen}
 use Rattle.op.specs.Documents.{Document, Documents, document_at}
 
 -- the first document of both, and how many of each it stands for
@@ -78,12 +80,6 @@ pub record IsMade (l : PartListData) (made : Option PartData) : Type 0 where
 abbrev pub merge_of : PartListData → MergeData
 merge_of l = record { taken = taken_of l.published; mapping = l.mapping; documents = l.documents }
 
--- segments that a merge took, each still among all: its number says which it is
-pub record AreKnown (all taken : List Published) : Type 0 where
-  pub among : AreAmong all taken
-  pub distinct : AreDistinct all
-  pub are : are_taken taken ≡ true
-
 -- parts in two halves: those that were taken go, the others stay
 pub data IsSplit (taken : List Published) : List PartData → List PartData → List PartData → Type 0 where
   none : IsSplit taken [] [] []
@@ -100,10 +96,11 @@ pub record AreParts (m : MappingData) (ps : List PartData) : Type 0 where
   pub apart : AreApart (documents_of_parts ps)
   pub few : length ps < 4294967296
 
--- documents in order, each with a mark; where it is said that all are live, they are
-pub record IsPart (ds : Documents) (live : List Bool) (all_live : Bool) : Type 0 where
+-- documents in order, each with a mark, and how many are live; where it is said that all are, they are
+pub record IsPart (ds : Documents) (live : List Bool) (count : ℕ) (all_live : Bool) : Type 0 where
   pub sorted : is_sorted id_cmp ds ≡ true
   pub whole : length live ≡ length ds
+  pub counted : count ≡ length (chosen ds live)
   pub full : all_live ≡ true → live ≡ replicate (length ds) true
 
 -- whether the id is one of these
@@ -112,4 +109,8 @@ is_among ids id = list_any (is_id id) ids
 
 -- the documents that have none of these ids
 abbrev pub without : List Id → Documents → Documents
-without ids ds = where_key id_cmp (λ i. not (is_among ids i)) ds
+without ids ds = unchanged (is_among ids) ds
+
+-- whether a document is live in a part
+abbrev pub is_living : PartData → Bool
+is_living p = is_live p.documents

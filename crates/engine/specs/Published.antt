@@ -1,5 +1,5 @@
 -- The segments that searches look through, and merges of them.
-use Rattle.std.specs.Prelude.{◌≡◌, ◌<◌, ◌≤◌, ◌+◌, ◌++◌, ◌&&◌, ℕ, Bool, List, [], ◌∷◌, All, Contains, drop, min, length, nat_le, nat_lt, filter, ◌==◌, if◌then◌else◌}
+use Rattle.std.specs.Prelude.{◌≡◌, ◌<◌, ◌≤◌, ◌+◌, ◌++◌, ◌&&◌, ℕ, Bool, List, [], ◌∷◌, All, Contains, min, length, nat_le, nat_lt, filter, ◌==◌, if◌then◌else◌}
 use Rattle.std.specs.List.{list_all, list_any}
 use Rattle.doc.specs.Mapping.{MappingData}
 use Rattle.op.specs.Documents.{Documents}
@@ -48,9 +48,9 @@ pub record MergeData : Type 0 where
   pub mapping : MappingData
   pub documents : Documents
 
--- each of some segments is among all
-abbrev pub AreAmong : List Published → List Published → Type 0
-AreAmong all ss = All (λ s. Contains all s) ss
+-- none of some segments is among all
+abbrev pub AreGone : List Published → List Published → Type 0
+AreGone all ss = All (λ s. Contains all s → ⊥) ss
 
 -- the segments that weren't taken, in their order
 pub data IsLeft (taken : List Published) : List Published → List Published → Type 0 where
@@ -73,17 +73,24 @@ pub record Segments : Type 0 where
   pub published : List Published
   pub next : ℕ
 
--- one segment, of the next number, stands for those that a merge took: none of these is published any more, and the number isn't given again, unless it is the greatest
+-- one segment, of the next number, stands for those that a merge took: none of these that was published is it any more, and the number isn't given again, unless it is the greatest
 pub record IsSwapped (taken : List Published) (old new : Segments) : Type 0 where
   pub replaced : IsReplaced taken old.next old.mapping old.published new.published
-  pub gone : All (λ s. Contains new.published s → ⊥) taken
+  pub gone : All (λ s. Contains old.published s → Contains new.published s → ⊥) taken
   pub next : new.next ≡ next_after old.next
   pub below : AreBelow new.next new.published
 
--- at most one segment, of this number, in front of the oldest of some
+-- some of these segments, in their order
+pub data AreSome : List Published → List Published → Type 0 where
+  no_more : AreSome [] []
+  stays : (s : Published) (old left : List Published) → AreSome old left → AreSome (s ∷ old) (s ∷ left)
+  goes : (s : Published) (old left : List Published) → AreSome old left → AreSome (s ∷ old) left
+
+-- at most one segment, of this number, in front of some of the old ones, in their order
 pub record IsFronted (number : ℕ) (old new : List Published) : Type 0 where
   pub front : List Published
-  pub joined : ℕ
-  pub is : new ≡ front ++ drop joined old
+  pub left : List Published
+  pub some : AreSome old left
+  pub is : new ≡ front ++ left
   pub one : length front ≤ 1
   pub numbers : All (λ s. s.number ≡ number) front

@@ -1,12 +1,16 @@
 -- What a change leaves.
-use Rattle.std.specs.Prelude.{◌≡◌, ◌≤◌, Bool, true, false, [], ◌∷◌, length, All, drop}
-use Rattle.std.specs.List.{AllPass}
+use Rattle.std.specs.Prelude.{◌≡◌, ◌≤◌, Bool, true, false, [], ◌∷◌, length, All, drop, filter}
+use Rattle.std.specs.List.{list_any, AllPass}
+use Rattle.std.specs.FinMap.Entries.{where_key}
+use Rattle.doc.specs.Id.{Id, id_cmp}
 use Rattle.op.specs.declared.record.Record.{Record}
 use Rattle.op.specs.declared.record.Record.TheVariants.{Op as Kept, Resync, Recover}
 use Rattle.op.specs.Documents.{documents}
+use Rattle.op.specs.Operations.{is_on}
 use Rattle.op.specs.Records.{IsRecord, operations}
 use Rattle.engine.specs.Contents.{Contents, EngineData}
-use Rattle.engine.specs.Published.{next_after, AreAmong, AreBelow, IsFronted}
+use Rattle.engine.specs.Live.{changed_live, changed_segments, is_live}
+use Rattle.engine.specs.Published.{Published, next_after, AreBelow, IsFronted}
 use Rattle.engine.specs.declared.staged.SnapshotChange.{SnapshotChange}
 use Rattle.engine.specs.declared.staged.SnapshotChange.TheVariants.{Refresh, Reopen}
 
@@ -30,13 +34,32 @@ is_op (Recover term all) = false
 abbrev pub OnlyOps : EngineData → Type 0
 OnlyOps e = AllPass is_op (drop e.point e.records)
 
+-- whether a record is an operation on the id
+abbrev pub is_write : Id → Record → Bool
+is_write id (Kept g o) = is_on id o
+is_write id (Resync term g tail) = false
+is_write id (Recover term all) = false
+
+-- whether a record behind the point is an operation on the id
+abbrev pub is_written : EngineData → Id → Bool
+is_written e id = list_any (is_write id) (drop e.point e.records)
+
+-- the next segment: the documents at those ids
+abbrev pub next_segment : EngineData → Published
+next_segment e = record { number = e.next; mapping = e.mapping; documents = where_key id_cmp (is_written e) (documents (operations e.records)) }
+
+-- after operations there are just those of the next segment and the old ones in which a document is live
+pub record IsRefreshed (old new : EngineData) : Type 0 where
+  pub published : new.published ≡ changed_segments (is_written old) (next_segment old) old.published old.live
+  pub live : new.live ≡ filter is_live (changed_live (is_written old) (next_segment old) old.live)
+
 -- at most one segment comes, and bears the next number, which is never given again, unless it is the greatest
 pub record IsNumbered (old new : EngineData) : Type 0 where
   pub numbers : IsFronted old.next old.published new.published
   pub rises : old.next ≤ new.next
   pub below : AreBelow new.next new.published
 
--- the segments after a change: a refresh over operations alone keeps each that was published, and new records have one of their own
+-- the segments after a change: a refresh over operations alone drops those in which no document is live any more, and new records have one of their own
 abbrev pub ArePublished : EngineData → SnapshotChange → EngineData → Type 0
-ArePublished old Refresh new = IsNumbered old new × (OnlyOps old → AreAmong new.published old.published)
+ArePublished old Refresh new = IsNumbered old new × (OnlyOps old → IsRefreshed old new)
 ArePublished old (Reopen rs) new = (new.published ≡ (record { number = old.next; mapping = old.mapping; documents = documents (operations rs.items) }) ∷ []) × (new.next ≡ next_after old.next)

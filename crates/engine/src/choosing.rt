@@ -10,7 +10,7 @@ use crate::part::Part;
 use std::alloc::{AllocError, Global};
 
 /// So many small segments stay side by side.
-pub(crate) const FEW_SMALL: usize = 8;
+pub(crate) const FEW_SMALL: usize = 16;
 
 /// Where no more documents are live in a segment it is small.
 const SMALL: usize = 32_768;
@@ -55,7 +55,11 @@ pub(crate) fn parts_numbered(
 }
 
 /// Adds a part that is one of the chosen.
-fn push_if(chosen: &mut Vec<Part>, part: &Part, is_chosen: bool) -> Result<(), AllocError>
+pub(crate) fn push_if(
+    chosen: &mut Vec<Part>,
+    part: &Part,
+    is_chosen: bool,
+) -> Result<(), AllocError>
     ensures { OnOk result (chosen.new.items ≡ (if is_chosen then chosen.old.items ++ part.now ∷ [] else chosen.old.items)) }
 {
     if is_chosen {

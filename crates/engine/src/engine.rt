@@ -1,5 +1,5 @@
 //! The documents of one copy.
-ghost use Rattle.std.specs.Prelude.{◌≡◌, ◌↔◌, ◌++◌, ◌∷◌, ◌<◌, ◌≤◌, ◌^◌, [], true, false, All, length, None, IsTrue, IfOk, IfSome, OnOk, OnErr};
+ghost use Rattle.std.specs.Prelude.{◌≡◌, ◌↔◌, ◌++◌, ◌∷◌, ◌<◌, ◌≤◌, ◌^◌, [], true, false, All, filter, length, None, IsTrue, IfOk, IfSome, OnOk, OnErr};
 ghost use Rattle.std.specs.Option.{option_copied, option_map};
 ghost use Rattle.std.specs.Arc.{arc_value};
 ghost use Rattle.op.specs.Checkpoint.{checkpoint_of, known};
@@ -10,9 +10,9 @@ ghost use Rattle.engine.specs.Applied.{applied_of, records_after, RiseFrom};
 ghost use Rattle.engine.specs.Found.{found_document};
 ghost use Rattle.engine.specs.Last.{last_of};
 ghost use Rattle.engine.specs.Contents.{contents_of, segments_of};
-ghost use Rattle.engine.specs.Live.{live_of, small_count, woven, FitOneMerge};
-ghost use Rattle.engine.specs.Published.{next_after, numbered, taken_of, AreAmong, AreBelow, IsFronted, IsSwapped};
-ghost use Rattle.engine.specs.SnapshotChange.{changed, ArePublished, IsNumbered, IsSnapshotChange, OnlyOps};
+ghost use Rattle.engine.specs.Live.{changed_live, changed_segments, is_live, live_of, small_count, woven, AreLive, FitOneMerge};
+ghost use Rattle.engine.specs.Published.{next_after, numbered, taken_of, AreBelow, AreGone, IsFronted, IsSwapped};
+ghost use Rattle.engine.specs.SnapshotChange.{changed, is_written, next_segment, ArePublished, IsNumbered, IsRefreshed, IsSnapshotChange, OnlyOps};
 ghost use Rattle.engine.specs.Staged.{IsStagedFrom, put_in};
 
 use crate::ahead::Ahead;
@@ -110,12 +110,14 @@ impl Engine {
         self.history.apply_all(alloc, records)
     }
 
-    /// Shows all records from now on, and answers how many there are. Each segment stays, unless more than operations came.
+    /// Shows all records from now on, and answers how many there are. Segments in which no document is live any more go; each other one stays, unless
+    /// more than operations came.
     pub fn refresh(&mut self, alloc: Global) -> Result<u64, AllocError>
         ensures point { IfOk result (λ n. n ≡ length self.old.records) }
         ensures shown { OnOk result (contents_of self.new ≡ record (contents_of self.old) { point = length self.old.records }) }
         ensures numbered { OnOk result (IsNumbered self.old self.new) }
-        ensures kept { OnOk result (OnlyOps self.old → AreAmong self.new.published self.old.published) }
+        ensures kept { OnOk result (OnlyOps self.old → IsRefreshed self.old self.new) }
+        ensures live { OnOk result (AreLive self.new.live) }
         ensures err { OnErr result (self.new ≡ self.old) }
     {
         let staged = self.stage(alloc, SnapshotChange::Refresh)?;
@@ -142,6 +144,7 @@ impl Engine {
         ensures fits { IfOk result (IsStagedFrom (contents_of self.now)) }
         ensures leaves { IfOk result (λ s. contents_of (put_in self.now s) ≡ changed (contents_of self.now) change) }
         ensures published { IfOk result (λ s. ArePublished self.now change (put_in self.now s)) }
+        ensures live { IfOk result (λ s. AreLive s.live) }
     {
         match change {
             SnapshotChange::Refresh => self.stage_refresh(alloc),
@@ -154,7 +157,8 @@ impl Engine {
         ensures fits { IfOk result (IsStagedFrom (contents_of self.now)) }
         ensures leaves { IfOk result (λ s. contents_of (put_in self.now s) ≡ record (contents_of self.now) { point = length self.now.records }) }
         ensures numbered { IfOk result (λ s. IsNumbered self.now (put_in self.now s)) }
-        ensures kept { IfOk result (λ s. OnlyOps self.now → AreAmong s.published self.now.published) }
+        ensures kept { IfOk result (λ s. OnlyOps self.now → IsRefreshed self.now (put_in self.now s)) }
+        ensures live { IfOk result (λ s. AreLive s.live) }
     {
         let showing = self.refreshed(alloc)?;
         let _below = showing.next();
@@ -172,6 +176,7 @@ impl Engine {
         ensures leaves { IfOk result (λ s. contents_of (put_in self.now s) ≡ record (contents_of self.now) { records = records.items; point = length records.items }) }
         ensures published { IfOk result (λ s. s.published ≡ (record { number = self.now.next; mapping = self.now.mapping; documents = documents (operations records.items) }) ∷ []) }
         ensures next { IfOk result (λ s. s.next ≡ next_after self.now.next) }
+        ensures live { IfOk result (λ s. AreLive s.live) }
     {
         let reopened = History::of(alloc, records)?;
         let showing = Showing::of(
@@ -188,17 +193,15 @@ impl Engine {
         })
     }
 
-    /// What searches show of all records: what they show where nothing came, with the ids that changed, or made anew where more than ids changed.
+    /// What searches show of all records: what they show, with the ids that changed, or made anew where more than ids changed.
     fn refreshed(&self, alloc: Global) -> Result<Showing, AllocError>
         ensures snapshot { IfOk result (λ s. s.snapshot ≡ record { mapping = self.now.mapping; documents = documents (operations self.now.records) }) }
         ensures numbers { IfOk result (λ s. IsFronted self.now.next self.now.published s.published) }
         ensures rises { IfOk result (λ s. self.now.next ≤ s.next) }
-        ensures kept { IfOk result (λ s. OnlyOps self.now → AreAmong s.published self.now.published) }
+        ensures published { IfOk result (λ s. OnlyOps self.now → s.published ≡ changed_segments (is_written self.now) (next_segment self.now) self.now.published self.now.live) }
+        ensures kept { IfOk result (λ s. OnlyOps self.now → s.live ≡ filter is_live (changed_live (is_written self.now) (next_segment self.now) self.now.live)) }
+        ensures live { IfOk result (λ s. AreLive s.live) }
     {
-        if self.history.len() == self.point {
-            let showing = self.showing.copy()?;
-            return Ok(showing);
-        }
         let Some(ids) = self.history.ids_since(alloc, self.point)? else {
             let next = self.showing.next();
             let showing = Showing::of(alloc, &self.mapping, next, self.history.operations())?;
@@ -252,8 +255,8 @@ impl Engine {
 
     /// The numbers of small segments that go well into one, where searches look through many of them.
     pub fn to_merge(&self, alloc: Global) -> Result<Option<Vec<u64>>, AllocError>
-        ensures none { IfOk result (λ o. o ≡ None → small_count self.now.published self.now.live ≤ 8) }
-        ensures some { IfOk result (λ o. IfSome o (λ v. 8 < small_count self.now.published self.now.live)) }
+        ensures none { IfOk result (λ o. o ≡ None → small_count self.now.published self.now.live ≤ 16) }
+        ensures some { IfOk result (λ o. IfSome o (λ v. 16 < small_count self.now.published self.now.live)) }
         ensures there { IfOk result (λ o. IfSome o (λ v. 2 ≤ length (numbered v.items self.now.published))) }
         ensures few { IfOk result (λ o. IfSome o (λ v. length v.items ≤ 10)) }
         ensures fit { IfOk result (λ o. IfSome o (λ v. FitOneMerge (numbered v.items self.now.published) (live_of v.items self.now.published self.now.live))) }
@@ -269,10 +272,10 @@ impl Engine {
         self.showing.segments()
     }
 
-    /// Puts a merged segment in place of those that it is made of: documents that aren't live in them any more aren't live in it. Where one of
-    /// them isn't there any more, as after a restart, it is `false` and all stay. What the engine has and what searches show stays in any case.
+    /// Puts a merged segment in place of those that it is made of and that are there still: documents that aren't live in them any more aren't live
+    /// in it. Where none of them is there, as after a restart, it is `false` and all stay. What the engine has and what searches show stays in any case.
     pub fn swap_merged(&mut self, alloc: Global, merged: Merged) -> Result<bool, AllocError>
-        ensures answer { IfOk result (λ b. IsTrue b ↔ AreAmong self.old.published merged.taken) }
+        ensures answer { IfOk result (λ b. IsTrue b ↔ (AreGone self.old.published merged.taken → merged.taken ≡ [])) }
         ensures swapped { IfOk result (λ b. b ≡ true → (merged.taken ≡ [] → ⊥) → IsSwapped merged.taken (segments_of self.old) (segments_of self.new)) }
         ensures none { merged.taken ≡ [] → self.new ≡ self.old }
         ensures stays { IfOk result (λ b. b ≡ false → self.new ≡ self.old) }

@@ -8,8 +8,8 @@ ghost use Rattle.op.specs.Operations.{IsAscending, add, from_number, is_on, is_s
 ghost use Rattle.op.specs.Records.{IsRecord, operations, shown};
 ghost use Rattle.engine.specs.Found.{found_document};
 ghost use Rattle.engine.specs.Parts.{is_among};
-ghost use Rattle.engine.specs.SnapshotChange.{is_op};
-ghost use Rattle.std.specs.List.{AllPass};
+ghost use Rattle.engine.specs.SnapshotChange.{is_op, is_write};
+ghost use Rattle.std.specs.List.{list_any, AllPass};
 
 use crate::operation_index::OperationIndex;
 use crate::operations;
@@ -163,6 +163,7 @@ impl History {
         requires { point ≤ length self.now }
         ensures others { IfOk result (λ ids. IfSome ids (λ v. (id : Id) → is_among v.items id ≡ false → last_on (operations self.now) id ≡ last_on (shown self.now point) id)) }
         ensures only { IfOk result (λ ids. AllPass is_op (drop point self.now) → ids ≡ None → ⊥) }
+        ensures are { IfOk result (λ ids. IfSome ids (λ v. (id : Id) → is_among v.items id ≡ list_any (is_write id) (drop point self.now))) }
     {
         let mut ids = Vec::new(alloc);
         for kept in &self.records[point..] {

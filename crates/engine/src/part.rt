@@ -1,5 +1,5 @@
 //! A part of what searches show.
-ghost use Rattle.std.specs.Prelude.{◌≡◌, ◌↔◌, ◌<◌, IsTrue, ◌+◌, ◌^◌, ◌&&◌, true, map, take, drop, length, filter, IfOk};
+ghost use Rattle.std.specs.Prelude.{◌≡◌, ◌↔◌, ◌<◌, IsTrue, ◌+◌, ◌^◌, ◌&&◌, true, map, take, drop, length, filter, replicate, IfOk};
 ghost use Rattle.std.specs.Arc.{arc_value};
 ghost use Rattle.std.specs.FinMap.Entries.{is_sorted};
 ghost use Rattle.doc.specs.Id.{id_cmp};
@@ -9,7 +9,7 @@ ghost use Rattle.marks.specs.Lists.{zip_with, places};
 ghost use Rattle.engine.specs.Answer.{is_found};
 ghost use Rattle.engine.specs.Entry.{entry_view};
 ghost use Rattle.engine.specs.Shown.{seen};
-ghost use Rattle.engine.specs.Parts.{published_of, without, IsPart};
+ghost use Rattle.engine.specs.Parts.{published_of, without};
 
 use crate::block::{Block, Shown};
 use crate::documents::Entry;
@@ -27,6 +27,8 @@ pub(crate) struct Part {
     number: u64,
     block: Arc<Block, Global>,
     live: Arc<Marks, Global>,
+    /// How many are live.
+    live_len: usize,
     /// Where it is set, no document is dead.
     all_live: bool,
 }
@@ -45,7 +47,7 @@ impl Model for Part {
       built = (arc_value p.block).documents;
     } };
 
-    ghost invariant = { λ p. IsPart (arc_value p.block).documents (arc_value p.live) p.all_live };
+    ghost invariant = { λ p. IsPart (arc_value p.block).documents (arc_value p.live) p.live_len p.all_live };
 }
 
 /// What there is for a query: how many documents, and the first of them.
@@ -74,13 +76,15 @@ impl Part {
         ensures { IfOk result (λ p. p ≡ record { mapping = arc_value mapping.now; documents = map entry_view entries.entry.now; number = number; built = map entry_view entries.entry.now }) }
     {
         let block = Block::of(alloc, mapping, entries)?;
-        let live = Marks::all(alloc, block.len())?;
+        let live_len = block.len();
+        let live = Marks::all(alloc, live_len)?;
         let block = Arc::new(alloc, block)?;
         let live = Arc::new(alloc, live)?;
         Ok(Part {
             number,
             block,
             live,
+            live_len,
             all_live: true,
         })
     }
@@ -116,6 +120,7 @@ impl Part {
             number: self.number,
             block,
             live,
+            live_len: self.live_len,
             all_live: self.all_live,
         })
     }
@@ -128,12 +133,14 @@ impl Part {
             number: _,
             block,
             live,
+            live_len,
             all_live,
         } = self;
         Part {
             number,
             block,
             live,
+            live_len,
             all_live,
         }
     }
@@ -151,7 +158,7 @@ impl Part {
         ensures few { result < 2 ^ 32 }
     {
         let _few = self.block.len();
-        self.live.count()
+        self.live_len
     }
 
     /// Its documents.
@@ -251,13 +258,15 @@ impl Part {
         let mut live = Marks::none(alloc, len)?;
         live.unite(&self.live);
         live.subtract(&dead);
-        let all_live = live.count() == len;
+        let live_len = live.count();
+        let all_live = live_len == len;
         let live = Arc::new(alloc, live)?;
         let block = Arc::try_clone(&self.block)?;
         Ok(Part {
             number: self.number,
             block,
             live,
+            live_len,
             all_live,
         })
     }
@@ -291,7 +300,8 @@ fn find_places(
     query: &Query,
     wanted: usize,
 ) -> Result<FoundPlaces, AllocError>
-    requires { IsPart block.now.documents live.now all_live }
+    requires whole { length live.now ≡ length block.now.documents }
+    requires full { all_live ≡ true → live.now ≡ replicate (length block.now.documents) true }
     ensures total { IfOk result (λ f. f.total ≡ length (places (λ b. b) (zip_with (λ m l. m && l) (map (is_found block.now.mapping (query_view query.now)) block.now.documents) live.now))) }
     ensures first { IfOk result (λ f. f.first.items ≡ take wanted (places (λ b. b) (zip_with (λ m l. m && l) (map (is_found block.now.mapping (query_view query.now)) block.now.documents) live.now))) }
 {

@@ -7,19 +7,19 @@ ghost use Rattle.query.specs.View.{query_view};
 ghost use Rattle.op.specs.Documents.{documents};
 ghost use Rattle.engine.specs.Answer.{is_found};
 ghost use Rattle.engine.specs.Entry.{entry_view};
-ghost use Rattle.engine.specs.Parts.{all_published, documents_of_parts, has_id, is_among, merged, without, woven, AllInOrder, AreParts};
-ghost use Rattle.engine.specs.Live.{live_of, small_count, FitOneMerge};
-ghost use Rattle.engine.specs.Published.{are_taken, numbered, AreAmong, AreDistinct, IsFronted, IsReplaced};
+ghost use Rattle.engine.specs.Parts.{all_published, documents_of_parts, has_id, is_among, is_living, merged, without, woven, AllInOrder, AreParts};
+ghost use Rattle.engine.specs.Live.{changed_live, changed_segments, is_live, live_of, living, small_count, FitOneMerge};
+ghost use Rattle.engine.specs.Published.{numbered, AreDistinct, AreGone, IsReplaced};
 ghost use Rattle.engine.specs.Before.{first_of_each};
 ghost use Rattle.engine.specs.Shown.{seen_all};
 
 use crate::block::Shown;
-use crate::choosing::{FEW_SMALL, count_small, parts_numbered, smallest_numbers};
+use crate::choosing::{FEW_SMALL, count_small, parts_numbered, push_if, smallest_numbers};
 use crate::documents::{Entry, documents_of};
 use crate::merging::{merge, merge_owned};
 use crate::paging::{behind, find_pivot, page_behind};
 use crate::part::{Part, Share};
-use crate::swapping::{Halves, are_among, part_showing, split};
+use crate::swapping::{Halves, part_showing, split};
 use doc::{DocId, Mapping};
 use op::Op;
 use query::Query;
@@ -116,8 +116,8 @@ impl PartList {
     /// The numbers of small parts that go well into one, where there are many.
     pub(crate) fn to_merge(&self, alloc: Global) -> Result<Option<Vec<u64>>, AllocError>
         requires { AreDistinct self.now.published }
-        ensures none { IfOk result (λ o. o ≡ None → small_count self.now.published self.now.live ≤ 8) }
-        ensures some { IfOk result (λ o. IfSome o (λ v. 8 < small_count self.now.published self.now.live)) }
+        ensures none { IfOk result (λ o. o ≡ None → small_count self.now.published self.now.live ≤ 16) }
+        ensures some { IfOk result (λ o. IfSome o (λ v. 16 < small_count self.now.published self.now.live)) }
         ensures there { IfOk result (λ o. IfSome o (λ v. 2 ≤ length (numbered v.items self.now.published))) }
         ensures few { IfOk result (λ o. IfSome o (λ v. length v.items ≤ 10)) }
         ensures fit { IfOk result (λ o. IfSome o (λ v. FitOneMerge (numbered v.items self.now.published) (live_of v.items self.now.published self.now.live))) }
@@ -145,7 +145,7 @@ impl PartList {
     }
 
     /// What is shown where some ids have these documents now, and the others what they had. New documents stand in a part of this number, in front
-    /// of the others.
+    /// of the others. Those in which no document is live any more go.
     pub(crate) fn with(
         &self,
         alloc: Global,
@@ -157,21 +157,19 @@ impl PartList {
         requires only { (id : Id) → has_id id (map entry_view entries.now) ≡ true → is_among ids.now id ≡ true }
         ensures mapping { IfOk result (λ l. l.mapping ≡ self.now.mapping) }
         ensures documents { IfOk result (λ l. l.documents ≡ merged (map entry_view entries.entry.now) (without ids.now self.now.documents)) }
-        ensures published { IfOk result (λ l. IsFronted number self.now.published l.published) }
-        ensures kept { IfOk result (λ l. AreAmong l.published self.now.published) }
+        ensures published { IfOk result (λ l. l.published ≡ changed_segments (is_among ids.now) (record { number = number; mapping = self.now.mapping; documents = map entry_view entries.entry.now }) self.now.published self.now.live) }
+        ensures live { IfOk result (λ l. l.live ≡ filter is_live (changed_live (is_among ids.now) (record { number = number; mapping = self.now.mapping; documents = map entry_view entries.entry.now }) self.now.live)) }
     {
         let mut parts = parts_without(alloc, &self.parts, ids)?;
         if entries.is_empty() {
-            let mapping = Arc::try_clone(&self.mapping)?;
-            return Ok(PartList { mapping, parts });
+            return living(alloc, &self.mapping, &parts);
         }
         if parts.len() >= MOST_PARTS {
             return Err(AllocError);
         }
         let part = Part::of(alloc, &self.mapping, number, entries)?;
         parts.insert(0, part)?;
-        let mapping = Arc::try_clone(&self.mapping)?;
-        Ok(PartList { mapping, parts })
+        living(alloc, &self.mapping, &parts)
     }
 
     /// The documents of all parts in one.
@@ -183,7 +181,7 @@ impl PartList {
         Part::of(alloc, &self.mapping, 0, &entries)
     }
 
-    /// The same with one part of this number in place of those that were taken, where these are all there. It shows what is live in them, by a
+    /// The same with one part of this number in place of those that were taken and are there still, unless none is. It shows what is live in them, by a
     /// part that was made of them where that can be.
     pub(crate) fn swapped(
         &self,
@@ -192,19 +190,17 @@ impl PartList {
         taken: &[Part],
         made: &Part,
     ) -> Result<Option<PartList>, AllocError>
-        requires distinct { AreDistinct self.now.published }
-        requires taken { are_taken (all_published taken.now) ≡ true }
         ensures mapping { IfOk result (λ o. IfSome o (λ l. l.mapping ≡ self.now.mapping)) }
         ensures documents { IfOk result (λ o. IfSome o (λ l. l.documents ≡ self.now.documents)) }
-        ensures there { IfOk result (λ o. IfSome o (λ l. AreAmong self.now.published (all_published taken.now))) }
+        ensures there { IfOk result (λ o. IfSome o (λ l. AreGone self.now.published (all_published taken.now) → ⊥)) }
         ensures swapped { IfOk result (λ o. IfSome o (λ l. IsReplaced (all_published taken.now) number self.now.mapping self.now.published l.published)) }
-        ensures gone { IfOk result (λ o. o ≡ None → AreAmong self.now.published (all_published taken.now) → ⊥) }
+        ensures gone { IfOk result (λ o. o ≡ None → AreGone self.now.published (all_published taken.now)) }
     {
-        if !are_among(&self.parts, taken) {
-            return Ok(None);
-        }
         let halves = split(alloc, &self.parts, taken)?;
         let Halves { mut stay, go } = halves;
+        if go.is_empty() {
+            return Ok(None);
+        }
         if stay.len() >= MOST_PARTS {
             return Err(AllocError);
         }
@@ -328,6 +324,37 @@ fn parts_without(alloc: Global, parts: &[Part], ids: &[DocId]) -> Result<Vec<Par
     let mut left = Vec::new(alloc);
     for part in parts {
         left.push(part.without(alloc, ids)?)?;
+    }
+    Ok(left)
+}
+
+/// A list of those of some parts in which a document is live.
+fn living(
+    alloc: Global,
+    mapping: &Arc<Mapping, Global>,
+    parts: &[Part],
+) -> Result<PartList, AllocError>
+    requires { AreParts (arc_value mapping.now) parts.now }
+    ensures mapping { IfOk result (λ l. l.mapping ≡ arc_value mapping.now) }
+    ensures documents { IfOk result (λ l. l.documents ≡ woven (documents_of_parts parts.now)) }
+    ensures published { IfOk result (λ l. l.published ≡ living (all_published parts.now) (documents_of_parts parts.now)) }
+    ensures live { IfOk result (λ l. l.live ≡ filter is_live (documents_of_parts parts.now)) }
+{
+    let left = living_parts(alloc, parts)?;
+    let mapping = Arc::try_clone(mapping)?;
+    Ok(PartList {
+        mapping,
+        parts: left,
+    })
+}
+
+/// The parts in which a document is live.
+fn living_parts(alloc: Global, parts: &[Part]) -> Result<Vec<Part>, AllocError>
+    ensures { IfOk result (λ v. v.items ≡ filter is_living parts.now) }
+{
+    let mut left = Vec::new(alloc);
+    for part in parts {
+        push_if(&mut left, part, part.live_len() > 0)?;
     }
     Ok(left)
 }

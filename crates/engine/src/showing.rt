@@ -1,5 +1,5 @@
 //! What searches show, with the segments that they look through.
-ghost use Rattle.std.specs.Prelude.{◌≡◌, ◌∷◌, ◌<◌, ◌≤◌, [], true, false, All, None, length, map, IfOk, IfSome};
+ghost use Rattle.std.specs.Prelude.{◌≡◌, ◌∷◌, ◌<◌, ◌≤◌, [], true, false, All, None, filter, length, map, IfOk, IfSome};
 ghost use Rattle.std.specs.Arc.{arc_value};
 ghost use Rattle.std.specs.FinMap.Entries.{is_sorted};
 ghost use Rattle.doc.specs.Id.{Id, id_cmp};
@@ -7,8 +7,8 @@ ghost use Rattle.op.specs.Documents.{documents};
 ghost use Rattle.engine.specs.Contents.{segments_shown};
 ghost use Rattle.engine.specs.Entry.{entry_view};
 ghost use Rattle.engine.specs.Parts.{has_id, is_among, merged, shown_through, without, IsMade};
-ghost use Rattle.engine.specs.Live.{live_of, small_count, woven, FitOneMerge};
-ghost use Rattle.engine.specs.Published.{are_taken, next_after, numbered, taken_of, AreAmong, AreBelow, AreDistinct, IsFronted, IsSwapped};
+ghost use Rattle.engine.specs.Live.{changed_live, changed_segments, is_live, live_of, small_count, woven, FitOneMerge};
+ghost use Rattle.engine.specs.Published.{are_taken, next_after, numbered, taken_of, AreBelow, AreDistinct, AreGone, IsSwapped};
 
 use crate::documents::Entry;
 use crate::part::Part;
@@ -88,7 +88,7 @@ impl Showing {
         self.next
     }
 
-    /// What is shown where some ids have these documents now, and the others what they had. Each part stays.
+    /// What is shown where some ids have these documents now, and the others what they had. Parts in which no document is live any more go.
     pub(crate) fn with(
         &self,
         alloc: Global,
@@ -98,8 +98,8 @@ impl Showing {
         requires sorted { is_sorted id_cmp (map entry_view entries.now) ≡ true }
         requires only { (id : Id) → has_id id (map entry_view entries.now) ≡ true → is_among ids.now id ≡ true }
         ensures snapshot { IfOk result (λ s. s.snapshot ≡ record self.now.snapshot { documents = merged (map entry_view entries.entry.now) (without ids.now self.now.snapshot.documents) }) }
-        ensures published { IfOk result (λ s. IsFronted self.now.next self.now.published s.published) }
-        ensures kept { IfOk result (λ s. AreAmong s.published self.now.published) }
+        ensures published { IfOk result (λ s. s.published ≡ changed_segments (is_among ids.now) (record { number = self.now.next; mapping = self.now.snapshot.mapping; documents = map entry_view entries.entry.now }) self.now.published self.now.live) }
+        ensures live { IfOk result (λ s. s.live ≡ filter is_live (changed_live (is_among ids.now) (record { number = self.now.next; mapping = self.now.snapshot.mapping; documents = map entry_view entries.entry.now }) self.now.live)) }
         ensures rises { IfOk result (λ s. self.now.next ≤ s.next) }
     {
         let parts = self.parts.with(alloc, self.next, ids, entries)?;
@@ -133,8 +133,8 @@ impl Showing {
 
     /// The numbers of small parts that go well into one, where there are many.
     pub(crate) fn to_merge(&self, alloc: Global) -> Result<Option<Vec<u64>>, AllocError>
-        ensures none { IfOk result (λ o. o ≡ None → small_count self.now.published self.now.live ≤ 8) }
-        ensures some { IfOk result (λ o. IfSome o (λ v. 8 < small_count self.now.published self.now.live)) }
+        ensures none { IfOk result (λ o. o ≡ None → small_count self.now.published self.now.live ≤ 16) }
+        ensures some { IfOk result (λ o. IfSome o (λ v. 16 < small_count self.now.published self.now.live)) }
         ensures there { IfOk result (λ o. IfSome o (λ v. 2 ≤ length (numbered v.items self.now.published))) }
         ensures few { IfOk result (λ o. IfSome o (λ v. length v.items ≤ 10)) }
         ensures fit { IfOk result (λ o. IfSome o (λ v. FitOneMerge (numbered v.items self.now.published) (live_of v.items self.now.published self.now.live))) }
@@ -158,10 +158,10 @@ impl Showing {
         merged: &Merged,
     ) -> Result<Option<Showing>, AllocError>
         ensures snapshot { IfOk result (λ o. IfSome o (λ s. s.snapshot ≡ self.now.snapshot)) }
-        ensures there { IfOk result (λ o. IfSome o (λ s. AreAmong self.now.published merged.now.taken)) }
+        ensures there { IfOk result (λ o. IfSome o (λ s. AreGone self.now.published merged.now.taken → merged.now.taken ≡ [])) }
         ensures swapped { IfOk result (λ o. IfSome o (λ s. (merged.now.taken ≡ [] → ⊥) → IsSwapped merged.now.taken (segments_shown self.now) (segments_shown s))) }
         ensures none { merged.now.taken ≡ [] → IfOk result (λ o. IfSome o (λ s. s ≡ self.now)) }
-        ensures gone { IfOk result (λ o. o ≡ None → AreAmong self.now.published merged.now.taken → ⊥) }
+        ensures gone { IfOk result (λ o. o ≡ None → (AreGone self.now.published merged.now.taken → merged.now.taken ≡ []) → ⊥) }
     {
         match &merged.part {
             Some(part) => self.swapped_by(alloc, &merged.parts, part),
@@ -178,9 +178,9 @@ impl Showing {
     ) -> Result<Option<Showing>, AllocError>
         requires { are_taken taken.now.published ≡ true }
         ensures snapshot { IfOk result (λ o. IfSome o (λ s. s.snapshot ≡ self.now.snapshot)) }
-        ensures there { IfOk result (λ o. IfSome o (λ s. AreAmong self.now.published taken.now.published)) }
+        ensures there { IfOk result (λ o. IfSome o (λ s. AreGone self.now.published taken.now.published → ⊥)) }
         ensures swapped { IfOk result (λ o. IfSome o (λ s. IsSwapped taken.now.published (segments_shown self.now) (segments_shown s))) }
-        ensures gone { IfOk result (λ o. o ≡ None → AreAmong self.now.published taken.now.published → ⊥) }
+        ensures gone { IfOk result (λ o. o ≡ None → AreGone self.now.published taken.now.published) }
     {
         match self.parts.swapped(alloc, self.next, taken.parts(), made)? {
             Some(parts) => {

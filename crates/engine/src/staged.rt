@@ -13,7 +13,7 @@ use std::sync::Arc;
 /// A change of an engine that makes a new snapshot.
 #[derive(Drop)]
 pub enum SnapshotChange {
-    /// Searches show all records. Each segment stays, unless more than operations came.
+    /// Searches show all records. Segments in which no document is live any more go; each other one stays, unless more than operations came.
     Refresh,
     /// These are the records, and searches show them all.
     Reopen(Vec<Record>),

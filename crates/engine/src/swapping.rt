@@ -2,8 +2,8 @@
 ghost use Rattle.std.specs.Prelude.{◌≡◌, ◌<◌, true, false, All, Contains, map, length, nat_lt, IfOk, IfSome};
 ghost use Rattle.std.specs.Arc.{arc_value};
 ghost use Rattle.engine.specs.Entry.{entry_view};
-ghost use Rattle.engine.specs.Parts.{all_published, documents_of_parts, merge_of, published_of, woven, AllInOrder, AreKnown, IsMade, IsSplit};
-ghost use Rattle.engine.specs.Published.{are_taken, greatest, AreAmong};
+ghost use Rattle.engine.specs.Parts.{all_published, documents_of_parts, merge_of, published_of, woven, AllInOrder, IsMade, IsSplit};
+ghost use Rattle.engine.specs.Published.{are_taken, greatest};
 ghost use Rattle.std.specs.List.{list_all};
 
 use crate::documents::Entry;
@@ -90,19 +90,6 @@ fn are_below_greatest(parts: &[Part]) -> bool
     true
 }
 
-/// Whether each of some parts is among all.
-pub(crate) fn are_among(all: &[Part], some: &[Part]) -> bool
-    ensures yes { result ≡ true → AreAmong (all_published all.now) (all_published some.now) }
-    ensures no { result ≡ false → AreAmong (all_published all.now) (all_published some.now) → ⊥ }
-{
-    for part in some {
-        if !is_among(all, part) {
-            return false;
-        }
-    }
-    true
-}
-
 /// Whether a part is among all, whichever of its documents are live there.
 fn is_among(all: &[Part], part: &Part) -> bool
     ensures yes { result ≡ true → Contains (all_published all.now) (published_of part.now) }
@@ -110,21 +97,6 @@ fn is_among(all: &[Part], part: &Part) -> bool
 {
     for other in all {
         if other.is_as(part) {
-            return true;
-        }
-    }
-    false
-}
-
-/// Whether one of all parts is one of those that were taken: its number says it, and no document needs to be compared.
-fn is_taken(_all: &[Part], taken: &[Part], part: &Part) -> bool
-    requires known { AreKnown (all_published _all.now) (all_published taken.now) }
-    requires there { Contains (all_published _all.now) (published_of part.now) }
-    ensures yes { result ≡ true → Contains (all_published taken.now) (published_of part.now) }
-    ensures no { result ≡ false → Contains (all_published taken.now) (published_of part.now) → ⊥ }
-{
-    for other in taken {
-        if other.number() == part.number() {
             return true;
         }
     }
@@ -140,14 +112,13 @@ pub(crate) struct Halves {
 
 /// Parts in two halves: those that were taken go, the others stay.
 pub(crate) fn split(alloc: Global, parts: &[Part], taken: &[Part]) -> Result<Halves, AllocError>
-    requires { AreKnown (all_published parts.now) (all_published taken.now) }
     ensures { IfOk result (λ h. IsSplit (all_published taken.now) parts.now h.stay.items h.go.items) }
 {
     let mut stay = Vec::new(alloc);
     let mut go = Vec::new(alloc);
     for part in parts {
         let copy = part.copy()?;
-        if is_taken(parts, taken, part) {
+        if is_among(taken, part) {
             go.push(copy)?;
         } else {
             stay.push(copy)?;

@@ -39,7 +39,7 @@ fn empty(alloc: Global) -> Result<Engine, Fail> {
     Ok(Engine::open(alloc, mapping, Vec::new(alloc))?)
 }
 
-/// Segments of 40 documents and of 12, beside the one that an engine opens with.
+/// Segments of 40 documents and of 12; the empty one that an engine opens with is gone then.
 fn write_two_parts(alloc: Global, engine: &mut Engine) -> Result<(), Fail> {
     write_all(alloc, engine, 10, 50)?;
     write_all(alloc, engine, 50, 62)
@@ -156,7 +156,7 @@ fn are_merged(alloc: Global, engine: &mut Engine) -> Result<bool, Fail> {
     let record = delete_of(alloc, 40, "d11")?;
     let _taken = engine.apply(alloc, &record)?;
     show_merged(alloc, engine)?;
-    Ok(engine.segments() <= 8 && finds(alloc, engine, 29, 1, "d12")?)
+    Ok(engine.segments() <= 16 && finds(alloc, engine, 29, 1, "d12")?)
 }
 
 #[test]
@@ -180,12 +180,13 @@ fn write_apart(alloc: Global, engine: &mut Engine, first: u8, end: u8) -> Result
 
 /// Whether four of ten segments go into one, beside a delete in one of them, and searches find what they found.
 fn merges_some(alloc: Global, engine: &mut Engine) -> Result<bool, Fail> {
-    write_apart(alloc, engine, 10, 19)?;
-    let merged = engine.begin_merge_of(alloc, &[2, 4, 5, 7])?.build(alloc)?;
-    let deleted = delete(alloc, engine, 19, "d13");
+    write_all(alloc, engine, 10, 13)?;
+    write_apart(alloc, engine, 13, 22)?;
+    let merged = engine.begin_merge_of(alloc, &[1, 4, 5, 7])?.build(alloc)?;
+    let deleted = delete(alloc, engine, 22, "d11");
     let is_merged = swap(alloc, engine, merged, deleted)?;
     let segments = engine.segments() == 7 && engine.snapshot().segments() == 7;
-    Ok(is_merged && segments && finds(alloc, engine, 8, 3, "d14")?)
+    Ok(is_merged && segments && finds(alloc, engine, 11, 2, "d13")?)
 }
 
 #[test]
@@ -206,11 +207,11 @@ fn to_merge(alloc: Global, engine: &Engine) -> Result<Option<usize>, Fail> {
     }
 }
 
-/// Whether eight segments stay side by side, and of eleven small ones ten are to be merged.
+/// Whether sixteen segments stay side by side, and of seventeen small ones ten are to be merged.
 fn merges_many(alloc: Global, engine: &mut Engine) -> Result<bool, Fail> {
-    write_apart(alloc, engine, 10, 17)?;
+    write_apart(alloc, engine, 10, 26)?;
     let few = to_merge(alloc, engine)?;
-    write_apart(alloc, engine, 17, 20)?;
+    write_apart(alloc, engine, 26, 27)?;
     let many = to_merge(alloc, engine)?;
     Ok(few.is_none() && many == Some(10))
 }
@@ -220,6 +221,48 @@ fn many_segments_are_to_be_merged(rt: HostRuntime) -> Result<(), Fail> {
     let alloc = rt.alloc();
     let mut engine = empty(alloc)?;
     let is_so = merges_many(alloc, &mut engine);
+    drop(engine);
+    assert!(rt; is_so?);
+    Ok(())
+}
+
+/// Whether the segments of documents that are written again and again go without a merge, and the last one once its document is deleted.
+fn are_dropped(alloc: Global, engine: &mut Engine) -> Result<bool, Fail> {
+    for seq in 10..30 {
+        let record = index(alloc, seq, "d10")?;
+        let _taken = engine.apply(alloc, &record)?;
+        let _point = engine.refresh(alloc)?;
+    }
+    let is_one = engine.segments() == 1 && finds(alloc, engine, 1, 0, "d10")?;
+    delete(alloc, engine, 30, "d10")?;
+    Ok(is_one && engine.segments() == 0 && engine.snapshot().segments() == 0)
+}
+
+#[test]
+fn segments_without_documents_go(rt: HostRuntime) -> Result<(), Fail> {
+    let alloc = rt.alloc();
+    let mut engine = empty(alloc)?;
+    let is_so = are_dropped(alloc, &mut engine);
+    drop(engine);
+    assert!(rt; is_so?);
+    Ok(())
+}
+
+/// Whether a merge is put in place though a segment that it took was dropped beside it, and shows what is live in the others.
+fn is_merged_beside_a_drop(alloc: Global, engine: &mut Engine) -> Result<bool, Fail> {
+    write_apart(alloc, engine, 10, 19)?;
+    let merged = engine.begin_merge_of(alloc, &[2, 4, 5, 7])?.build(alloc)?;
+    let deleted = delete(alloc, engine, 19, "d13");
+    let is_dropped = engine.segments() == 8;
+    let is_merged = swap(alloc, engine, merged, deleted)?;
+    Ok(is_dropped && is_merged && engine.segments() == 6 && finds(alloc, engine, 8, 3, "d14")?)
+}
+
+#[test]
+fn a_merge_goes_on_without_a_dropped_segment(rt: HostRuntime) -> Result<(), Fail> {
+    let alloc = rt.alloc();
+    let mut engine = empty(alloc)?;
+    let is_so = is_merged_beside_a_drop(alloc, &mut engine);
     drop(engine);
     assert!(rt; is_so?);
     Ok(())

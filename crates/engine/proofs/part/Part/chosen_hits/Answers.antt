@@ -11,8 +11,11 @@ use Rattle.engine.proofs.part.Part.chosen_hits.Goals as goal
 use Rattle.engine.specs.Parts.{PartData}
 
 -- the marks are those of the block
-pub find_places-requires : goal.find_places-requires
-find_places-requires c = rw (c.deref-2.ensures, c.deref-3.ensures) c.self.invariant
+pub find_places-requires-clause-whole : goal.find_places-requires-clause-whole
+find_places-requires-clause-whole c = rw (c.deref-2.ensures, c.deref-3.ensures) c.self.invariant.whole
+
+pub find_places-requires-clause-full : goal.find_places-requires-clause-full
+find_places-requires-clause-full c = rw (c.deref-2.ensures, c.deref-3.ensures) c.self.invariant.full
 
 -- the places are those of documents
 pub shown_at-requires : goal.shown_at-requires

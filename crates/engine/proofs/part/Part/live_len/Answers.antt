@@ -1,9 +1,6 @@
-use Rattle.std.proofs.Common.{◌≡◌, ◌∙◌, ap, arith, length, Bool, List}
+use Rattle.std.proofs.Common.{◌∙◌, ap, arith, length}
 use Rattle.std.specs.Arc.{arc_value}
-use Rattle.marks.specs.Lists.{places}
-use Rattle.segment.specs.Merged.{chosen}
 use Rattle.engine.specs.Parts.{PartData}
-use Rattle.engine.proofs.ChosenLaws.{chosen-counted}
 use Rattle.engine.proofs.ShareLaws.{length-chosen}
 use Rattle.engine.proofs.part.Part.live_len.Goals as goal
 
@@ -11,13 +8,11 @@ use Rattle.engine.proofs.part.Part.live_len.Goals as goal
 pub returns-clause-is : goal.returns-clause-is
 returns-clause-is c =
     let docs = (arc_value c.self.inside.block).documents in
-    c.count.ensures ∙ ap (λ (m : List Bool). length (places (λ (b : Bool). b) m)) c.deref-2.ensures
-    ∙ chosen-counted docs (arc_value c.self.inside.live) c.self.invariant.whole ∙ ap (λ (s : PartData). length s.documents) c.self.view_is
+    c.self.invariant.counted ∙ ap (λ (s : PartData). length s.documents) c.self.view_is
 
 pub returns-clause-few : goal.returns-clause-few
 returns-clause-few c =
     let docs = (arc_value c.self.inside.block).documents in
     let live = arc_value c.self.inside.live in
-    let count : c.count.result ≡ length (chosen docs live) = c.count.ensures ∙ ap (λ (m : List Bool). length (places (λ (b : Bool). b) m)) c.deref-2.ensures ∙ chosen-counted docs live c.self.invariant.whole in
     let len = rw c.deref.ensures at c.len-few.ensures.is in
-    omega (arith, count, length-chosen docs live, len, c.len-few.ensures.few)
+    omega (arith, c.self.invariant.counted, length-chosen docs live, len, c.len-few.ensures.few)

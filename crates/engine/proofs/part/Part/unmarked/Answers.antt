@@ -2,9 +2,10 @@ use Rattle.std.proofs.Common.{◌∙◌, ◌&&◌, ◌||◌, not, false, ap, ari
 use Rattle.std.specs.Prelude.{replicate}
 use Rattle.std.specs.Arc.{arc_value}
 use Rattle.std.proofs.lemmas.List.{length-map}
-use Rattle.marks.specs.Lists.{zip_with}
+use Rattle.marks.specs.Lists.{places, zip_with}
 use Rattle.engine.specs.Parts.{PartData, is_among, without}
 use Rattle.engine.proofs.PartLaws.{Item}
+use Rattle.engine.proofs.ChosenLaws.{chosen-counted}
 use Rattle.engine.proofs.ShareLaws.{none-among, left-long, left-chosen, united-long, counted-full}
 use Rattle.engine.proofs.part.Part.unmarked.Goals as goal
 
@@ -26,8 +27,8 @@ subtract-requires c =
     ap length dead ∙ length-map docs (λ (d : Item). is_among c.args.ids.now d.0) ∙ sym (ap length united ∙ united-long c.args.ids.now docs live c.self.invariant.whole c.len-len.result len)
 
 -- there are as many marks as documents
-pub count-requires : goal.count-requires
-count-requires c =
+pub count-live_len-requires : goal.count-live_len-requires
+count-live_len-requires c =
     let docs = (arc_value c.self.inside.block).documents in
     let live = arc_value c.self.inside.live in
     let unite = rw c.deref-3.ensures at c.unite.ensures in
@@ -49,7 +50,8 @@ invariant_of-result c =
     rw (c.in_ok-block.ensures, c.in_ok-live-2.ensures.ok, marks) (record {
       sorted = c.self.invariant.sorted;
       whole = left-long c.args.ids.now docs live c.self.invariant.whole c.len-len.result len;
-      full = λ all. sym marks ∙ counted-full c.subtract.new.self (length docs) c.count.result c.len-len.result (ap length marks ∙ left-long c.args.ids.now docs live c.self.invariant.whole c.len-len.result len) c.count.ensures len all;
+      counted = c.count-live_len.ensures ∙ ap (λ (bs : List Bool). length (places (λ (b : Bool). b) bs)) marks ∙ chosen-counted docs _ (left-long c.args.ids.now docs live c.self.invariant.whole c.len-len.result len);
+      full = λ all. sym marks ∙ counted-full c.subtract.new.self (length docs) c.count-live_len.result c.len-len.result (ap length marks ∙ left-long c.args.ids.now docs live c.self.invariant.whole c.len-len.result len) c.count-live_len.ensures len all;
     })
 
 -- those that are left

@@ -3,15 +3,9 @@ use Rattle.std.specs.Arc.{arc_value}
 use Rattle.doc.specs.Mapping.{MappingData}
 use Rattle.engine.specs.Answer.{SnapshotData}
 use Rattle.engine.specs.Contents.{ShowingData, segments_shown}
-use Rattle.engine.specs.Published.{Segments, AreAmong, AreBelow, IsSwapped}
+use Rattle.engine.specs.Published.{Segments, AreBelow, AreGone, IsSwapped}
 use Rattle.engine.proofs.PublishedLaws.{below-numbered, replaced-distinct, replaced-numbered, swapped}
 use Rattle.engine.proofs.showing.Showing.swapped_by.Goals as goal
-
-pub swapped-requires-clause-distinct : goal.swapped-requires-clause-distinct
-swapped-requires-clause-distinct c = rw c.deref.ensures c.self.invariant.distinct
-
-pub swapped-requires-clause-taken : goal.swapped-requires-clause-taken
-swapped-requires-clause-taken c = rw c.parts.ensures c.requires
 
 -- the number of the merged segment isn't given again
 pub shown-requires-clause-below : goal.shown-requires-clause-below
@@ -29,7 +23,7 @@ shown-requires-clause-distinct c =
 
 pub returns-in_ok-showing-in-Some-clause-there : goal.returns-in_ok-showing-in-Some-clause-there
 returns-in_ok-showing-in-Some-clause-there c =
-    subst (λ (e : ShowingData). AreAmong e.published c.args.taken.now.published) c.self.view_is
+    subst (λ (e : ShowingData). AreGone e.published c.args.taken.now.published → ⊥) c.self.view_is
     (rw (c.in-Some.is, c.deref.ensures, c.parts.ensures) at c.in_ok-parts.ensures.there)
 
 -- those that were taken bear numbers that were given, and not the greatest
@@ -38,15 +32,14 @@ returns-in_ok-showing-in-Some-clause-swapped c =
     let taken = c.args.taken.now.published in
     let old : Segments = record { mapping = (arc_value c.self.inside.parts).mapping; published = (arc_value c.self.inside.parts).published; next = c.self.inside.next } in
     let new : Segments = record { mapping = c.in-Some.parts.mapping; published = c.in-Some.parts.published; next = c.saturating_add.result } in
-    let there = rw (c.in-Some.is, c.deref.ensures, c.parts.ensures) at c.in_ok-parts.ensures.there in
     let replaced = rw (c.in-Some.is, c.deref.ensures, c.parts.ensures) at c.in_ok-parts.ensures.swapped in
     let was : old ≡ segments_shown c.args.self.now = ap (λ (m : MappingData). let o : Segments = record old { mapping = m } in o) (ap (λ (s : SnapshotData). s.mapping) (sym c.self.invariant.same)) ∙ ap segments_shown c.self.view_is in
     let is : new ≡ segments_shown c.in_ok-showing-in-Some.showing = ap segments_shown (sym c.in_ok-showing-in-Some.ensures) in
     subst (λ (s : Segments). IsSwapped taken (segments_shown c.args.self.now) s) is
     (subst (λ (o : Segments). IsSwapped taken o new) was
-    (swapped taken old new c.requires c.self.invariant.below there replaced c.saturating_add.ensures))
+    (swapped taken old new c.requires c.self.invariant.below replaced c.saturating_add.ensures))
 
 pub returns-in-None-clause-gone : goal.returns-in-None-clause-gone
 returns-in-None-clause-gone c =
     let gone = rw (c.deref.ensures, c.parts.ensures) at c.in_ok-parts.ensures.gone in
-    λ none among. gone c.in-None.is (subst (λ (e : ShowingData). AreAmong e.published c.args.taken.now.published) (sym c.self.view_is) among)
+    λ none. subst (λ (e : ShowingData). AreGone e.published c.args.taken.now.published) c.self.view_is (gone c.in-None.is)
