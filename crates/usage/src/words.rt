@@ -6,16 +6,16 @@ use std::alloc::{AllocError, Global};
 
 /// The words that the command line takes, with what `--help` says of them.
 pub fn command<'a>(alloc: Global) -> Result<Command<'a>, AllocError> {
-    Command::new(alloc, "indexd")
+    let command = Command::new(alloc, "indexd")
         .version("0.1.0")
         .about("An index of JSON documents whose promises are proved")
         .after_help(LINES)
-        .subcommand_required(true)
-        .subcommand(replay_command(alloc)?)?
-        .subcommand(serve_command(alloc)?)?
-        .subcommand(dump_command(alloc)?)?
-        .subcommand(audit_command(alloc)?)?
-        .subcommand(inspect_command(alloc)?)
+        .subcommand_required(true);
+    let command = with_subcommand(command, replay_command(alloc))?;
+    let command = with_subcommand(command, serve_command(alloc))?;
+    let command = with_subcommand(command, dump_command(alloc))?;
+    let command = with_subcommand(command, audit_command(alloc))?;
+    with_subcommand(command, inspect_command(alloc))
 }
 
 fn replay_command<'a>(alloc: Global) -> Result<Command<'a>, AllocError> {
@@ -23,49 +23,56 @@ fn replay_command<'a>(alloc: Global) -> Result<Command<'a>, AllocError> {
         .required(true)
         .action(ArgAction::Set)
         .help("The script, or `-` for standard input");
-    let explain = flag(
-        alloc,
-        "explain",
-        "Says on standard error why each line is refused (at a terminal it always does)",
-    );
-    Command::new(alloc, "replay")
+    let command = Command::new(alloc, "replay")
         .about("Plays a script over a new index, and prints what each line answers")
         .after_help(LINES)
-        .arg(file)?
-        .arg(explain)
+        .arg(file)?;
+    with_flag(
+        alloc,
+        command,
+        "explain",
+        "Says on standard error why each line is refused (at a terminal it always does)",
+    )
 }
 
 fn serve_command<'a>(alloc: Global) -> Result<Command<'a>, AllocError> {
+    let command = Command::new(alloc, "serve")
+        .about("Serves an index over HTTP, as Elasticsearch's requests ask it")
+        .after_help(KEPT);
+    with_answers(
+        alloc,
+        with_clients(alloc, with_run(alloc, with_index(alloc, command)?)?)?,
+    )
+}
+
+/// The options of `serve` that say what is served, and where.
+fn with_index<'a>(alloc: Global, command: Command<'a>) -> Result<Command<'a>, AllocError> {
     let port = option(alloc, "port", "The port on 127.0.0.1, 1 to 65535")
         .required(true)
         .value_name("P")
         .value_parser(clap::value_parser!(u16).range(1..));
-    let index = option(
+    let command = command.arg(port)?;
+    let command = with_text(
         alloc,
+        command,
         "index",
+        "NAME",
         "The name of the index; `index` where none is given",
-    )
-    .value_name("NAME");
-    let mapping = option(
+    )?;
+    let command = with_text(
         alloc,
+        command,
         "mapping",
+        "FILE",
         "The file of the mapping; where none is given, the one that is kept, or an empty one",
-    )
-    .value_name("FILE");
-    let data = option(
+    )?;
+    with_text(
         alloc,
+        command,
         "data",
+        "DIR",
         "The folder that the index is kept in; where none is given, it is in memory and ends with the server",
     )
-    .value_name("DIR");
-    let command = Command::new(alloc, "serve")
-        .about("Serves an index over HTTP, as Elasticsearch's requests ask it")
-        .after_help(KEPT)
-        .arg(port)?
-        .arg(index)?
-        .arg(mapping)?
-        .arg(data)?;
-    with_answers(alloc, with_clients(alloc, with_run(alloc, command)?)?)
 }
 
 /// When the logs of a folder may be synced.
@@ -73,79 +80,58 @@ const SYNCS: [&str; 2] = ["each", "together"];
 
 /// The options of `serve` that say how connections are served.
 fn with_clients<'a>(alloc: Global, command: Command<'a>) -> Result<Command<'a>, AllocError> {
-    let threads = option(
+    let command = with_number(
         alloc,
+        command,
         "threads",
         "How many threads answer requests, 1 to 64; where none is given 4, or 64 with `--sync together`",
-    )
-    .value_name("N")
-    .value_parser(clap::value_parser!(u64).range(1..=64));
-    let idle = option(
+        1,
+        64,
+    )?;
+    let command = with_number(
         alloc,
+        command,
         "idle-s",
         "For how many seconds a connection is kept that has no request, 1 to 3600; 60 where none is given",
-    )
-    .value_name("N")
-    .value_parser(clap::value_parser!(u64).range(1..=3_600));
-    let request = option(
+        1,
+        3_600,
+    )?;
+    with_number(
         alloc,
+        command,
         "request-mb",
         "How many MB of unfinished requests there are at once, 4 to 4096; 64 where none is given",
+        4,
+        4_096,
     )
-    .value_name("N")
-    .value_parser(clap::value_parser!(u64).range(4..=4_096));
-    command.arg(threads)?.arg(idle)?.arg(request)
 }
 
 /// The options of `serve` that say how requests are answered.
 fn with_answers<'a>(alloc: Global, command: Command<'a>) -> Result<Command<'a>, AllocError> {
-    let explain = flag(
+    let command = with_flag(
         alloc,
+        command,
         "explain",
         "Says on standard error why each request is refused (at a terminal it always does)",
-    );
-    let greet = flag(
+    )?;
+    with_flag(
         alloc,
+        command,
         "greet",
         "Answers GET / and HEAD as Elasticsearch 7.10 does, so that its clients run",
-    );
-    command.arg(explain)?.arg(greet)
+    )
 }
 
 /// The options of `serve` that say how many copies run, and for how long.
 fn with_run<'a>(alloc: Global, command: Command<'a>) -> Result<Command<'a>, AllocError> {
-    let copies = option(
+    let command = with_number(
         alloc,
+        command,
         "copies",
         "How many copies the index has, 1 to 5, each on a thread of its own; 1 where none is given",
-    )
-    .value_name("N")
-    .value_parser(clap::value_parser!(u64).range(1..=5));
-    let audit = flag(
-        alloc,
-        "audit",
-        "Audits at the end what the copies did; with --connections alone",
-    );
-    let connections = option(
-        alloc,
-        "connections",
-        "After how many connections to end; no end where none is given",
-    )
-    .value_name("N")
-    .value_parser(clap::value_parser!(u64).range(1..=1_000_000));
-    let journals = option(
-        alloc,
-        "journals",
-        "The folder that the journals are written to before they are audited; with --audit alone",
-    )
-    .value_name("DIR");
-    let refresh = option(
-        alloc,
-        "refresh-ms",
-        "After how many milliseconds the index is refreshed again, up to 3600000; 0 for never, 1000 where none is given",
-    )
-    .value_name("N")
-    .value_parser(clap::value_parser!(u64).range(0..=3_600_000));
+        1,
+        5,
+    )?;
     let sync = option(
         alloc,
         "sync",
@@ -153,13 +139,41 @@ fn with_run<'a>(alloc: Global, command: Command<'a>) -> Result<Command<'a>, Allo
     )
     .value_name("WHICH")
     .value_parser(SYNCS.as_slice());
-    command
-        .arg(copies)?
-        .arg(sync)?
-        .arg(connections)?
-        .arg(audit)?
-        .arg(journals)?
-        .arg(refresh)
+    let command = command.arg(sync)?;
+    with_ends(alloc, command)
+}
+
+/// The options of `serve` that say when it ends, what is audited then, and how often the index is refreshed.
+fn with_ends<'a>(alloc: Global, command: Command<'a>) -> Result<Command<'a>, AllocError> {
+    let command = with_number(
+        alloc,
+        command,
+        "connections",
+        "After how many connections to end; no end where none is given",
+        1,
+        1_000_000,
+    )?;
+    let command = with_flag(
+        alloc,
+        command,
+        "audit",
+        "Audits at the end what the copies did; with --connections alone",
+    )?;
+    let command = with_text(
+        alloc,
+        command,
+        "journals",
+        "DIR",
+        "The folder that the journals are written to before they are audited; with --audit alone",
+    )?;
+    with_number(
+        alloc,
+        command,
+        "refresh-ms",
+        "After how many milliseconds the index is refreshed again, up to 3600000; 0 for never, 1000 where none is given",
+        0,
+        3_600_000,
+    )
 }
 
 fn dump_command<'a>(alloc: Global) -> Result<Command<'a>, AllocError> {
@@ -170,34 +184,47 @@ fn dump_command<'a>(alloc: Global) -> Result<Command<'a>, AllocError> {
     )
     .required(true)
     .value_name("DIR");
-    let mapping = flag(
+    let command = Command::new(alloc, "dump")
+        .about("Writes the documents of a folder as the lines of a bulk request")
+        .after_help(MOVED)
+        .arg(data)?;
+    let command = with_flag(
         alloc,
+        command,
         "mapping",
         "Writes the mapping, on one line, and no documents",
-    );
+    )?;
+    with_parts(alloc, command)
+}
+
+/// The options of `dump` that say which files it writes.
+fn with_parts<'a>(alloc: Global, command: Command<'a>) -> Result<Command<'a>, AllocError> {
+    let command = with_option(command, bytes_option(alloc))?;
+    with_option(command, folder_option(alloc))
+}
+
+fn bytes_option<'a>(alloc: Global) -> Result<Arg<'a>, AllocError> {
     let bytes = option(
         alloc,
         "bytes",
         "Writes the documents to files of at most so many bytes; with --to alone",
     )
     .value_name("N")
-    .value_parser(clap::value_parser!(u64).range(1..))
-    .requires_arg("to")?
-    .conflicts_with("mapping")?;
-    let to = option(
+    .value_parser(clap::value_parser!(u64).range(1..));
+    match bytes.requires_arg("to") {
+        Ok(bytes) => bytes.conflicts_with("mapping"),
+        Err(fault) => Err(fault),
+    }
+}
+
+fn folder_option<'a>(alloc: Global) -> Result<Arg<'a>, AllocError> {
+    option(
         alloc,
         "to",
         "The folder of these files, new or empty; with --bytes alone",
     )
     .value_name("FOLDER")
-    .requires_arg("bytes")?;
-    Command::new(alloc, "dump")
-        .about("Writes the documents of a folder as the lines of a bulk request")
-        .after_help(MOVED)
-        .arg(data)?
-        .arg(mapping)?
-        .arg(bytes)?
-        .arg(to)
+    .requires_arg("bytes")
 }
 
 fn audit_command<'a>(alloc: Global) -> Result<Command<'a>, AllocError> {
@@ -223,18 +250,78 @@ fn inspect_command<'a>(alloc: Global) -> Result<Command<'a>, AllocError> {
         .arg(files)
 }
 
+/// Adds an option whose value is a text.
+fn with_text<'a>(
+    alloc: Global,
+    command: Command<'a>,
+    name: &'a str,
+    value: &'a str,
+    help: &'a str,
+) -> Result<Command<'a>, AllocError> {
+    command.arg(option(alloc, name, help).value_name(value))
+}
+
+/// Adds an option whose value is a number of at least `least` and at most `most`.
+fn with_number<'a>(
+    alloc: Global,
+    command: Command<'a>,
+    name: &'a str,
+    help: &'a str,
+    least: i64,
+    most: i64,
+) -> Result<Command<'a>, AllocError> {
+    let number = option(alloc, name, help)
+        .value_name("N")
+        .value_parser(clap::value_parser!(u64).range(least..=most));
+    command.arg(number)
+}
+
+/// Adds an option without a value.
+fn with_flag<'a>(
+    alloc: Global,
+    command: Command<'a>,
+    name: &'a str,
+    help: &'a str,
+) -> Result<Command<'a>, AllocError> {
+    let flag = Arg::new(alloc, name)
+        .long(name)
+        .action(ArgAction::SetTrue)
+        .help(help);
+    command.arg(flag)
+}
+
+/// Adds a subcommand, where it could be made.
+fn with_subcommand<'a>(
+    command: Command<'a>,
+    made: Result<Command<'a>, AllocError>,
+) -> Result<Command<'a>, AllocError> {
+    match made {
+        Ok(subcommand) => command.subcommand(subcommand),
+        Err(fault) => {
+            drop(command);
+            Err(fault)
+        }
+    }
+}
+
+/// Adds an option, where it could be made.
+fn with_option<'a>(
+    command: Command<'a>,
+    made: Result<Arg<'a>, AllocError>,
+) -> Result<Command<'a>, AllocError> {
+    match made {
+        Ok(option) => command.arg(option),
+        Err(fault) => {
+            drop(command);
+            Err(fault)
+        }
+    }
+}
+
 /// An option with a value.
 fn option<'a>(alloc: Global, name: &'a str, help: &'a str) -> Arg<'a> {
     Arg::new(alloc, name)
         .long(name)
         .action(ArgAction::Set)
-        .help(help)
-}
-
-/// An option without a value.
-fn flag<'a>(alloc: Global, name: &'a str, help: &'a str) -> Arg<'a> {
-    Arg::new(alloc, name)
-        .long(name)
-        .action(ArgAction::SetTrue)
         .help(help)
 }
