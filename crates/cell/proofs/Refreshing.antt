@@ -15,7 +15,7 @@ use Rattle.published.specs.Showing.{cell_of}
 use Rattle.published.specs.Told.{IsOf}
 use Rattle.node.specs.declared.fault.NodeFault.{NodeFault}
 use Rattle.node.specs.declared.fault.NodeFault.TheVariants.{NoMemory}
-use Rattle.node.specs.declared.pass.Receipt.{Receipt}
+use Rattle.node.specs.Entry.{Receipt}
 use Rattle.node.specs.Passes.{PassData}
 use Rattle.node.specs.Held.{IsCall, JournalData}
 use Rattle.cell.specs.Publishing.{CellData, IsAllShown, IsPublished, IsRefusedCall, IsShownAfter}

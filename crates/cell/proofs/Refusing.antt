@@ -6,7 +6,7 @@ use Rattle.replica.specs.Logged.{Logged, is_refresh}
 use Rattle.published.specs.Line.{Line}
 use Rattle.node.specs.declared.fault.NodeFault.{NodeFault}
 use Rattle.node.specs.declared.fault.NodeFault.TheVariants.{NoMemory, NoSeat, Copy as Refused, Stray}
-use Rattle.node.specs.declared.pass.Receipt.{Receipt}
+use Rattle.node.specs.Entry.{Receipt}
 use Rattle.node.specs.Passes.{PassData}
 use Rattle.node.specs.Held.{JournalData, IsCall, IsHeld}
 use Rattle.cell.specs.Publishing.{CellData, IsKept, IsPublished, IsRefusedCall, IsShownAfter, IsStepped, IsAllShown}

@@ -10,7 +10,7 @@ use Rattle.published.specs.Showing.{cell_of}
 use Rattle.published.specs.declared.showing.Showing.{Showing}
 use Rattle.node.specs.declared.fault.NodeFault.{NodeFault}
 use Rattle.node.specs.declared.fault.NodeFault.TheVariants.{NoMemory, NoSeat, Copy as Refused, Stray}
-use Rattle.node.specs.declared.pass.Receipt.{Receipt}
+use Rattle.node.specs.Entry.{Receipt}
 use Rattle.node.specs.Passes.{PassData}
 use Rattle.node.specs.Held.{JournalData, IsCall}
 use Rattle.node.specs.Stands.{IsDenied}

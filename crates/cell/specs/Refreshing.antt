@@ -5,7 +5,7 @@ use Rattle.replica.specs.declared.input.Write.{Write}
 use Rattle.published.specs.declared.listing.Listing.{Listing}
 use Rattle.node.specs.declared.fault.NodeFault.{NodeFault}
 use Rattle.node.specs.declared.fault.NodeFault.TheVariants.{NoMemory}
-use Rattle.node.specs.declared.pass.Receipt.{Receipt}
+use Rattle.node.specs.Entry.{Receipt}
 use Rattle.node.specs.Passes.{PassData}
 use Rattle.node.specs.Held.{IsCall}
 use Rattle.cell.specs.Publishing.{CellData, IsAllShown, IsRefusedCall}

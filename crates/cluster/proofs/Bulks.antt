@@ -1,6 +1,6 @@
 -- Places of the writes of a bulk.
 use Rattle.std.proofs.Common.{◌≡◌, ℕ, zero, suc, ◌+◌, ◌<◌, List, [], ◌∷◌, ◌++◌, length, take, get_or, subst, sym, arith}
-use Rattle.node.specs.declared.pass.Receipt.{Receipt}
+use Rattle.node.specs.Entry.{Receipt}
 use Rattle.replica.specs.declared.output.Item.{Item}
 use Rattle.cluster.specs.Bulks.{AreSettledAt, IsSettledAt}
 

@@ -1,5 +1,5 @@
 -- Receipts that answer a bulk.
-use Rattle.std.specs.Prelude.{◌≡◌, ℕ, Bool, true, false, List, [], ◌∷◌, slice_get, Option, Some, None, Result, Ok, Err}
+use Rattle.std.specs.Prelude.{◌≡◌, ℕ, Bool, true, false, List, [], ◌∷◌, slice_get, All, Option, Some, None, Result, Ok, Err}
 use Rattle.replica.specs.declared.fault.CopyFault.{CopyFault}
 use Rattle.replica.specs.declared.input.Input.TheVariants.{Bulk}
 use Rattle.replica.specs.declared.input.Write.{Write}
@@ -9,11 +9,11 @@ use Rattle.replica.specs.declared.output.Item.{Item}
 use Rattle.replica.specs.declared.output.Item.TheVariants.{Wrote, Refused}
 use Rattle.replica.specs.declared.output.Output.{Output}
 use Rattle.replica.specs.declared.output.Written.{Written}
-use Rattle.node.specs.declared.pass.Receipt.{Receipt}
+use Rattle.node.specs.Entry.{Receipt, IsEntry}
 use Rattle.cluster.specs.declared.confirmed.ConfirmedBulk.{ConfirmedBulk}
 use Rattle.cluster.specs.declared.fault.ClusterFault.{ClusterFault}
 use Rattle.cluster.specs.declared.fault.ClusterFault.TheVariants.{NoPrimary, Lost, Unconfirmed, NoMemory, NoSeat, Copy, Master, Stray, Running, Unopened}
-use Rattle.cluster.specs.Confirmed.{Acknowledges, is_no_primary}
+use Rattle.cluster.specs.Confirmed.{Acknowledges, is_no_primary, IsBehind}
 
 -- what became of the writes of a bulk
 abbrev pub bulked_as : Answer → Option (List Item)
@@ -65,11 +65,14 @@ pub record AreBulkSettledAt (bulk : Receipt) (entries : List Receipt) (places : 
 pub record IsSettledBulk (bulk : Receipt) (c : ConfirmedBulk) : Type 0 where
   pub is : c.bulk ≡ bulk
   pub settled : AreBulkSettledAt c.bulk c.acknowledgements.items c.places.items
+  pub behind : All (IsBehind c.bulk) c.acknowledgements.items
 
--- a bulk with an entry of its own, and for each of its writes that was kept one that acknowledges it
+-- a bulk with an entry of its own in a legal journal of its copy, and for each of its writes that was kept one of that copy that acknowledges it
 pub record IsBulkConfirmed (writes : List Write) (c : ConfirmedBulk) : Type 0 where
   pub asked : c.bulk.deed.input ≡ Bulk writes
+  pub stands : IsEntry c.bulk
   pub settled : AreBulkSettledAt c.bulk c.acknowledgements.items c.places.items
+  pub behind : All (IsBehind c.bulk) c.acknowledgements.items
 
 -- the entry of a bulk of which something was kept
 pub record HasKept (r : Receipt) : Type 0 where
@@ -80,11 +83,12 @@ pub record HasKept (r : Receipt) : Type 0 where
 -- a bulk of which its copy kept something that is perhaps lost
 pub record IsBulkLost (writes : List Write) (r : Receipt) : Type 0 where
   pub asked : r.deed.input ≡ Bulk writes
+  pub stands : IsEntry r
   pub kept : HasKept r
 
 -- what a refused bulk shows: that no copy is the primary, or that something of it was kept
 abbrev pub IsBulkRefused : List Write → ClusterFault → Type 0
-IsBulkRefused writes (NoPrimary r) = (r.deed.input ≡ Bulk writes) × (is_no_primary r.deed.answer ≡ true)
+IsBulkRefused writes (NoPrimary r) = (r.deed.input ≡ Bulk writes) × IsEntry r × (is_no_primary r.deed.answer ≡ true)
 IsBulkRefused writes (Lost r last) = IsBulkLost writes r
 IsBulkRefused writes (Unconfirmed r) = IsBulkLost writes r
 IsBulkRefused writes NoMemory = Unit {0}

@@ -1,5 +1,5 @@
 -- Receipts that answer what was asked.
-use Rattle.std.specs.Prelude.{◌≡◌, ℕ, Bool, true, false, List, slice_get, Option, Some, None, Result, Ok, Err}
+use Rattle.std.specs.Prelude.{◌≡◌, ◌≤◌, ℕ, Bool, true, false, List, slice_get, Option, Some, None, Result, Ok, Err}
 use Rattle.op.specs.declared.operation.Op.{Op}
 use Rattle.replica.specs.declared.fault.CopyFault.{CopyFault}
 use Rattle.replica.specs.declared.fault.CopyFault.TheVariants.{NotPrimary, VersionConflict, WindowFull, OldTerm, NotSynced, BeyondWindow, Mismatch, Closed, Log, NoMemory as OutOfMemory, WrongAddress, Exhausted}
@@ -10,7 +10,7 @@ use Rattle.replica.specs.declared.output.Answer.{Answer}
 use Rattle.replica.specs.declared.output.Answer.TheVariants.{Wrote, Bulked, Taken, Stale, Repeated, Reported, Found, Missing, Point}
 use Rattle.replica.specs.declared.output.Output.{Output}
 use Rattle.replica.specs.declared.output.Written.{Written}
-use Rattle.node.specs.declared.pass.Receipt.{Receipt}
+use Rattle.node.specs.Entry.{Receipt, IsEntry}
 use Rattle.cluster.specs.declared.confirmed.Confirmed.{Confirmed}
 use Rattle.cluster.specs.declared.fault.ClusterFault.{ClusterFault}
 use Rattle.cluster.specs.declared.fault.ClusterFault.TheVariants.{NoPrimary, Lost, Unconfirmed, NoMemory, NoSeat, Copy, Master, Stray, Running, Unopened}
@@ -52,12 +52,26 @@ AcknowledgedBy (Err e) w = ⊥
 abbrev pub Acknowledges : Receipt → Written → Type 0
 Acknowledges r w = AcknowledgedBy r.deed.answer w
 
--- a write with an entry of its own, and one that acknowledges it
+-- the second is of a legal journal of the same copy, at the place of the first or behind it
+pub record IsBehind (first second : Receipt) : Type 0 where
+  pub stands : IsEntry second
+  pub copy : second.node ≡ first.node
+  pub behind : first.place ≤ second.place
+
+-- a write with an entry of its own in a legal journal of its copy, and one of that copy that acknowledges it
 pub record IsConfirmed (write : Write) (c : Confirmed) : Type 0 where
   pub written : Written
   pub asked : c.write.deed.input ≡ Client write
+  pub stands : IsEntry c.write
   pub kept : wrote c.write.deed.answer ≡ Some written
   pub acknowledged : Acknowledges c.acknowledgement written
+  pub behind : IsBehind c.write c.acknowledgement
+
+-- what the wait for an acknowledgement of a kept write gives
+pub record IsAcknowledgedWrite (receipt : Receipt) (written : Written) (c : Confirmed) : Type 0 where
+  pub is : c.write ≡ receipt
+  pub acknowledged : Acknowledges c.acknowledgement written
+  pub behind : IsBehind c.write c.acknowledgement
 
 -- the copy isn't the primary, or is closed
 abbrev pub is_no_primary : Result Output CopyFault → Bool
@@ -117,11 +131,12 @@ IsEndOf receipt (Unopened tried) = Unit {0}
 -- a write that its copy kept, and is perhaps lost
 pub record IsLost (write : Write) (r : Receipt) : Type 0 where
   pub asked : r.deed.input ≡ Client write
+  pub stands : IsEntry r
   pub kept : (w : Written) × (wrote r.deed.answer ≡ Some w)
 
 -- what a refused write shows: that no copy is the primary, or that the write was kept
 abbrev pub IsWriteRefused : Write → ClusterFault → Type 0
-IsWriteRefused write (NoPrimary r) = (r.deed.input ≡ Client write) × (is_no_primary r.deed.answer ≡ true)
+IsWriteRefused write (NoPrimary r) = (r.deed.input ≡ Client write) × IsEntry r × (is_no_primary r.deed.answer ≡ true)
 IsWriteRefused write (Lost r last) = IsLost write r
 IsWriteRefused write (Unconfirmed r) = IsLost write r
 IsWriteRefused write NoMemory = Unit {0}

@@ -1,9 +1,9 @@
 //! Bulks that callers ask for.
-ghost use Rattle.std.specs.Prelude.{◌≡◌, true, IsTrue, IfOk, IfErr, IfSome, Some};
+ghost use Rattle.std.specs.Prelude.{◌≡◌, true, All, IsTrue, IfOk, IfErr, IfSome, Some};
 ghost use Rattle.cluster.specs.Bulks.{bulked, has_kept, AreBulkSettledAt, AreSettledAt, HasKept, IsAcknowledgedAt, IsBulkConfirmed, IsBulkRefused, IsSettledAt, IsSettledBulk};
-ghost use Rattle.cluster.specs.Confirmed.{IsBare, IsEndOf};
+ghost use Rattle.cluster.specs.Confirmed.{IsBare, IsBehind, IsEndOf};
 
-use crate::checks::{acknowledges, is_of_bulk, items_in};
+use crate::checks::{acknowledges, are_behind, is_of_bulk, items_in};
 use crate::client::{Client, received, refusal_of};
 use crate::confirmed::ConfirmedBulk;
 use crate::durable::Durable;
@@ -84,7 +84,7 @@ fn confirmed<R: Wait>(
 {
     let BegunBulk { receipt, endings } = begun;
     if !is_of_bulk(&receipt, copy, writes) {
-        return Err(ClusterFault::Stray(receipt.place));
+        return Err(ClusterFault::Stray(receipt.place()));
     }
     match is_kept_in(&receipt) {
         Some(true) => ended(rt, alloc, receipt, &endings),
@@ -148,7 +148,7 @@ fn settled(
             acknowledgements,
             places,
         }),
-        None => Err(ClusterFault::Stray(receipt.place)),
+        None => Err(ClusterFault::Stray(receipt.place())),
     }
 }
 
@@ -167,8 +167,12 @@ fn places_in(
     receipt: &Receipt,
     entries: &[Receipt],
 ) -> Result<Option<Vec<usize>>, AllocError>
-    ensures { IfOk result (λ o. IfSome o (λ ps. AreBulkSettledAt receipt.now entries.now ps.items)) }
+    ensures settled { IfOk result (λ o. IfSome o (λ ps. AreBulkSettledAt receipt.now entries.now ps.items)) }
+    ensures behind { IfOk result (λ o. IfSome o (λ ps. All (IsBehind receipt.now) entries.now)) }
 {
+    if !are_behind(receipt, entries) {
+        return Ok(None);
+    }
     match items_in(receipt) {
         Some(items) => places_of(alloc, items, entries),
         None => Ok(None),

@@ -1,9 +1,10 @@
 //! What receipts are looked at for.
-ghost use Rattle.std.specs.Prelude.{◌≡◌, ◌↔◌, IsTrue, IfSome, IfNone, Some, None, option_copied};
+ghost use Rattle.std.specs.Prelude.{◌≡◌, ◌↔◌, All, IsTrue, IfSome, IfNone, Some, None, option_copied};
 ghost use Rattle.replica.specs.declared.input.Input.TheVariants.{Write as Client, Bulk};
 ghost use Rattle.cluster.specs.Bulks.{bulked};
 ghost use Rattle.cluster.specs.Confirmed as spec;
-ghost use Rattle.cluster.specs.Confirmed.{Acknowledges, IsAcknowledged, IsAnswerTo, wrote};
+ghost use Rattle.cluster.specs.Confirmed.{Acknowledges, IsAcknowledged, IsAnswerTo, IsBehind, wrote};
+ghost use Rattle.node.specs.Entry.{IsEntry};
 
 use node::Receipt;
 use op::Op;
@@ -11,27 +12,30 @@ use replica::{Answer, CopyFault, Input, Item, Output, Write, Writes, Written};
 
 /// Whether the receipt is of this node and this input.
 pub(crate) fn is_answer_to(receipt: &Receipt, node: u32, asked: &Input) -> bool
-    ensures { IsTrue result ↔ IsAnswerTo node asked.now receipt.now }
+    ensures is { IsTrue result ↔ IsAnswerTo node asked.now receipt.now }
+    ensures stands { IsEntry receipt.now }
 {
-    receipt.node == node && receipt.deed.input.is(asked)
+    receipt.deed().input.is(asked) && receipt.node() == node
 }
 
 /// Whether it is of this node and this write.
 pub(crate) fn is_of_write(receipt: &Receipt, node: u32, write: &Write) -> bool
-    ensures { IsTrue result ↔ IsAnswerTo node (Client write.now) receipt.now }
+    ensures is { IsTrue result ↔ IsAnswerTo node (Client write.now) receipt.now }
+    ensures stands { IsEntry receipt.now }
 {
-    match &receipt.deed.input {
-        Input::Write(asked) => receipt.node == node && asked.is(write),
+    match &receipt.deed().input {
+        Input::Write(asked) => receipt.node() == node && asked.is(write),
         _ => false,
     }
 }
 
 /// Whether it is of this node and this bulk.
 pub(crate) fn is_of_bulk(receipt: &Receipt, node: u32, writes: &Writes) -> bool
-    ensures { IsTrue result ↔ IsAnswerTo node (Bulk writes.now) receipt.now }
+    ensures is { IsTrue result ↔ IsAnswerTo node (Bulk writes.now) receipt.now }
+    ensures stands { IsEntry receipt.now }
 {
-    match &receipt.deed.input {
-        Input::Bulk(asked) => receipt.node == node && asked.is(writes),
+    match &receipt.deed().input {
+        Input::Bulk(asked) => receipt.node() == node && asked.is(writes),
         _ => false,
     }
 }
@@ -41,7 +45,7 @@ pub(crate) fn items_in(receipt: &Receipt) -> Option<&[Item]>
     ensures some { IfSome result (λ items. bulked receipt.now.deed.answer ≡ Some items.now) }
     ensures none { IfNone result (bulked receipt.now.deed.answer ≡ None) }
 {
-    match &receipt.deed.answer {
+    match &receipt.deed().answer {
         Ok(
             Output {
                 answer: Answer::Bulked(items),
@@ -56,7 +60,7 @@ pub(crate) fn items_in(receipt: &Receipt) -> Option<&[Item]>
 pub(crate) fn written_in(receipt: &Receipt) -> Option<Written>
     ensures { IfSome result (λ w. wrote receipt.now.deed.answer ≡ Some w) }
 {
-    match &receipt.deed.answer {
+    match &receipt.deed().answer {
         Ok(
             Output {
                 answer: Answer::Wrote(written),
@@ -83,15 +87,35 @@ pub(crate) fn has_write(operations: &[Op], seq: u64, term: u64) -> bool
 pub(crate) fn acknowledges(receipt: &Receipt, written: Written) -> bool
     ensures { IsTrue result → Acknowledges receipt.now written }
 {
-    match &receipt.deed.answer {
+    match &receipt.deed().answer {
         Ok(output) => has_write(output.acknowledged.as_slice(), written.seq, written.term),
         Err(_) => false,
     }
 }
 
+/// Whether the second is of the same copy, at the place of the first or behind it.
+pub(crate) fn is_behind(first: &Receipt, second: &Receipt) -> bool
+    ensures { IsTrue result → IsBehind first.now second.now }
+{
+    let _entry = second.deed();
+    second.node() == first.node() && first.place() <= second.place()
+}
+
+/// Whether each of some is so.
+pub(crate) fn are_behind(first: &Receipt, others: &[Receipt]) -> bool
+    ensures { IsTrue result → All (IsBehind first.now) others.now }
+{
+    for other in others {
+        if !is_behind(first, other) {
+            return false;
+        }
+    }
+    true
+}
+
 /// Why the copy refused, where it did.
 pub(crate) fn refusal_in(receipt: &Receipt) -> Option<CopyFault> {
-    match &receipt.deed.answer {
+    match &receipt.deed().answer {
         Ok(_) => None,
         Err(fault) => Some(fault.copy()),
     }
@@ -102,7 +126,7 @@ pub(crate) fn is_no_primary(receipt: &Receipt) -> bool
     ensures { result ≡ spec.is_no_primary receipt.now.deed.answer }
 {
     matches!(
-        &receipt.deed.answer,
+        &receipt.deed().answer,
         Err(CopyFault::NotPrimary) | Err(CopyFault::Closed)
     )
 }
@@ -110,7 +134,7 @@ pub(crate) fn is_no_primary(receipt: &Receipt) -> bool
 /// Whether the log of the copy failed, now or before.
 pub(crate) fn is_shut(receipt: &Receipt) -> bool {
     matches!(
-        &receipt.deed.answer,
+        &receipt.deed().answer,
         Err(CopyFault::Log(_)) | Err(CopyFault::Closed)
     )
 }

@@ -2,12 +2,13 @@
 ghost use Rattle.std.specs.Prelude.{◌≡◌, IfOk, IfErr};
 ghost use Rattle.master.specs.declared.state.Request.TheVariants.{Promote};
 ghost use Rattle.master.specs.declared.state.State.{State as MasterState};
+ghost use Rattle.node.specs.Entry.{IsEntry};
 ghost use Rattle.node.specs.Reading.{IsGotAt};
 ghost use Rattle.cluster.specs.Ruled.{IsDecided, IsKnown};
-ghost use Rattle.cluster.specs.Confirmed.{Acknowledges, IsAnswerTo, IsBare, IsConfirmed, IsEndOf, IsRefusalBy, IsWriteRefused};
+ghost use Rattle.cluster.specs.Confirmed.{IsAcknowledgedWrite, IsAnswerTo, IsBare, IsConfirmed, IsEndOf, IsRefusalBy, IsWriteRefused};
 
 use crate::checks::{
-    acknowledges, is_answer_to, is_no_primary, is_of_write, refusal_in, written_in,
+    acknowledges, is_answer_to, is_behind, is_no_primary, is_of_write, refusal_in, written_in,
 };
 use crate::confirmed::Confirmed;
 use crate::fault::ClusterFault;
@@ -86,7 +87,7 @@ impl<D: LogDevice> Client<D> {
 
     /// Has a copy do a get or a refresh, and waits for its entry.
     pub fn call<R: Wait>(&self, rt: &R, copy: u32, input: Input) -> Result<Receipt, ClusterFault>
-        ensures { IfOk result (IsAnswerTo copy input) }
+        ensures { IfOk result (λ r. IsAnswerTo copy input r × IsEntry r) }
     {
         let asked = input.copy(self.alloc)?;
         let receipt = self.entry(rt, copy, asked)?;
@@ -203,10 +204,10 @@ pub(crate) fn received<R: Wait>(
 
 /// The entry, where it is the one that was asked for, and not a refusal.
 fn answered(receipt: Receipt, copy: u32, input: &Input) -> Result<Receipt, ClusterFault>
-    ensures { IfOk result (IsAnswerTo copy input.now) }
+    ensures { IfOk result (λ r. IsAnswerTo copy input.now r × IsEntry r) }
 {
     if !is_answer_to(&receipt, copy, input) {
-        return Err(ClusterFault::Stray(receipt.place));
+        return Err(ClusterFault::Stray(receipt.place()));
     }
     match refusal_in(&receipt) {
         Some(fault) => Err(ClusterFault::Copy(fault)),
@@ -236,7 +237,7 @@ fn confirmed<R: Wait>(
 {
     let Begun { receipt, endings } = begun;
     if !is_of_write(&receipt, copy, write) {
-        return Err(ClusterFault::Stray(receipt.place));
+        return Err(ClusterFault::Stray(receipt.place()));
     }
     let Some(written) = written_in(&receipt) else {
         return Err(refusal_of(receipt));
@@ -256,25 +257,25 @@ pub(crate) fn refusal_of(receipt: Receipt) -> ClusterFault
     }
     match refusal_in(&receipt) {
         Some(fault) => ClusterFault::Copy(fault),
-        None => ClusterFault::Stray(receipt.place),
+        None => ClusterFault::Stray(receipt.place()),
     }
 }
 
 /// How a write that was kept ended.
 fn ended(receipt: Receipt, written: Written, ending: Ending) -> Result<Confirmed, ClusterFault>
-    ensures kept { IfOk result (λ c. (c.write ≡ receipt) × Acknowledges c.acknowledgement written) }
+    ensures kept { IfOk result (IsAcknowledgedWrite receipt written) }
     ensures lost { IfErr result (IsEndOf receipt) }
 {
     match ending {
         Ending::Acknowledged(entry) => {
             let last = entry.into_inner();
-            if acknowledges(&last, written) {
+            if acknowledges(&last, written) && is_behind(&receipt, &last) {
                 Ok(Confirmed {
                     write: receipt,
                     acknowledgement: last,
                 })
             } else {
-                Err(ClusterFault::Stray(last.place))
+                Err(ClusterFault::Stray(last.place()))
             }
         }
         Ending::Lost(entry) => Err(ClusterFault::Lost(receipt, entry.into_inner())),

@@ -5,7 +5,6 @@ ghost use Rattle.cluster.specs.Leaving.{sent_by};
 ghost use Rattle.cluster.specs.Ruled.{IsDecided};
 
 use crate::checks::is_no_primary;
-use crate::copies::copied;
 use master::{Decision, Request};
 use node::{Got, OnDisk, Receipt};
 use op::Msg;
@@ -47,7 +46,7 @@ impl Durable<Receipt> {
         ensures ok { IfOk result (λ d. (d ≡ receipt) × (receipt.place + 1 ≤ on_disk.now)) }
         ensures err { IfErr result (λ r. r ≡ receipt) }
     {
-        match receipt.place.checked_add(1) {
+        match receipt.place().checked_add(1) {
             Some(entries) => if on_disk.covers(entries) {
                 Ok(Durable { what: receipt })
             } else {
@@ -74,7 +73,7 @@ impl Durable<Receipt> {
         ensures { IfOk result (λ d. d ≡ self.now) }
     {
         Ok(Durable {
-            what: copied(alloc, &self.what)?,
+            what: self.what.copy(alloc)?,
         })
     }
 
@@ -82,7 +81,7 @@ impl Durable<Receipt> {
     pub(crate) fn sent(&self) -> &[Msg]
         ensures { result.now ≡ sent_by self.now.deed.answer }
     {
-        match &self.what.deed.answer {
+        match &self.what.deed().answer {
             Ok(output) => output.sent.as_slice(),
             Err(_) => &[],
         }

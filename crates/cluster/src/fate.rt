@@ -20,7 +20,7 @@ pub(crate) enum Fate {
 
 pub(crate) fn fate_of(made: &Result<Receipt, NodeFault>) -> Fate {
     match made {
-        Ok(receipt) => match &receipt.deed.answer {
+        Ok(receipt) => match &receipt.deed().answer {
             Ok(_) => Fate::Settled,
             Err(fault) => fate_by(fault),
         },

@@ -67,7 +67,7 @@ impl Left {
     fn has(&self, receipt: &Receipt) -> bool
         ensures { IsTrue result → HasReceipt receipt.now self.now }
     {
-        self.node == receipt.node && stands_in(&self.journal, receipt)
+        self.node == receipt.node() && stands_in(&self.journal, receipt)
     }
 
     /// The journal.
@@ -89,8 +89,8 @@ fn misnumbered(receipts: &[Receipt], number: u32) -> Option<u64>
     ensures { IfNone result (All (λ r. r.deed.pass ≡ number) receipts.now) }
 {
     for receipt in receipts {
-        if receipt.deed.pass != number as u64 {
-            return Some(receipt.place);
+        if receipt.deed().pass != number as u64 {
+            return Some(receipt.place());
         }
     }
     None
@@ -100,7 +100,7 @@ fn misnumbered(receipts: &[Receipt], number: u32) -> Option<u64>
 fn first_unseen(receipts: &[Receipt]) -> u64 {
     let mut place = 0;
     for receipt in receipts {
-        if receipt.place != place {
+        if receipt.place() != place {
             return place;
         }
         place = place.saturating_add(1);
@@ -150,5 +150,5 @@ fn stray_at(lefts: &[Left], receipt: &Receipt) -> Option<u64>
             return None;
         }
     }
-    Some(receipt.place)
+    Some(receipt.place())
 }

@@ -9,7 +9,6 @@ mod checks;
 pub mod client;
 pub mod cluster;
 pub mod confirmed;
-mod copies;
 pub mod devices;
 mod durable;
 mod fate;

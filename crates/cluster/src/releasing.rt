@@ -5,7 +5,6 @@ ghost use Rattle.cluster.specs.Leaving.{sent_by};
 
 use crate::channels::sent;
 use crate::checks::{is_shut, items_in, written_in};
-use crate::copies::copied;
 use crate::durable::Durable;
 use crate::gate::Gate;
 use crate::outbox::{Asked, Entry, Parcel};
@@ -217,7 +216,7 @@ impl<D: LogDevice, G: Gate> Worker<D, G> {
 
     /// Tells those whose writes an entry acknowledges.
     fn tell_acknowledged<R: Wait>(&mut self, rt: &R, entry: &Durable<Receipt>) {
-        if let Ok(output) = &entry.what().deed.answer {
+        if let Ok(output) = &entry.what().deed().answer {
             for op in output.acknowledged.as_slice() {
                 self.waits.acknowledge(rt, op, entry);
             }
@@ -334,7 +333,7 @@ fn refuse_copied<R: Wait>(alloc: Global, rt: &R, receipt: &Receipt, asked: Asked
     if let Asked::Within = &asked {
         return;
     }
-    match copied(alloc, receipt) {
+    match receipt.copy(alloc) {
         Ok(receipt) => refuse(rt, receipt, asked),
         Err(_) => drop(asked),
     }

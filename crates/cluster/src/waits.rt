@@ -49,7 +49,7 @@ impl WaitingBulk {
     /// Strikes out the writes that an entry acknowledges, and tells whether there are some.
     fn is_struck(&mut self, entry: &Durable<Receipt>) -> bool {
         let before = self.left.len();
-        if let Ok(output) = &entry.what().deed.answer {
+        if let Ok(output) = &entry.what().deed().answer {
             for op in output.acknowledged.as_slice() {
                 self.strike(op);
             }

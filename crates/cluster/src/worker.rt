@@ -2,7 +2,6 @@
 
 use crate::backlog::Backlog;
 use crate::channels::sent;
-use crate::copies::copied;
 use crate::durable::Durable;
 use crate::fate::{Fate, fate_of, is_of_primary};
 use crate::gate::Gate;
@@ -121,7 +120,7 @@ impl<D: LogDevice, G: Gate> Worker<D, G> {
         match self.cell.call(rt, self.alloc, &mut self.pass, input) {
             Ok(receipt) => Ok(receipt),
             Err(NodeFault::Copy(fault)) => match self.pass.receipts().last() {
-                Some(receipt) => Ok(copied(self.alloc, receipt)?),
+                Some(receipt) => Ok(receipt.copy(self.alloc)?),
                 None => Err(NodeFault::Copy(fault)),
             },
             Err(fault) => Err(fault),
@@ -143,7 +142,7 @@ impl<D: LogDevice, G: Gate> Worker<D, G> {
         let Ok(receipt) = self.made(rt, input) else {
             return false;
         };
-        let is_accepted = receipt.deed.answer.is_ok();
+        let is_accepted = receipt.deed().answer.is_ok();
         let parcel = self.entry(receipt, Asked::Within);
         self.keep(rt, parcel);
         is_accepted
@@ -296,7 +295,7 @@ impl<D: LogDevice, G: Gate> Worker<D, G> {
             self.keep(rt, Parcel::EndOfWaits);
             return;
         };
-        let is_wanting = matches!(&receipt.deed.answer, Err(CopyFault::NoMemory));
+        let is_wanting = matches!(&receipt.deed().answer, Err(CopyFault::NoMemory));
         let parcel = self.entry(receipt, Asked::Within);
         self.keep(rt, parcel);
         if is_wanting {

@@ -3,7 +3,7 @@ use Rattle.std.proofs.Common.{◌≡◌, ℕ, suc, List, [], ◌∷◌, ◌++◌
 use Rattle.std.specs.Prelude.{slice_get, Result, Ok, Err, IfOk}
 use Rattle.replica.specs.declared.output.Item.{Item}
 use Rattle.replica.specs.declared.input.Write as taken
-use Rattle.node.specs.declared.pass.Receipt.{Receipt}
+use Rattle.node.specs.Entry.{Receipt}
 use Rattle.cluster.specs.Bulks.{IsBulkConfirmed}
 use Rattle.cluster.specs.declared.confirmed.ConfirmedBulk.{ConfirmedBulk}
 use Rattle.cluster.specs.declared.fault.ClusterFault.{ClusterFault}

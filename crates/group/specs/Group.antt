@@ -14,7 +14,7 @@ use Rattle.master.specs.declared.fault.MasterFault.TheVariants as master
 use Rattle.master.specs.declared.state.Decision.{Decision}
 use Rattle.master.specs.declared.state.Request.TheVariants.{Promote}
 use Rattle.node.specs.Reading.{IsGotAt}
-use Rattle.node.specs.declared.pass.Receipt.{Receipt}
+use Rattle.node.specs.Entry.{Receipt}
 use Rattle.cluster.specs.declared.confirmed.Confirmed.{Confirmed}
 use Rattle.cluster.specs.declared.confirmed.ConfirmedBulk.{ConfirmedBulk}
 use Rattle.cluster.specs.Bulks.{bulked as items_in, IsBulkConfirmed}

@@ -32,7 +32,7 @@ pub(crate) fn told_bulk(alloc: Global, confirmed: ConfirmedBulk) -> Result<Reply
 fn items_of(bulk: Receipt) -> Option<Items>
     ensures { IfSome result (λ items. cluster.bulked bulk.deed.answer ≡ Some items) }
 {
-    items_in(bulk.deed.answer)
+    items_in(bulk.into_deed().answer)
 }
 
 fn items_in(answer: Result<Output, CopyFault>) -> Option<Items>

@@ -210,7 +210,7 @@ fn told(confirmed: Confirmed) -> Reply
 pub(crate) fn counted_in(receipt: &Receipt) -> u64
     ensures { result ≡ counted_in receipt.now.deed.answer }
 {
-    match &receipt.deed.answer {
+    match &receipt.deed().answer {
         Ok(output) => output.members as u64,
         Err(_) => 0,
     }
@@ -220,7 +220,7 @@ pub(crate) fn counted_in(receipt: &Receipt) -> u64
 fn told_in(receipt: Receipt, copies: u64) -> Reply
     ensures { reply_view result ≡ told_by receipt.deed.answer copies }
 {
-    reply_to(receipt.deed.answer, copies)
+    reply_to(receipt.into_deed().answer, copies)
 }
 
 /// The reply that tells what a copy answered, of so many copies.

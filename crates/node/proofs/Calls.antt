@@ -1,6 +1,6 @@
 -- What a call leaves.
-use Rattle.std.proofs.Common.{◌≡◌, ℕ, ◌+◌, suc, List, [], ◌∷◌, ◌++◌, length, refl, sym, ap, subst, ◌∙◌, arith, Result, Ok, Err, IfOk, IfErr}
-use Rattle.std.specs.Prelude.{IsOk}
+use Rattle.std.proofs.Common.{◌≡◌, ℕ, suc, List, [], ◌∷◌, ◌++◌, length, refl, sym, ap, subst, ◌∙◌, Result, Ok, Err, IfErr}
+use Rattle.std.specs.Prelude.{IsOk, Some, slice_get}
 use Rattle.replica.specs.declared.fault.CopyFault.{CopyFault}
 use Rattle.replica.specs.declared.input.Input.{Input}
 use Rattle.replica.specs.declared.output.Output.{Output}
@@ -9,15 +9,19 @@ use Rattle.journal.specs.declared.journal.Deed.{Deed}
 use Rattle.journal.specs.Journal.{Standing, IsLegal, IsLegalAt, after, next, open_at}
 use Rattle.node.specs.declared.fault.NodeFault.{NodeFault}
 use Rattle.node.specs.declared.fault.NodeFault.TheVariants.{NoMemory, NoSeat, Copy as Refused, Stray}
-use Rattle.node.specs.declared.pass.Receipt.{Receipt}
-use Rattle.node.specs.declared.telling.Spot.{Spot}
+use Rattle.node.specs.Entry.{Receipt, IsEntryAt}
+use Rattle.node.specs.declared.telling.Entered.{Entered}
 use Rattle.node.specs.declared.telling.Told.{Told}
 use Rattle.node.specs.Passes.{PassData}
 use Rattle.node.specs.Held.{JournalData, IsHeld, IsCall, IsRefusal, IsLastOf}
 use Rattle.node.specs.Stands.{IsDenied, LastStands}
-use Rattle.node.specs.Telling.{IsTold, IsTelling, receipt, given_of}
+use Rattle.node.specs.Telling.{IsEntered, IsTelling, receipt, given_of}
 use Rattle.node.specs.Replay.{IsIdle, IsReplayed, IsStep}
 use Rattle.node.proofs.Replays.{replays, idles}
+
+-- the copy after a journal
+abbrev after_all : JournalData → Standing
+after_all h = after (open_at h.opening) 0 h.deeds
 
 legal_snoc : (s : Standing) (place : ℕ) (deeds : List Deed) (d : Deed) → IsLegal s place deeds → IsLegalAt (after s place deeds) d → IsLegal s place (deeds ++ d ∷ [])
 legal_snoc s place [] d h at = (at, tt)
@@ -47,54 +51,65 @@ held_same h old new is idle = record { legal = is.legal; replayed = idles (after
 
 -- ---- what a call leaves
 
-called : (old new : JournalData) (p q : PassData) (asked : Input) (spot : Spot) (t : Told) (answer : Result Output CopyFault) → IsTold spot asked answer t → new ≡ record old { deeds = old.deeds ++ t.own ∷ [] }
-    → q ≡ record p { receipts = p.receipts ++ t.kept ∷ [] } → spot.node ≡ old.opening.id → spot.place ≡ length old.deeds → spot.pass ≡ p.number
-    → IsLegalAt (after (open_at old.opening) 0 old.deeds) t.own → IsCall old new p q asked t.kept
-called old new p q asked spot t answer is journal pass node place number legal =
-    let same : t.kept.deed ≡ t.own = ap (λ (r : Receipt). r.deed) is.kept in
+-- the step's entry is the last one
+pub entered : (h new : JournalData) (old after : Logged) (number : ℕ) (asked : Input) (t : Told) (e : Entered) → IsHeld h old → IsLogged old → IsTelling old after number asked t
+    → new ≡ record h { deeds = h.deeds ++ t.own ∷ [] } → e ≡ record { place = length h.deeds; kept = t.kept; given = t.given } → IsHeld new after × IsEntered h new number asked e
+entered h new old after number asked t e is logged tells journal same =
+    let own = tells.told.own in
+    let step : IsStep old after t.own.input t.own.answer = subst (λ (i : Input). IsStep old after i t.own.answer) (sym (ap (λ (d : Deed). d.input) own)) tells.step in
+    let both = held_step h t.own old after is logged step in
+    let kept : t.kept ≡ t.own = tells.told.kept in
+    let all : IsEntered h new number asked (record { place = length h.deeds; kept = t.kept; given = t.given }) = record {
+      journal = journal ∙ ap (λ (d : Deed). let x : JournalData = record h { deeds = h.deeds ++ d ∷ [] } in x) (sym kept);
+      place = refl;
+      pass = ap (λ (d : Deed). d.pass) (kept ∙ own);
+      input = ap (λ (d : Deed). d.input) (kept ∙ own);
+      given = tells.told.given ∙ ap (λ (d : Deed). given_of d d.answer) (sym kept);
+      legal = subst (λ (d : Deed). IsLegalAt (after_all h) d) (sym kept) both.1;
+      whole = subst (λ (x : JournalData). IsLegal (open_at x.opening) 0 x.deeds) (sym journal) both.0.legal;
+    } in
+    (subst (λ (x : JournalData). IsHeld x after) (sym journal) both.0, subst (λ (x : Entered). IsEntered h new number asked x) (sym same) all)
+
+last_there : {X : Type 0} (xs : List X) (x : X) → slice_get (xs ++ x ∷ []) (length xs) ≡ Some x
+last_there [] x = refl
+last_there (y ∷ ys) x = last_there ys x
+
+pub entered_there : (h new : JournalData) (number : ℕ) (asked : Input) (e : Entered) → IsEntered h new number asked e → slice_get new.deeds e.place ≡ Some e.kept
+entered_there h new number asked e is =
+    subst (λ n. slice_get new.deeds n ≡ Some e.kept) (sym is.place) (subst (λ ds. slice_get ds (length h.deeds) ≡ Some e.kept) (sym (ap (λ (x : JournalData). x.deeds) is.journal)) (last_there h.deeds e.kept))
+
+-- it stands in a legal journal
+pub entry_at : (h : JournalData) (l : Logged) (node place : ℕ) (d : Deed) → node ≡ h.opening.id → IsHeld h l → slice_get h.deeds place ≡ Some d → IsEntryAt node place d
+entry_at h l node place d is held there = record { opening = h.opening; deeds = h.deeds; legal = held.legal; node_is = sym is; stands = there }
+
+-- its receipt is that of a call
+pub called : (old new : JournalData) (p q : PassData) (asked : Input) (e : Entered) (r : Receipt) → IsEntered old new p.number asked e → r ≡ receipt new.opening.id e.place e.kept
+    → q ≡ record p { receipts = p.receipts ++ r ∷ [] } → IsCall old new p q asked r
+called old new p q asked e r is same pass =
+    let deed : r.deed ≡ e.kept = ap (λ (x : Receipt). x.deed) same in
     record {
-      journal = journal ∙ ap (λ (d : Deed). let h : JournalData = record old { deeds = old.deeds ++ d ∷ [] } in h) (sym same);
+      journal = is.journal ∙ ap (λ (d : Deed). let x : JournalData = record old { deeds = old.deeds ++ d ∷ [] } in x) (sym deed);
       pass = pass;
-      node = ap (λ (r : Receipt). r.node) is.kept ∙ node;
-      place = ap (λ (r : Receipt). r.place) is.kept ∙ place;
-      number = ap (λ (d : Deed). d.pass) (same ∙ is.own) ∙ number;
-      asked = ap (λ (d : Deed). d.input) (same ∙ is.own);
-      legal = subst (λ (d : Deed). IsLegalAt (after (open_at old.opening) 0 old.deeds) d) (sym same) legal;
+      node = ap (λ (x : Receipt). x.node) same ∙ ap (λ (x : JournalData). x.opening.id) is.journal;
+      place = ap (λ (x : Receipt). x.place) same ∙ is.place;
+      number = ap (λ (d : Deed). d.pass) deed ∙ is.pass;
+      asked = ap (λ (d : Deed). d.input) deed ∙ is.input;
+      legal = subst (λ (d : Deed). IsLegalAt (after_all old) d) (sym deed) is.legal;
     }
 
-answer_of : (spot : Spot) (asked : Input) (t : Told) (answer : Result Output CopyFault) → IsTold spot asked answer t → t.kept.deed.answer ≡ answer
-answer_of spot asked t answer is = ap (λ (r : Receipt). r.deed.answer) is.kept ∙ ap (λ (d : Deed). d.answer) is.own
+-- an entry that the caller gets is that of the journal
+pub given_ok : (d g : Deed) (answer : Result Output CopyFault) → Ok g ≡ given_of d answer → (g ≡ d) × IsOk answer
+given_ok d g (Ok output) same = (cc, refl)
+given_ok d g (Err e) same = absurd cc
 
-pub gives_ok : (old new : JournalData) (p q : PassData) (asked : Input) (spot : Spot) (t : Told) (answer : Result Output CopyFault) → IsTold spot asked answer t → IsCall old new p q asked t.kept
-    → IfOk t.given (λ r. IsCall old new p q asked r × IsOk r.deed.answer)
-gives_ok old new p q asked spot t (Ok output) is call =
-    subst (λ g. IfOk g (λ r. IsCall old new p q asked r × IsOk r.deed.answer)) (sym is.given) (call, subst (λ a. IsOk a) (sym (answer_of spot asked t (Ok output) is)) refl)
-gives_ok old new p q asked spot t (Err e) is call = subst (λ g. IfOk g (λ r. IsCall old new p q asked r × IsOk r.deed.answer)) (sym is.given) tt
-
-pub gives_err : (old new : JournalData) (p q : PassData) (asked : Input) (spot : Spot) (t : Told) (answer : Result Output CopyFault) → IsTold spot asked answer t → IsCall old new p q asked t.kept
-    → IfErr t.given (λ e. IsRefusal old new p q asked e)
-gives_err old new p q asked spot t (Ok output) is call = subst (λ g. IfErr g (λ e. IsRefusal old new p q asked e)) (sym is.given) tt
-gives_err old new p q asked spot t (Err e) is call =
-    subst (λ g. IfErr g (λ f. IsRefusal old new p q asked f)) (sym is.given) (t.kept, call, answer_of spot asked t (Err e) is)
-
--- the call, by the parts of a held copy
-pub call_of : (h : JournalData) (new : JournalData) (p q : PassData) (old after : Logged) (asked : Input) (spot : Spot) (t : Told) → IsHeld h old → IsLogged old → IsTelling old after spot asked t
-    → new ≡ record h { deeds = h.deeds ++ t.own ∷ [] } → q ≡ record p { receipts = p.receipts ++ t.kept ∷ [] } → spot.node ≡ h.opening.id → spot.place ≡ length h.deeds → spot.pass ≡ p.number
-    → IsHeld new after × IsCall h new p q asked t.kept
-call_of h new p q old after asked spot t is logged tells journal pass node place number =
-    let step : IsStep old after t.own.input t.own.answer = subst (λ (i : Input). IsStep old after i t.own.answer) (sym (ap (λ (d : Deed). d.input) tells.told.own)) tells.step in
-    let both = held_step h t.own old after is logged step in
-    (subst (λ (x : JournalData). IsHeld x after) (sym journal) both.0, called h new p q asked spot t t.own.answer tells.told journal pass node place number both.1)
-
-pub gives_last : (h new : JournalData) (p q : PassData) (old after : Logged) (asked : Input) (spot : Spot) (t : Told) (answer : Result Output CopyFault) → IsTold spot asked answer t → IsHeld new after
-    → IsCall h new p q asked t.kept → IfOk t.given (IsLastOf new)
-gives_last h new p q old after asked spot t (Ok output) is held call =
-    subst (λ g. IfOk g (IsLastOf new)) (sym is.given) (record {
-      legal = held.legal;
-      node = call.node ∙ sym (ap (λ (x : JournalData). x.opening.id) call.journal);
-      last = (h.deeds, ap (λ (x : JournalData). x.deeds) call.journal, call.place);
-    })
-gives_last h new p q old after asked spot t (Err e) is held call = subst (λ g. IfOk g (IsLastOf new)) (sym is.given) tt
+-- its receipt is the last
+pub entered_last : (old new : JournalData) (number : ℕ) (asked : Input) (e : Entered) (r : Receipt) → IsEntered old new number asked e → r ≡ receipt new.opening.id e.place e.kept → IsLastOf new r
+entered_last old new number asked e r is same = record {
+  legal = is.whole;
+  node = ap (λ (x : Receipt). x.node) same;
+  last =
+      (old.deeds, ap (λ (x : JournalData). x.deeds) is.journal ∙ ap (λ (d : Deed). old.deeds ++ d ∷ []) (sym (ap (λ (x : Receipt). x.deed) same)), ap (λ (x : Receipt). x.place) same ∙ is.place);
+}
 
 -- ---- a pass that isn't stray
 

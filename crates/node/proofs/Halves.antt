@@ -1,5 +1,5 @@
 -- Both halves of a step.
-use Rattle.std.proofs.Common.{◌≡◌, ◌⊎◌, inl, inr, ℕ, ◌<◌, Bool, true, false, not, ◌&&◌, ◌||◌, List, [], ◌∷◌, ◌++◌, length, refl, sym, ap, subst, ◌∙◌, ⊎_elim, arith, length-append, append-nil, Result, Ok, Err, IfErr}
+use Rattle.std.proofs.Common.{◌≡◌, ◌⊎◌, inl, inr, Bool, true, false, not, ◌&&◌, ◌||◌, List, [], ◌∷◌, ◌++◌, length, refl, sym, ap, subst, ◌∙◌, arith, length-append, append-nil, Result, Ok, Err}
 use Rattle.std.specs.Prelude.{IsOk, nat_lt}
 use Rattle.std.proofs.lemmas.Bool.Decides.{nat_tests}
 use Rattle.doc.specs.Outcome.{Fails}
@@ -18,7 +18,7 @@ use Rattle.replica.specs.declared.prepared.Prepared.TheVariants.{Answered, Settl
 use Rattle.replica.specs.Copy.{Copy}
 use Rattle.replica.specs.Fault.{fault_of, is_log}
 use Rattle.replica.specs.Logged.{Logged, IsPrepared, IsReady, IsRefused, IsUntouched, is_kept, is_restart, is_restarted, output_of, prepared_copy, prepared_step}
-use Rattle.replica.specs.Step.{Step, Stepped, copy_step, members_of, stepped}
+use Rattle.replica.specs.Step.{Step, copy_step, members_of, stepped}
 use Rattle.replica.proofs.Accepted.{restart_keeps}
 use Rattle.replica.proofs.Failures.{refused_at_once, refused_in}
 use Rattle.published.specs.Listings.{StartsWith}

@@ -1,5 +1,5 @@
 -- A copy is read without an entry.
-use Rattle.std.proofs.Common.{◌≡◌, ◌||◌, Bool, true, false, refl, sym, ap, subst, ◌∙◌, Option, Some, None, Result, Ok, Err}
+use Rattle.std.proofs.Common.{◌≡◌, ◌||◌, Bool, true, false, refl, sym, ap, ◌∙◌, Option, Some, None, Err}
 use Rattle.std.specs.Prelude.{is_some}
 use Rattle.doc.specs.Id.{Id}
 use Rattle.translog.specs.Kept.{kept}

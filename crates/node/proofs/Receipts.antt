@@ -1,12 +1,11 @@
 -- Receipts that stand, one after the other.
-use Rattle.std.proofs.Common.{◌≡◌, ℕ, zero, suc, ◌+◌, ◌<◌, ◌≤◌, ◌==◌, leb, max, ◌||◌, Bool, true, false, List, [], ◌∷◌, ◌++◌, length, take, drop, Option, Some, None, Result, Ok, Err, refl, sym, ap, subst, ◌∙◌, arith, append-nil}
-use Rattle.std.specs.Prelude.{slice_get, OnOk, IfErr}
+use Rattle.std.proofs.Common.{◌≡◌, ℕ, zero, suc, ◌+◌, ◌<◌, ◌==◌, leb, max, ◌||◌, true, false, List, [], ◌∷◌, ◌++◌, take, drop, Some, refl, sym, ap, subst, ◌∙◌, arith, append-nil}
+use Rattle.std.specs.Prelude.{slice_get}
 use Rattle.std.proofs.lemmas.Bool.Decides.{nat_tests}
 use Rattle.std.proofs.lemmas.List.{append_assoc}
 use Rattle.std.proofs.lemmas.List.Folds.{list_any-append}
-use Rattle.journal.specs.declared.journal.Deed.{Deed}
 use Rattle.journal.specs.declared.journal.Journal.{Journal}
-use Rattle.node.specs.declared.pass.Receipt.{Receipt}
+use Rattle.node.specs.Entry.{Receipt}
 use Rattle.node.specs.Passes.{PassData, AreUpTo}
 use Rattle.node.specs.Gathered.{deed_at, has_place, is_at, receipts_of, AreNext, IsFirstStray, IsNext}
 

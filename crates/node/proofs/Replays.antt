@@ -1,6 +1,5 @@
 -- A step keeps the copy as its journal says.
-use Rattle.std.proofs.Common.{◌≡◌, ◌⊎◌, inl, inr, ℕ, ◌==◌, ◌||◌, not, Bool, true, false, List, [], ◌∷◌, ◌++◌, length, refl, sym, ap, subst, ◌∙◌, ⊎_elim, arith, length-append, append-nil, Option, Some, None, Result, Ok, Err, IfErr}
-use Rattle.std.specs.Prelude.{IfSome}
+use Rattle.std.proofs.Common.{◌≡◌, ◌⊎◌, inl, inr, ℕ, ◌==◌, ◌||◌, not, Bool, true, false, List, [], ◌∷◌, ◌++◌, length, refl, sym, ap, subst, ◌∙◌, ⊎_elim, arith, length-append, append-nil, Option, Some, None, Result, Ok, Err}
 use Rattle.std.proofs.lemmas.Bool.Decides.{nat_tests}
 use Rattle.doc.specs.Outcome.{Fails}
 use Rattle.doc.specs.Mapping.{MappingData}
@@ -14,14 +13,13 @@ use Rattle.replica.specs.declared.input.Input.{Input}
 use Rattle.replica.specs.declared.output.Output.{Output}
 use Rattle.replica.specs.declared.role.Birth.{Birth}
 use Rattle.replica.specs.declared.role.Birth.TheVariants.{First, Added}
-use Rattle.replica.specs.declared.output.Answer.TheVariants.{Point}
 use Rattle.replica.specs.Copy.{Copy, opened}
 use Rattle.replica.specs.Fault.{fault_of, is_log}
-use Rattle.replica.specs.Logged.{Logged, IsFailed, IsLogged, IsReopened, IsRefusal, IsSame, IsSameCopy, IsUnread, HasKept, is_restart}
-use Rattle.replica.specs.Step.{Step, Stepped, copy_step, members_of, stepped}
+use Rattle.replica.specs.Logged.{Logged, IsFailed, IsLogged, IsReopened, IsRefusal, IsSame, IsSameCopy, IsUnread, is_restart}
+use Rattle.replica.specs.Step.{Step, copy_step, members_of, stepped}
 use Rattle.published.specs.Listings.{StartsWith}
 use Rattle.journal.specs.declared.journal.Deed.{Deed}
-use Rattle.journal.specs.Journal.{Shut, Standing, open_at, left_by, reopened, found, is_kept, is_point, answered, refused_at, keeps_record, may_shut, MayAnswer, MayRefuse, IsReopening, next, IsLegalAt}
+use Rattle.journal.specs.Journal.{Shut, Standing, left_by, reopened, found, is_kept, is_point, answered, refused_at, may_shut, MayAnswer, MayRefuse, next, IsLegalAt}
 use Rattle.node.specs.Replay.{IsIdle, IsReplayed, IsReplayedAs, IsShutAs, IsStep, MayFail}
 
 itself : (c : Copy) → IsSameCopy c c

@@ -1,5 +1,5 @@
 -- A step in two halves.
-use Rattle.std.specs.Prelude.{◌≡◌, ◌⊎◌, ◌&&◌, not, false, Result, Ok, Err, IfOk, OnOk, IfErr, IsErrOf, IsOk}
+use Rattle.std.specs.Prelude.{◌≡◌, ◌⊎◌, ◌&&◌, not, false, Result, IfOk, OnOk, IfErr, IsErrOf, IsOk}
 use Rattle.translog.specs.declared.fault.LogFault.TheVariants.{Device}
 use Rattle.translog.specs.Device.{count_after}
 use Rattle.translog.specs.Fault.{errs_with}

@@ -1,5 +1,6 @@
 pub mod Replay
 pub mod Acting
+pub mod Entry
 pub mod Passes
 pub mod Held
 pub mod Telling

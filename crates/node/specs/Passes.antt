@@ -1,6 +1,6 @@
 -- What a caller has seen.
 use Rattle.std.specs.Prelude.{ℕ, ◌≤◌, List, [], ◌∷◌}
-use Rattle.node.specs.declared.pass.Receipt.{Receipt}
+use Rattle.node.specs.Entry.{Receipt}
 
 pub record PassData : Type 0 where
   pub number : ℕ

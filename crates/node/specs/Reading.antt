@@ -1,5 +1,5 @@
 -- Documents that a copy is asked for without an entry of its journal.
-use Rattle.std.specs.Prelude.{◌≡◌, ℕ, length, Option, None, is_some, true}
+use Rattle.std.specs.Prelude.{◌≡◌, ℕ, length, None, is_some, true}
 use Rattle.doc.specs.Id.{Id}
 use Rattle.op.specs.Documents.{document_at, documents}
 use Rattle.replica.specs.declared.fault.CopyFault.{CopyFault}

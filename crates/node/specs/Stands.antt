@@ -1,10 +1,10 @@
 -- Receipts that stand in a journal.
-use Rattle.std.specs.Prelude.{◌≡◌, ℕ, ◌-◌, List, length, Option, Some, None, IfSome, slice_get}
+use Rattle.std.specs.Prelude.{◌≡◌, ℕ, ◌-◌, List, length, Option, Some, IfSome, slice_get}
 use Rattle.replica.specs.declared.input.Input.{Input}
 use Rattle.journal.specs.declared.journal.Deed.{Deed}
 use Rattle.node.specs.declared.fault.NodeFault.{NodeFault}
 use Rattle.node.specs.declared.fault.NodeFault.TheVariants.{NoMemory, NoSeat, Copy as Refused, Stray}
-use Rattle.node.specs.declared.pass.Receipt.{Receipt}
+use Rattle.node.specs.Entry.{Receipt}
 use Rattle.node.specs.Passes.{PassData}
 use Rattle.node.specs.Held.{JournalData, IsRefusal}
 

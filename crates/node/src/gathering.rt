@@ -3,7 +3,8 @@ ghost use Rattle.std.specs.Prelude.{◌≡◌, ◌↔◌, ◌<◌, ◌++◌, ℕ
 ghost use Rattle.node.specs.Gathered.{deed_at, has_place, receipts_of, size_of, AreGathered, AreNext, IsFirstStray, IsWhole};
 ghost use Rattle.node.specs.Passes.{AreUpTo};
 
-use crate::pass::{Pass, Receipt};
+use crate::pass::Pass;
+use crate::receipt::Receipt;
 use crate::standing::stands_at;
 use journal::{Deed, Journal};
 
@@ -29,7 +30,7 @@ pub fn gathered(journal: &Journal, passes: &[Pass]) -> Result<bool, Stray>
 pub fn stands_in(journal: &Journal, receipt: &Receipt) -> bool
     ensures { IsTrue result ↔ (deed_at journal.now receipt.now.place ≡ Some receipt.now.deed) }
 {
-    stands(journal, receipt.place, &receipt.deed)
+    stands(journal, receipt.place(), receipt.deed())
 }
 
 /// Whether the receipts of a pass stand, apart from one another and from those of earlier passes.
@@ -41,8 +42,8 @@ fn check(journal: &Journal, earlier: &[Pass], pass: &Pass) -> Result<(), Stray>
     let mut most = 0;
     for count in 0..receipts.len() {
         let receipt = &receipts[count];
-        let place = receipt.place;
-        if !stands(journal, place, &receipt.deed)
+        let place = receipt.place();
+        if !stands(journal, place, receipt.deed())
             || is_before(earlier, &receipts[..count], most, place)
         {
             return Err(Stray { place });
@@ -73,7 +74,7 @@ fn is_among(receipts: &[Receipt], place: u64) -> bool
     ensures { result ≡ has_place receipts.now place }
 {
     for receipt in receipts {
-        if receipt.place == place {
+        if receipt.place() == place {
             return true;
         }
     }
@@ -85,7 +86,7 @@ fn has(receipts: &[Receipt], place: u64) -> bool
     ensures { result ≡ has_place receipts.now place }
 {
     match receipts.get(place as usize) {
-        Some(receipt) => receipt.place == place || is_among(receipts, place),
+        Some(receipt) => receipt.place() == place || is_among(receipts, place),
         None => is_among(receipts, place),
     }
 }

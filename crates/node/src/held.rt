@@ -1,5 +1,5 @@
 //! A copy with its journal.
-ghost use Rattle.std.specs.Prelude.{◌≡◌, [], true, false, length, IfOk, IfErr, IfSome, IfNone, IsOk};
+ghost use Rattle.std.specs.Prelude.{◌≡◌, [], true, false, length, Some, slice_get, IfOk, IfErr, IfSome, IfNone, IsOk, OnErr};
 ghost use Rattle.journal.specs.Journal.{IsLegal, open_at};
 ghost use Rattle.journal.specs.declared.journal.Journal.TheVariants.{OfCopy};
 ghost use Rattle.translog.specs.declared.fault.LogFault.TheVariants.{Device};
@@ -8,16 +8,18 @@ ghost use Rattle.node.specs.declared.fault.NodeFault.TheVariants.{Copy as Refuse
 ghost use Rattle.node.specs.Reading.{IsGotFrom, IsUngot};
 ghost use Rattle.node.specs.Stands.{IsDenied, IsStray, LastStands};
 ghost use Rattle.node.specs.Held.{IsCall, IsHeld, IsLastOf, IsRefusal};
+ghost use Rattle.node.specs.Telling.{receipt, IsEntered};
 
 use crate::both::both;
 use crate::fault::NodeFault;
 use crate::got::Got;
 use crate::on_disk::OnDisk;
-use crate::pass::{Pass, Receipt};
+use crate::pass::Pass;
 use crate::reading::read;
+use crate::receipt::Receipt;
 use crate::standing::stands_at;
 use crate::syncing::synced;
-use crate::telling::{Inputs, Spot, tell};
+use crate::telling::{Entered, Inputs, Told, tell};
 use doc::DocId;
 use engine::Merged;
 use journal::{Deed, Deeds, Journal, Opening};
@@ -102,12 +104,12 @@ impl<D: LogDevice> Held<D> {
     {
         match pass.receipts.last() {
             Some(receipt) => {
-                if receipt.node == self.node
-                    && stands_at(&self.deeds, receipt.place, &receipt.deed)
+                if receipt.node() == self.node
+                    && stands_at(&self.deeds, receipt.place(), receipt.deed())
                 {
                     None
                 } else {
-                    Some(receipt.place)
+                    Some(receipt.place())
                 }
             }
             None => None,
@@ -115,24 +117,41 @@ impl<D: LogDevice> Held<D> {
     }
 
     /// The call, whatever the pass has.
+    #[tactic(auto, using(crate::proofs::Calls::entered_there, crate::proofs::Calls::entered_last))]
     fn add(&mut self, alloc: Global, pass: &mut Pass, input: Input) -> Result<Receipt, NodeFault>
         ensures ok { IfOk result (λ r. IsCall self.old self.new pass.old pass.new input r × IsOk r.deed.answer) }
         ensures err { IfErr result (λ e. IsRefusal self.old self.new pass.old pass.new input e) }
         ensures last { IfOk result (IsLastOf self.new) }
     {
-        let (input, _) = both(input, self.deeds.reserve(1))?;
         let (input, _) = both(input, pass.receipts.reserve(1))?;
+        let Entered { place, kept, given } = self.enter(alloc, pass.number, input)?;
+        pass.receipts.push_reserved(self.receipt(place, kept));
+        match given {
+            Ok(deed) => Ok(self.receipt(place, deed)),
+            Err(fault) => Err(fault),
+        }
+    }
+
+    /// The step, and its entry in the journal.
+    fn enter(&mut self, alloc: Global, pass: u64, input: Input) -> Result<Entered, AllocError>
+        ensures ok { IfOk result (IsEntered self.old self.new pass input) }
+        ensures err { OnErr result (self.new ≡ self.old) }
+    {
+        let (input, _) = both(input, self.deeds.reserve(1))?;
         let inputs = Inputs::of(alloc, input)?;
-        let spot = Spot {
-            node: self.node,
-            place: self.deeds.len() as u64,
-            pass: pass.number,
-        };
+        let place = self.deeds.len() as u64;
         self.copy.is_logged();
-        let told = tell(&mut self.copy, alloc, spot, inputs)?;
-        self.deeds.push_reserved(told.own);
-        pass.receipts.push_reserved(told.kept);
-        told.given
+        let Told { own, kept, given } = tell(&mut self.copy, alloc, pass, inputs)?;
+        self.deeds.push_reserved(own);
+        Ok(Entered { place, kept, given })
+    }
+
+    /// The receipt of the entry at a place.
+    fn receipt(&self, place: u64, deed: Deed) -> Receipt
+        requires { slice_get self.now.deeds place ≡ Some deed }
+        ensures { result ≡ receipt self.now.opening.id place deed }
+    {
+        Receipt::of(self.node, place, deed)
     }
 
     /// What the copy has of an id, of all its records; it makes no entry. `Closed` where the copy is closed.

@@ -1,17 +1,9 @@
 //! What a caller has seen.
 ghost use Rattle.std.specs.Prelude.{◌≡◌};
 
-use journal::Deed;
+use crate::receipt::Receipt;
 use std::alloc::Global;
 use std::marker::Model;
-
-/// What a call leaves with its caller: the node and the place of its entry, and the entry.
-#[derive(Drop)]
-pub struct Receipt {
-    pub node: u32,
-    pub place: u64,
-    pub deed: Deed,
-}
 
 /// The receipts of one caller, oldest first. Contracts see its number and them.
 #[derive(Drop)]

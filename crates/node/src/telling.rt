@@ -1,12 +1,11 @@
-//! A step of a copy, as an entry of its journal and as receipts.
+//! A step of a copy, as an entry of its journal.
 ghost use Rattle.std.specs.Prelude.{◌≡◌, IfOk, OnErr};
 ghost use Rattle.node.specs.Replay.{IsIdle, IsStep};
-ghost use Rattle.node.specs.Telling.{receipt, given_of, IsTold, IsTelling};
+ghost use Rattle.node.specs.Telling.{IsTold, IsTelling};
 
 use crate::acting::{Answers, act};
 use crate::both::both;
 use crate::fault::NodeFault;
-use crate::pass::Receipt;
 use journal::Deed;
 use replica::{Copy, Input};
 use std::alloc::{AllocError, Global};
@@ -45,52 +44,43 @@ fn twice(alloc: Global, input: Input) -> Result<(Input, Input), AllocError>
     both(input, copied)
 }
 
-/// The entry, and what the pass and the caller get.
+/// An entry, for the journal, the pass and the caller.
 #[derive(Drop)]
 pub(crate) struct Told {
     pub(crate) own: Deed,
-    pub(crate) kept: Receipt,
-    pub(crate) given: Result<Receipt, NodeFault>,
+    pub(crate) kept: Deed,
+    pub(crate) given: Result<Deed, NodeFault>,
 }
 
-/// Where an entry comes to stand.
-#[derive(Clone, Copy)]
-pub(crate) struct Spot {
-    pub(crate) node: u32,
+/// The place of an entry that the journal has, and what the pass and the caller get.
+#[derive(Drop)]
+pub(crate) struct Entered {
     pub(crate) place: u64,
-    pub(crate) pass: u64,
+    pub(crate) kept: Deed,
+    pub(crate) given: Result<Deed, NodeFault>,
 }
 
-/// The entry and its receipts.
-fn spelt(spot: Spot, own: Input, kept: Input, given: Input, answers: Answers) -> Told
+/// The entry three times.
+fn spelt(pass: u64, own: Input, kept: Input, given: Input, answers: Answers) -> Told
     requires same { (kept ≡ own) × (given ≡ own) × (answers.kept ≡ answers.own) × (answers.given ≡ answers.own) }
-    ensures { IsTold spot own answers.own result }
+    ensures { IsTold pass own answers.own result }
 {
-    let Spot { node, place, pass } = spot;
     Told {
         own: Deed {
             pass,
             input: own,
             answer: answers.own,
         },
-        kept: Receipt {
-            node,
-            place,
-            deed: Deed {
-                pass,
-                input: kept,
-                answer: answers.kept,
-            },
+        kept: Deed {
+            pass,
+            input: kept,
+            answer: answers.kept,
         },
         given: match answers.given {
-            Ok(output) => Ok(Receipt {
-                node,
-                place,
-                deed: Deed {
-                    pass,
-                    input: given,
-                    answer: Ok(output),
-                },
+            Ok(output) => Ok(Deed {
+                pass,
+                input: given,
+                answer: Ok(output),
             }),
             Err(fault) => {
                 drop(given);
@@ -104,11 +94,11 @@ fn spelt(spot: Spot, own: Input, kept: Input, given: Input, answers: Answers) ->
 pub(crate) fn tell<D: LogDevice>(
     copy: &mut Copy<D>,
     alloc: Global,
-    spot: Spot,
+    pass: u64,
     inputs: Inputs,
 ) -> Result<Told, AllocError>
     requires same { (inputs.own ≡ inputs.asked) × (inputs.kept ≡ inputs.asked) × (inputs.given ≡ inputs.asked) }
-    ensures told { IfOk result (λ t. IsTelling copy.old copy.new spot inputs.asked t) }
+    ensures told { IfOk result (λ t. IsTelling copy.old copy.new pass inputs.asked t) }
     ensures err { OnErr result (IsIdle copy.old copy.new) }
 {
     let Inputs {
@@ -118,5 +108,5 @@ pub(crate) fn tell<D: LogDevice>(
         given,
     } = inputs;
     let ((own, kept, given), answers) = both((own, kept, given), act(copy, alloc, asked))?;
-    Ok(spelt(spot, own, kept, given, answers))
+    Ok(spelt(pass, own, kept, given, answers))
 }

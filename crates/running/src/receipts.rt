@@ -1,4 +1,4 @@
-//! A cluster that is closed with a receipt which doesn't stand in a journal.
+//! A cluster that is closed with a receipt of another one, which stands in none of its journals.
 
 use crate::writing::{put, told};
 use anyhow::{Result, bail};
@@ -14,18 +14,44 @@ use translog::LogDevice;
 /// How many documents are written.
 const WRITES: u64 = 5;
 
-/// Writes one document behind another, and has the last receipt name a later place.
+/// Writes one document behind another to two copies, and closes them with their receipts and some of others.
+fn written<R: Threads + Wait + Copy + Send + Drop + 'static>(
+    rt: &R,
+    alloc: Global,
+    mapping: &Mapping,
+    writer: usize,
+    others: Vec<Receipt>,
+) -> Result<(Vec<Receipt>, Result<Vec<Journal>, ClusterFault>)> {
+    let mut receipts = others;
+    let devices = InMemory { alloc };
+    let cluster = match Cluster::start(rt, alloc, mapping.copy(alloc)?, 2, devices, Open) {
+        Ok(cluster) => cluster,
+        Err(fault) => {
+            drop(receipts);
+            return Err(told(fault));
+        }
+    };
+    let done = write_all(rt, alloc, cluster.client(), writer, &mut receipts);
+    let closed = cluster.close(rt, &receipts);
+    match done {
+        Ok(()) => Ok((receipts, closed)),
+        Err(error) => {
+            drop(receipts);
+            drop(closed);
+            Err(error)
+        }
+    }
+}
+
 fn write_all<R: Wait, D: LogDevice>(
     rt: &R,
     alloc: Global,
     client: &Client<D>,
+    writer: usize,
     receipts: &mut Vec<Receipt>,
 ) -> Result<()> {
     for number in 0..WRITES {
-        put(rt, alloc, client, 0, number, receipts)?;
-    }
-    if let Some(last) = receipts.last_mut() {
-        last.place = last.place.saturating_add(1);
+        put(rt, alloc, client, writer, number, receipts)?;
     }
     Ok(())
 }
@@ -33,26 +59,27 @@ fn write_all<R: Wait, D: LogDevice>(
 /// The fault that the end of a cluster gives.
 fn fault_of(alloc: Global, closed: &Result<Vec<Journal>, ClusterFault>) -> Result<String> {
     match closed {
-        Ok(_) => bail!("a receipt at no place of a journal is let through"),
+        Ok(_) => bail!("a receipt of another cluster is let through"),
         Err(fault) => Ok(format!(in alloc; "{fault}")?),
     }
 }
 
-/// Writes to two copies, and closes them with the receipts.
+/// Closes a cluster with the receipts of its own writes, and another one with these, too.
 pub(crate) fn run<R: Threads + Wait + Print + Copy + Send + Drop + 'static>(
     rt: &R,
     alloc: Global,
     mapping: &Mapping,
 ) -> Result<()> {
-    let devices = InMemory { alloc };
-    let cluster = Cluster::start(rt, alloc, mapping.copy(alloc)?, 2, devices, Open).map_err(told)?;
-    let mut receipts = Vec::new(alloc);
-    let done = write_all(rt, alloc, cluster.client(), &mut receipts);
-    let closed = cluster.close(rt, &receipts);
+    let (receipts, closed) = written(rt, alloc, mapping, 0, Vec::new(alloc))?;
+    let is_closed = closed.is_ok();
+    drop(closed);
+    let (receipts, closed) = written(rt, alloc, mapping, 1, receipts)?;
     drop(receipts);
     let text = fault_of(alloc, &closed);
     drop(closed);
-    done?;
-    println!(rt; "closed with a receipt that names a later place: {}", text?)?;
+    if !is_closed {
+        bail!("a cluster doesn't close with its own receipts");
+    }
+    println!(rt; "closed with a receipt of another cluster: {}", text?)?;
     Ok(())
 }

@@ -91,10 +91,10 @@ fn keep(receipts: &mut Vec<Receipt>, done: Confirmed) -> Result<()> {
 
 /// The document that an entry wrote, with its numbers; none where it is no write.
 fn written_of(receipt: &Receipt) -> Option<(&DocId, Written)> {
-    let Input::Write(write) = &receipt.deed.input else {
+    let Input::Write(write) = &receipt.deed().input else {
         return None;
     };
-    match &receipt.deed.answer {
+    match &receipt.deed().answer {
         Ok(
             Output {
                 answer: Answer::Wrote(written),
@@ -107,7 +107,7 @@ fn written_of(receipt: &Receipt) -> Option<(&DocId, Written)> {
 
 /// Whether an entry has found the document of a write, as that left it.
 fn has_found(receipt: &Receipt, written: Written) -> bool {
-    match &receipt.deed.answer {
+    match &receipt.deed().answer {
         Ok(
             Output {
                 answer: Answer::Found(document),

@@ -1,4 +1,4 @@
-use Rattle.std.proofs.Common.{rules, ◌≡◌, ◌<◌, sym, ◌∙◌}
+use Rattle.std.proofs.Common.{rules, ◌<◌, sym, ◌∙◌}
 use Rattle.node.proofs.Receipts.{none_above, not_up}
 use Rattle.node.proofs.gathering.is_taken.Goals as goal
 
