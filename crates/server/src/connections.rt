@@ -4,7 +4,7 @@ use clients::{Clients, Watcher};
 use cluster::Client;
 use doc::Mapping;
 use group::{Chair, Group};
-use shard::{Desk, SharedShard};
+use shard::{Desk, HistoryName, SharedShard};
 use std::alloc::Global;
 use std::sync::Wait;
 use std::thread::{Threads, join};
@@ -17,24 +17,25 @@ const CHAIRS: usize = 8;
 
 /// An index of one copy: its name, its mapping, and the copy behind a lock.
 #[derive(Drop)]
-pub(crate) struct OneCopy<'a, D: LogDevice> {
+pub(crate) struct OneCopy<'a, D: LogDevice, N: HistoryName> {
     pub(crate) name: &'a str,
     pub(crate) mapping: &'a Mapping,
-    pub(crate) shard: &'a SharedShard<D>,
+    pub(crate) shard: &'a SharedShard<D, N>,
 }
 
 /// Serves connections to an index of one copy until the last that is wanted has ended. A fault on one ends that connection alone. Beside them a thread
 /// merges the segments of the index.
-pub(crate) fn serve_connections<R, D, W>(
+pub(crate) fn serve_connections<R, D, W, N>(
     rt: &R,
     alloc: Global,
     clients: &Clients<'_, W>,
-    index: &OneCopy<'_, D>,
+    index: &OneCopy<'_, D, N>,
 ) -> io::Result<()>
 where
     R: Threads + Wait + Clock + Sync,
     D: LogDevice + Send,
     W: Watcher,
+    N: HistoryName + Send + Sync,
 {
     join(
         rt,
@@ -48,16 +49,17 @@ where
     .1
 }
 
-fn serve_lanes<R, D, W>(
+fn serve_lanes<R, D, W, N>(
     rt: &R,
     alloc: Global,
     clients: &Clients<'_, W>,
-    index: &OneCopy<'_, D>,
+    index: &OneCopy<'_, D, N>,
 ) -> io::Result<()>
 where
     R: Threads + Wait + Clock + Sync,
     D: LogDevice + Send,
     W: Watcher,
+    N: HistoryName + Send + Sync,
 {
     let ends = thread::map_indices(
         rt,
@@ -69,6 +71,7 @@ where
                 name: index.name,
                 mapping: index.mapping,
                 shard: index.shard,
+                known: index.shard.begun(),
             };
             clients.run(rt, lane, desk)
         },

@@ -1,4 +1,5 @@
 //! Serving an index over HTTP on 127.0.0.1.
+ghost use Rattle.std.specs.Prelude.{◌≡◌};
 
 use crate::connections::{Index, OneCopy, serve_connections, serve_group};
 use crate::index_name::is_index_name;
@@ -14,11 +15,12 @@ use folder::{
 use front::Service;
 use master::Master;
 use serde_json::Value;
-use shard::{Shard, SharedShard};
+use shard::{Begun, HistoryName, Shard, SharedShard};
 use std::alloc::{AllocError, Global};
 use std::fmt::Display;
 use std::fs::File;
 use std::io::{Read, Write};
+use std::marker::Brand;
 use std::net::{Net, TcpListener, TcpStream};
 use std::rt::Files;
 use std::sync::{Mutex, Wait};
@@ -569,21 +571,70 @@ where
     let alloc = rt.alloc();
     let name = String::from_str(alloc, shard.index())?;
     let mapping = shard.mapping().copy(alloc)?;
-    let shared = SharedShard::new(alloc, shard)?;
-    let listener = bound(rt, settings.port, output)?;
+    let begun = Begun::new(shard);
+    let door = Door {
+        port: settings.port,
+        limits: settings.limits(),
+        explains: settings.explains,
+        greets: settings.greets,
+    };
+    listen_to_one::<Brand, R, O, E, D>(rt, door, &name, &mapping, begun, output, errors)
+}
+
+/// How connections come, and how their requests are answered.
+#[derive(Clone, Copy)]
+struct Door {
+    port: u16,
+    limits: Limits,
+    explains: bool,
+    greets: bool,
+}
+
+/// The same of an index whose history has this name.
+fn listen_to_one<N, R, O, E, D>(
+    rt: &R,
+    door: Door,
+    name: &String,
+    mapping: &Mapping,
+    begun: Begun<D>,
+    output: &mut O,
+    errors: &mut E,
+) -> Result<(), ServeFault>
+where
+    N: HistoryName + Send + Sync,
+    R: AllocGlobal
+        + Net<Listener = TcpListener, Stream = TcpStream>
+        + Threads
+        + Wait
+        + Clock
+        + Sync,
+    O: Write,
+    E: Write + Send,
+    D: LogDevice + Send,
+    requires { begun ≡ N.line }
+{
+    let alloc = rt.alloc();
+    let Door {
+        port,
+        limits,
+        explains,
+        greets,
+    } = door;
+    let shared: SharedShard<D, N> = SharedShard::new(alloc, begun)?;
+    let listener = bound(rt, port, output)?;
     let telling = Telling {
         rt,
         alloc,
         index: name.as_str(),
-        mapping: &mapping,
-        explains: settings.explains,
-        greets: settings.greets,
+        mapping,
+        explains,
+        greets,
         errors: Mutex::new(errors),
     };
-    let clients = Clients::new(rt, alloc, listener, settings.limits(), &telling).map_err(ended)?;
+    let clients = Clients::new(rt, alloc, listener, limits, &telling).map_err(ended)?;
     let index = OneCopy {
         name: name.as_str(),
-        mapping: &mapping,
+        mapping,
         shard: &shared,
     };
     serve_connections(rt, alloc, &clients, &index).map_err(ended)

@@ -1,3 +1,4 @@
 pub mod Found
 pub mod Promotions
 pub mod Seen
+pub mod Histories

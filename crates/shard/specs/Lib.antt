@@ -1,3 +1,3 @@
 pub mod Answering
 pub mod Ready
-pub mod Seen
+pub mod History

@@ -1,14 +1,14 @@
 //! An index of one copy that several connections share.
-ghost use Rattle.std.specs.Prelude.{◌≡◌, IfOk, IfSome, IsErr};
+ghost use Rattle.std.specs.Prelude.{◌≡◌, IfOk, IfSome, IsErr, IsTrue};
 ghost use Rattle.std.specs.Arc.{arc_value};
 ghost use Rattle.front.specs.CommandView.{command_view};
 ghost use Rattle.front.specs.Reply.{refused};
 ghost use Rattle.front.specs.ReplyView.{reply_view};
 ghost use Rattle.front.specs.declared.reply.Refusal.TheVariants.{NoMemory};
-ghost use Rattle.shard.specs.Seen.{IsReply, IsSeen};
+ghost use Rattle.shard.specs.History.{EndsIn, IsDone, IsLooked, IsReplyAt, IsSeenAt, IsSeenOf, IsTold};
 
 use crate::answering::{count_of, search_of};
-use crate::shard::Shard;
+use crate::history::{Begun, HistoryName, Kept, Reached};
 use crossbeam_channel::{Receiver, Sender, unbounded};
 use doc::Mapping;
 use engine::{Merged, Merging, Snapshot};
@@ -16,54 +16,100 @@ use front::Service;
 use front::command::Command;
 use front::reply::{Refusal, Reply};
 use std::alloc::{AllocError, Global};
+use std::marker::Model;
 use std::sync::{Arc, Mutex, Wait};
 use translog::LogDevice;
 
-/// What searches see of a copy that was open.
+/// What searches see of an index at a place of its history. Contracts see the place.
 #[derive(Drop)]
-struct Seen {
+struct Seen<D: LogDevice, N: HistoryName> {
     snapshot: Arc<Snapshot, Global>,
-    ghost is: { ∥ IsSeen (arc_value snapshot) ∥₁ },
+    at: Reached<D, N>,
 }
 
-impl Seen {
+impl<D: LogDevice, N: HistoryName> Model for Seen<D, N> {
+    ghost use Rattle.std.specs.Prelude.{List};
+    ghost use Rattle.std.specs.Arc.{arc_value};
+    ghost use Rattle.shard.specs.History.{Stand, IsSeenAt};
+
+    ghost Value = { List Stand };
+
+    ghost view = { λ s. s.at };
+
+    ghost invariant = { λ s. IsSeenAt (arc_value s.snapshot) s.at };
+}
+
+impl<D: LogDevice, N: HistoryName> Seen<D, N> {
     /// What searches of the index see now. Nothing while its copy is closed: the next command opens it again.
-    fn of<D: LogDevice>(shard: &Shard<D>) -> Option<Seen> {
-        match shard.snapshot() {
-            Some(snapshot) => Seen::over(snapshot).ok(),
+    fn of(kept: &Kept<D, N>) -> Option<Seen<D, N>> {
+        let at = kept.reached();
+        match kept.snapshot() {
+            Some(snapshot) => Seen::over(snapshot, at, kept).ok(),
             None => None,
         }
     }
 
-    fn over(snapshot: &Arc<Snapshot, Global>) -> Result<Seen, AllocError>
-        requires { ∥ IsSeen (arc_value snapshot.now) ∥₁ }
+    fn over(
+        snapshot: &Arc<Snapshot, Global>,
+        at: Reached<D, N>,
+        _kept: &Kept<D, N>,
+    ) -> Result<Seen<D, N>, AllocError>
+        requires ends { EndsIn _kept.now at }
+        requires seen { IsSeenOf (arc_value snapshot.now) _kept.now }
     {
         Ok(Seen {
             snapshot: Arc::try_clone(snapshot)?,
+            at,
         })
     }
 
     /// The same once more.
-    fn again(&self) -> Result<Seen, AllocError> {
+    fn again(&self) -> Result<Seen<D, N>, AllocError>
+        ensures { IfOk result (λ s. s ≡ self.now) }
+    {
         Ok(Seen {
             snapshot: Arc::try_clone(&self.snapshot)?,
+            at: self.at.again(),
         })
     }
 
-    /// The reply to a search or a count; nothing for another command.
-    #[tactic(auto, using(crate::proofs::Seen::search_seen, crate::proofs::Seen::count_seen, crate::proofs::Seen::wanting_seen))]
-    fn reply_to(&self, alloc: Global, command: &Command) -> Option<Reply>
-        ensures { IfSome result (λ r. ∥ IsReply (command_view command.now) (reply_view r) ∥₁) }
+    /// The reply to a search or a count, and the place that it is of; nothing for another command, or for one who knows more of the history.
+    fn reply_to(
+        &self,
+        alloc: Global,
+        known: &Reached<D, N>,
+        command: &Command,
+    ) -> Option<(Reply, Reached<D, N>)>
+        ensures { IfSome result (λ r. IsLooked known.now (command_view command.now) (reply_view r.0) r.1) }
     {
-        match command {
-            Command::Search(body) => Some(or_refused(search_of(alloc, &self.snapshot, body))),
-            Command::Count(query) => Some(or_refused(count_of(alloc, &self.snapshot, query))),
-            Command::Write(_)
-            | Command::Bulk(_)
-            | Command::Get(_)
-            | Command::Refresh
-            | Command::Promote(_) => None,
+        if !known.is_before(&self.at) {
+            return None;
         }
+        match reply_by(alloc, &self.snapshot, &self.at, command) {
+            Some(reply) => Some((reply, self.at.again())),
+            None => None,
+        }
+    }
+}
+
+/// The reply to a search or a count by what searches see at the end of a history; nothing for another command.
+fn reply_by<D: LogDevice, N: HistoryName>(
+    alloc: Global,
+    snapshot: &Arc<Snapshot, Global>,
+    _at: &Reached<D, N>,
+    command: &Command,
+) -> Option<Reply>
+    requires { IsSeenAt (arc_value snapshot.now) _at.now }
+    ensures { IfSome result (λ r. IsReplyAt _at.now (command_view command.now) (reply_view r)) }
+{
+    match command {
+        Command::Search(body) => Some(or_refused(search_of(alloc, snapshot, body))),
+        Command::Count(query) => Some(or_refused(count_of(alloc, snapshot, query))),
+        Command::Write(_)
+        | Command::Bulk(_)
+        | Command::Get(_)
+        | Command::Refresh
+        | Command::Promote(_) => None,
     }
 }
 
@@ -107,32 +153,44 @@ enum Order {
 /// is held no longer than it takes to look there, so no search waits for a write. Segments are merged by a thread of its own (`merge_beside`), which
 /// holds the lock only while it puts a merge in place.
 #[derive(Drop)]
-pub struct SharedShard<D: LogDevice> {
+pub struct SharedShard<D: LogDevice, N: HistoryName> {
     alloc: Global,
-    shard: Mutex<Shard<D>>,
-    seen: Mutex<Option<Seen>>,
+    shard: Mutex<Kept<D, N>>,
+    seen: Mutex<Option<Seen<D, N>>>,
+    begun: Reached<D, N>,
     /// Whether a merge is being built.
     is_merging: Mutex<bool>,
     to_merger: Sender<Order, Global>,
     orders: Receiver<Order, Global>,
 }
 
-impl<D: LogDevice> SharedShard<D> {
-    pub fn new(alloc: Global, shard: Shard<D>) -> Result<SharedShard<D>, AllocError> {
-        let seen = Seen::of(&shard);
+impl<D: LogDevice, N: HistoryName> SharedShard<D, N> {
+    /// The index whose history has begun, and has this name.
+    pub fn new(alloc: Global, begun: Begun<D>) -> Result<SharedShard<D, N>, AllocError>
+        requires { begun ≡ N.line }
+    {
+        let kept = Kept::of(begun);
+        let seen = Seen::of(&kept);
+        let begun = kept.reached();
         let (to_merger, orders) = unbounded(alloc)?;
         Ok(SharedShard {
             alloc,
-            shard: Mutex::new(shard),
+            shard: Mutex::new(kept),
             seen: Mutex::new(seen),
+            begun,
             is_merging: Mutex::new(false),
             to_merger,
             orders,
         })
     }
 
+    /// What one knows of the history who was told nothing.
+    pub fn begun(&self) -> Reached<D, N> {
+        self.begun.again()
+    }
+
     /// What searches see.
-    fn seen<R: Wait>(&self, rt: &R) -> Option<Seen> {
+    fn seen<R: Wait>(&self, rt: &R) -> Option<Seen<D, N>> {
         let held = self.seen.lock(rt);
         match &*held {
             Some(seen) => seen.again().ok(),
@@ -140,9 +198,14 @@ impl<D: LogDevice> SharedShard<D> {
         }
     }
 
-    /// The reply to a search or a count by what searches see, where something is there.
-    fn reply_to<R: Wait>(&self, rt: &R, command: &Command) -> Option<Reply>
-        ensures { IfSome result (λ r. ∥ IsReply (command_view command.now) (reply_view r) ∥₁) }
+    /// The reply to a search or a count by what searches see, where something is there, and one doesn't know more.
+    fn reply_to<R: Wait>(
+        &self,
+        rt: &R,
+        known: &Reached<D, N>,
+        command: &Command,
+    ) -> Option<(Reply, Reached<D, N>)>
+        ensures { IfSome result (λ r. IsLooked known.now (command_view command.now) (reply_view r.0) r.1) }
     {
         if !is_search(command) {
             return None;
@@ -150,32 +213,36 @@ impl<D: LogDevice> SharedShard<D> {
         let Some(seen) = self.seen(rt) else {
             return None;
         };
-        seen.reply_to(self.alloc, command)
+        seen.reply_to(self.alloc, known, command)
     }
 
     /// Has the index do a command, and searches see what it shows then.
-    #[tactic(auto, using(crate::proofs::Seen::replied))]
-    fn call<R: Wait>(&self, rt: &R, command: Command) -> Reply
-        ensures { ∥ IsReply (command_view command) (reply_view result) ∥₁ }
+    fn call<R: Wait>(
+        &self,
+        rt: &R,
+        known: &Reached<D, N>,
+        command: Command,
+    ) -> (Reply, Reached<D, N>)
+        ensures { IsDone known.now (command_view command) (reply_view result.0) result.1 }
     {
         let refreshes = is_refresh(&command);
         let mut held = self.shard.lock(rt);
-        let reply = held.call(command);
+        let told = held.call(known, command);
         self.show(rt, &*held);
         if refreshes {
             self.begin_merge(rt, &*held);
         }
-        reply
+        told
     }
 
     /// Has searches see what the index shows now.
-    fn show<R: Wait>(&self, rt: &R, shard: &Shard<D>) {
-        let next = Seen::of(shard);
+    fn show<R: Wait>(&self, rt: &R, kept: &Kept<D, N>) {
+        let next = Seen::of(kept);
         drop(self.replace(rt, next));
     }
 
     /// Has searches see this, and gives back what they saw.
-    fn replace<R: Wait>(&self, rt: &R, next: Option<Seen>) -> Option<Seen> {
+    fn replace<R: Wait>(&self, rt: &R, next: Option<Seen<D, N>>) -> Option<Seen<D, N>> {
         let mut held = self.seen.lock(rt);
         let before = held.take();
         *held = next;
@@ -183,12 +250,12 @@ impl<D: LogDevice> SharedShard<D> {
     }
 
     /// Has a merge built where searches look through many segments and none is being built. Without memory for that the next refresh tries again.
-    fn begin_merge<R: Wait>(&self, rt: &R, shard: &Shard<D>) {
+    fn begin_merge<R: Wait>(&self, rt: &R, kept: &Kept<D, N>) {
         let mut is_merging = self.is_merging.lock(rt);
         if *is_merging {
             return;
         }
-        if let Ok(Some(merging)) = shard.begin_next_merge() {
+        if let Ok(Some(merging)) = kept.begin_next_merge() {
             *is_merging = self.to_merger.send(rt, Order::Build(merging)).is_ok();
         }
     }
@@ -230,23 +297,25 @@ impl<D: LogDevice> SharedShard<D> {
     }
 }
 
-/// An index of one copy, as one connection has it. Searches and counts are of what was shown when a command ended last; they wait for no other.
+/// An index of one copy, as one thread that serves connections has it, with what it knows of the index's history. Searches and counts are of what
+/// was shown when a command ended last; they wait for no other.
 #[derive(Drop)]
-pub struct Desk<'a, R: Wait, D: LogDevice> {
+pub struct Desk<'a, R: Wait, D: LogDevice, N: HistoryName> {
     pub rt: &'a R,
     pub name: &'a str,
     pub mapping: &'a Mapping,
-    pub shard: &'a SharedShard<D>,
+    pub shard: &'a SharedShard<D, N>,
+    pub known: Reached<D, N>,
 }
 
-impl<'a, R: Wait, D: LogDevice> Service for Desk<'a, R, D> {
-    ghost use Rattle.shard.specs.Seen.{IsReply};
+impl<'a, R: Wait, D: LogDevice, N: HistoryName> Service for Desk<'a, R, D, N> {
+    ghost use Rattle.shard.specs.History.{IsTold};
 
     ghost name = { λ d. d.name.now };
 
     ghost fields = { λ d. d.mapping.now };
 
-    ghost answers = { λ d c r e. ∥ IsReply c r ∥₁ };
+    ghost answers = { λ d c r e. IsTold d.known c r e.known };
 
     fn index(&self) -> &str {
         self.name
@@ -257,9 +326,11 @@ impl<'a, R: Wait, D: LogDevice> Service for Desk<'a, R, D> {
     }
 
     fn call(&mut self, command: Command) -> Reply {
-        match self.shard.reply_to(self.rt, &command) {
-            Some(reply) => reply,
-            None => self.shard.call(self.rt, command),
-        }
+        let (reply, known) = match self.shard.reply_to(self.rt, &self.known, &command) {
+            Some(told) => told,
+            None => self.shard.call(self.rt, &self.known, command),
+        };
+        self.known = known;
+        reply
     }
 }

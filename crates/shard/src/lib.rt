@@ -3,8 +3,10 @@
 
 pub mod answering;
 pub mod desk;
+pub mod history;
 mod ready;
 pub mod shard;
 
 pub use desk::{Desk, SharedShard};
+pub use history::{Begun, HistoryName, Reached};
 pub use shard::Shard;

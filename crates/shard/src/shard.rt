@@ -7,7 +7,8 @@ ghost use Rattle.doc.specs.Outcome.{Gives};
 ghost use Rattle.shard.specs.Answering.{begun_under};
 ghost use Rattle.shard.specs.Ready as spec;
 ghost use Rattle.shard.specs.Ready.{IsReady, IsUnready};
-ghost use Rattle.shard.specs.Seen.{IsSeen};
+ghost use Rattle.replica.specs.Logged.{IsLogged};
+ghost use Rattle.shard.specs.History.{seen_of};
 
 use crate::answering::reply_to;
 use crate::ready::{is_primary, is_write, make_ready};
@@ -88,6 +89,13 @@ impl<D: LogDevice> Shard<D> {
         Ok(self.copy.snapshot().is_some() && is_primary(self.copy.role()))
     }
 
+    /// While the copy is open its log is that of its records.
+    pub(crate) fn is_logged(&self)
+        ensures { IsLogged self.now.copy }
+    {
+        self.copy.is_logged();
+    }
+
     /// Begins a merge of segments that go well into one, where searches look through many. The index stays as it is.
     pub(crate) fn begin_next_merge(&self) -> Result<Option<Merging>, AllocError> {
         self.copy.begin_next_merge(self.alloc)
@@ -102,11 +110,10 @@ impl<D: LogDevice> Shard<D> {
     }
 
     /// What searches see; nothing while the copy is closed.
-    #[tactic(auto, using(crate::proofs::Seen::seen_now))]
     pub(crate) fn snapshot(&self) -> Option<&Arc<Snapshot, Global>>
-        ensures { IfSome result (λ s. ∥ IsSeen (arc_value s.now) ∥₁) }
+        ensures now_open { IfSome result (λ s. self.now.copy.closed ≡ false) }
+        ensures sees { IfSome result (λ s. arc_value s.now ≡ seen_of self.now.copy.copy) }
     {
-        let _master = &self.master;
         self.copy.snapshot()
     }
 }

@@ -1,0 +1,5 @@
+use Rattle.server.proofs.serving.listen.Given as goal
+
+-- the history of the index that is served gives its name
+abbrev pub ghosts-listen_to_one : goal.ghosts-listen_to_one
+ghosts-listen_to_one g a = record { line = a.begun }

@@ -1,0 +1,82 @@
+-- Histories that go on.
+use Rattle.std.proofs.Common.{◌≡◌, ◌<◌, ◌≤◌, ℕ, suc, ◌+◌, min, zero, List, [], ◌∷◌, ◌++◌, length, map, refl, sym, ap, subst, ◌∙◌, arith, Some}
+use Rattle.std.proofs.lemmas.List.{map-append, length-append}
+use mathlib.Core.List.{IsPrefix}
+use Rattle.replica.specs.Logged.{IsLogged}
+use Rattle.front.specs.Command.{Command}
+use Rattle.front.specs.Reply.{Reply}
+use Rattle.shard.specs.Ready.{IsServed}
+use Rattle.shard.specs.History.{Stand, EndsIn, Follows, IsDone, IsHistory, IsNext, RunsOn}
+
+-- a map of a beginning begins the map
+pub map_prefix : {X Y : Type 0} (f : X → Y) (xs ys : List X) → IsPrefix xs ys → IsPrefix (map f xs) (map f ys)
+map_prefix f xs ys begins = (map f begins.0, sym (map-append f xs begins.0) ∙ ap (map f) begins.1)
+
+pub map_snoc : {X Y : Type 0} (f : X → Y) (xs : List X) (x : X) → map f (xs ++ x ∷ []) ≡ map f xs ++ f x ∷ []
+map_snoc f xs x = map-append f xs (x ∷ [])
+
+-- the last of a stand and those after it
+abbrev last_after : Stand → List Stand → Stand
+last_after s [] = s
+last_after s (t ∷ ts) = last_after t ts
+
+runs_more : (s : Stand) (ts : List Stand) (u : Stand) → RunsOn s ts → Follows (last_after s ts) u → RunsOn s (ts ++ u ∷ [])
+runs_more s [] u runs follows = (follows, tt)
+runs_more s (t ∷ ts) u runs follows = (runs.0, runs_more t ts u runs.1 follows)
+
+no_snoc : {X : Type 0} (xs : List X) (x : X) → [] ≡ xs ++ x ∷ [] → ⊥
+no_snoc [] x e = absurd (cc)
+no_snoc (y ∷ ys) x e = absurd (cc)
+
+last_is : (s : Stand) (ts before : List Stand) (t : Stand) → s ∷ ts ≡ before ++ t ∷ [] → last_after s ts ≡ t
+last_is s [] [] t e = let h : s ≡ t = cc in h
+last_is s (u ∷ us) [] t e = absurd (cc)
+last_is s [] (b ∷ before) t e = absurd (no_snoc before t (let h : [] ≡ before ++ t ∷ [] = cc in h))
+last_is s (u ∷ us) (b ∷ before) t e = last_is u us before t (let h : u ∷ us ≡ before ++ t ∷ [] = cc in h)
+
+-- a history goes on from its last
+pub history_more : (ts : List Stand) (t u : Stand) → IsHistory ts → EndsIn t ts → Follows t u → IsHistory (ts ++ u ∷ [])
+history_more [] t u h ends follows = absurd h
+history_more (s ∷ ts) t u h ends follows = (h.0, runs_more s ts u h.1 (subst (λ (x : Stand). Follows x u) (sym (last_is s ts ends.before t ends.is)) follows))
+
+pub ends_more : (ts : List Stand) (u : Stand) → EndsIn u (ts ++ u ∷ [])
+ends_more ts u = record { before = ts; is = refl }
+
+map_length : {X Y : Type 0} (f : X → Y) (xs : List X) → length (map f xs) ≡ length xs
+map_length f [] = refl
+map_length f (x ∷ xs) = ap suc (map_length f xs)
+
+-- one more stands behind a history
+pub next_is_history : (old new : List Stand) → IsHistory old → IsNext old new → IsHistory new
+next_is_history old new h n = subst IsHistory (sym n.is) (history_more old n.at n.next h n.ends n.follows)
+
+pub next_counted : {S : Type 0} (marked : List S) (f : S → Stand) (old : List Stand) (mark : List S) (count : ℕ) → old ≡ map f mark → count ≡ min (length mark) 18446744073709551615 → IsNext old (map f marked)
+    → min (count + 1) 18446744073709551615 ≡ min (length marked) 18446744073709551615
+next_counted marked f old mark count is counted n =
+    let many : length old ≡ length mark = ap length is ∙ map_length f mark in
+    let longer : length marked ≡ length old + 1 = sym (map_length f marked) ∙ (ap length n.is ∙ length-append old (n.next ∷ [])) in
+    omega (arith, counted, many, longer)
+
+-- a command that was done leads to the next
+pub next_by : {S : Type 0} (entries new : List S) (x : S) (f : S → Stand) (old : List Stand) (at : Stand) (c : Command) (r : Reply) → old ≡ map f entries → EndsIn at old → new ≡ entries ++ x ∷ []
+    → IsServed at.copy at.master c r (f x).copy (f x).master → IsLogged (f x).copy → IsNext old (map f new)
+next_by entries new x f old at c r same ends is served logged = record {
+  at = at;
+  next = f x;
+  ends = ends;
+  follows = record { command = c; reply = r; served = served; logged = logged };
+  is = ap (map f) is ∙ (map_snoc f entries x ∙ ap (λ ts. ts ++ f x ∷ []) (sym same));
+}
+
+pub done_by : {S : Type 0} (mark entries new : List S) (x : S) (f : S → Stand) (old reached : List Stand) (at : Stand) (c : Command) (r : Reply) → IsPrefix mark entries → old ≡ map f entries → EndsIn at old → new ≡ entries ++ x ∷ []
+    → IsServed at.copy at.master c r (f x).copy (f x).master → reached ≡ map f new → IsHistory reached → IsDone (map f mark) c r reached
+done_by mark entries new x f old reached at c r begins same ends is served grown legal = record {
+  start = old;
+  at = at;
+  next = f x;
+  goes_on = subst (λ ts. IsPrefix (map f mark) ts) (sym same) (map_prefix f mark entries begins);
+  ends = ends;
+  served = served;
+  is = grown ∙ (ap (map f) is ∙ (map_snoc f entries x ∙ ap (λ ts. ts ++ f x ∷ []) (sym same)));
+  legal = legal;
+}

@@ -1,0 +1,88 @@
+-- The history of an index of one copy: what its copy and its master were after each command.
+use Rattle.std.specs.Prelude.{◌≡◌, ◌⊎◌, false, List, [], ◌∷◌, ◌++◌, map}
+use mathlib.Core.List.{IsPrefix}
+use Rattle.master.specs.Logged as ruler
+use Rattle.replica.specs.Logged.{Logged, IsLogged}
+use Rattle.front.specs.Command.{Command}
+use Rattle.front.specs.Reply.{Reply}
+use Rattle.engine.specs.Answer.{SnapshotData}
+use Rattle.shard.specs.Ready.{IsServed}
+use Rattle.op.specs.Documents.{documents}
+use Rattle.op.specs.Records.{shown}
+use Rattle.replica.specs.Copy.{Copy}
+
+-- what an index is between two commands
+pub record Stand : Type 0 where
+  pub copy : Logged
+  pub master : ruler.Logged
+
+-- a command led from one to the next, in which the log of an open copy is that of its records
+pub record Follows (s t : Stand) : Type 0 where
+  pub command : Command
+  pub reply : Reply
+  pub served : IsServed s.copy s.master command reply t.copy t.master
+  pub logged : IsLogged t.copy
+
+-- each follows from the one before it
+abbrev pub RunsOn : Stand → List Stand → Type 0
+RunsOn s [] = Unit {0}
+RunsOn s (t ∷ ts) = Follows s t × RunsOn t ts
+
+abbrev pub IsHistory : List Stand → Type 0
+IsHistory [] = ⊥
+IsHistory (s ∷ ts) = IsLogged s.copy × RunsOn s ts
+
+-- this is the last
+pub record EndsIn (t : Stand) (ts : List Stand) : Type 0 where
+  pub before : List Stand
+  pub is : ts ≡ before ++ t ∷ []
+
+-- one more stands behind those of a history, by a command
+pub record IsNext (old new : List Stand) : Type 0 where
+  pub at : Stand
+  pub next : Stand
+  pub ends : EndsIn at old
+  pub follows : Follows at next
+  pub is : new ≡ old ++ next ∷ []
+
+-- the history goes on from what was known up to a place, from which the command led to the next, which is the last that is known then
+pub record IsDone (old : List Stand) (c : Command) (r : Reply) (new : List Stand) : Type 0 where
+  pub start : List Stand
+  pub at : Stand
+  pub next : Stand
+  pub goes_on : IsPrefix old start
+  pub ends : EndsIn at start
+  pub served : IsServed at.copy at.master c r next.copy next.master
+  pub is : new ≡ start ++ next ∷ []
+  pub legal : IsHistory new
+
+-- at the end of the history the command has this reply and changes nothing
+pub record IsReplyAt (ts : List Stand) (c : Command) (r : Reply) : Type 0 where
+  pub at : Stand
+  pub ends : EndsIn at ts
+  pub served : IsServed at.copy at.master c r at.copy at.master
+
+-- the history goes on from what was known up to such a place
+pub record IsLooked (old : List Stand) (c : Command) (r : Reply) (new : List Stand) : Type 0 where
+  pub goes_on : IsPrefix old new
+  pub replied : IsReplyAt new c r
+  pub legal : IsHistory new
+
+-- the reply is that of the index at a place of its history that isn't before what was known; this place is known then
+abbrev pub IsTold : List Stand → Command → Reply → List Stand → Type 0
+IsTold old c r new = IsDone old c r new ⊎ IsLooked old c r new
+
+-- what searches of a copy see: its records up to its refresh point
+abbrev pub seen_of : Copy → SnapshotData
+seen_of c = record { mapping = c.mapping; documents = documents (shown c.records c.point) }
+
+-- it is what searches see of an index whose copy is open
+pub record IsSeenOf (s : SnapshotData) (t : Stand) : Type 0 where
+  pub now_open : t.copy.closed ≡ false
+  pub sees : s ≡ seen_of t.copy.copy
+
+-- it is what they see at the end of a history
+pub record IsSeenAt (s : SnapshotData) (ts : List Stand) : Type 0 where
+  pub at : Stand
+  pub ends : EndsIn at ts
+  pub seen : IsSeenOf s at

@@ -1,0 +1,204 @@
+//! The history of an index of one copy: what it was after each command. It exists in proofs alone, but for how long it is.
+ghost use Rattle.std.specs.Prelude.{◌≡◌, IsTrue, IfSome, map};
+ghost use Rattle.std.specs.Arc.{arc_value};
+ghost use mathlib.Core.List.{IsPrefix};
+ghost use Rattle.front.specs.CommandView.{command_view};
+ghost use Rattle.front.specs.ReplyView.{reply_view};
+ghost use Rattle.shard.specs.History.{EndsIn, IsDone, IsHistory, IsNext, IsSeenOf};
+
+use crate::shard::Shard;
+use chronicle::{Chronicle, Mark, Writer};
+use engine::{Merged, Merging, Snapshot};
+use front::{Command, Reply, Service};
+use std::alloc::{AllocError, Global};
+use std::marker::{Brand, Model, PhantomData};
+use std::sync::Arc;
+use translog::LogDevice;
+
+/// Whose history it is. A call of a program picks it by `Brand`.
+pub trait HistoryName {
+    ghost use Rattle.chronicle.specs.Written.{Line};
+
+    ghost line: { Line };
+}
+
+impl HistoryName for Brand {
+    ghost use Rattle.chronicle.specs.Written.{line};
+
+    ghost line = { line (record { number = 0; log_name = 0; cells_name = 0 }) 0 };
+}
+
+/// An index at the beginning of its history, which has no name yet. Contracts see its line.
+#[derive(Drop)]
+pub struct Begun<D: LogDevice> {
+    shard: Shard<D>,
+    chronicle: Chronicle<Shard<D>>,
+    writer: Writer<Shard<D>>,
+    mark: Mark<Shard<D>>,
+}
+
+impl<D: LogDevice> Model for Begun<D> {
+    ghost use Rattle.std.specs.Prelude.{◌≡◌, [], ◌∷◌};
+    ghost use Rattle.chronicle.specs.Written.{Line};
+    ghost use Rattle.replica.specs.Logged.{IsLogged};
+
+    ghost Value = { Line };
+
+    ghost view = { λ b. b.writer.line };
+
+    ghost invariant = { λ b. (b.chronicle ≡ b.writer.line.book) × (b.writer.entries ≡ b.shard ∷ []) × (b.mark ≡ b.writer) × IsLogged b.shard.copy };
+}
+
+impl<D: LogDevice> Begun<D> {
+    /// The history of an index begins.
+    pub fn new(shard: Shard<D>) -> Begun<D> {
+        let chronicle = Chronicle::new();
+        let mut writer = chronicle.writer();
+        shard.is_logged();
+        let mark = writer.append(&chronicle, &shard);
+        Begun {
+            shard,
+            chronicle,
+            writer,
+            mark,
+        }
+    }
+}
+
+/// A beginning of the history of an index that was reached. Contracts see what the index was after each command.
+#[derive(Drop)]
+pub struct Reached<D: LogDevice, N: HistoryName> {
+    mark: Mark<Shard<D>>,
+    count: u64,
+    of: PhantomData<N>,
+}
+
+impl<D: LogDevice, N: HistoryName> Model for Reached<D, N> {
+    ghost use Rattle.std.specs.Prelude.{◌≡◌, List, length, map, min};
+    ghost use Rattle.shard.specs.History.{Stand, IsHistory};
+
+    ghost Value = { List Stand };
+
+    ghost view = { λ r. map (λ s. record { copy = s.copy; master = s.master }) r.mark.entries };
+
+    ghost invariant = { λ r. (r.mark.line ≡ N.line) × (r.count ≡ min (length r.mark.entries) 18446744073709551615) × IsHistory (map (λ s. record { copy = s.copy; master = s.master }) r.mark.entries) };
+}
+
+impl<D: LogDevice, N: HistoryName> Reached<D, N> {
+    /// The same once more.
+    pub fn again(&self) -> Reached<D, N>
+        ensures { result ≡ self.now }
+    {
+        Reached {
+            mark: self.mark.again(),
+            count: self.count,
+            of: PhantomData,
+        }
+    }
+
+    /// One more place, which a mark reaches.
+    fn behind(&self, mark: Mark<Shard<D>>) -> Reached<D, N>
+        requires line { mark.line ≡ N.line }
+        requires next { IsNext self.now (map (λ s. record { copy = s.copy; master = s.master }) mark.entries) }
+        ensures is { result ≡ map (λ s. record { copy = s.copy; master = s.master }) mark.entries }
+        ensures legal { IsHistory result }
+    {
+        Reached {
+            mark,
+            count: self.count.saturating_add(1),
+            of: PhantomData,
+        }
+    }
+
+    /// Whether it is known that another one goes on from this.
+    pub fn is_before(&self, other: &Reached<D, N>) -> bool
+        ensures before { IsTrue result → IsPrefix self.now other.now }
+    {
+        self.mark.agrees(&other.mark);
+        self.count <= other.count && self.count < u64::MAX
+    }
+}
+
+/// An index with its history. Contracts see what it is now.
+#[derive(Drop)]
+pub(crate) struct Kept<D: LogDevice, N: HistoryName> {
+    shard: Shard<D>,
+    chronicle: Chronicle<Shard<D>>,
+    writer: Writer<Shard<D>>,
+    last: Reached<D, N>,
+}
+
+impl<D: LogDevice, N: HistoryName> Model for Kept<D, N> {
+    ghost use Rattle.std.specs.Prelude.{◌≡◌, map};
+    ghost use Rattle.shard.specs.History.{EndsIn, Stand};
+
+    ghost Value = { Stand };
+
+    ghost view = { λ k. record { copy = k.shard.copy; master = k.shard.master } };
+
+    ghost invariant = { λ k. (k.writer.line ≡ N.line) × (k.chronicle ≡ N.line.book) × (k.last ≡ map (λ s. record { copy = s.copy; master = s.master }) k.writer.entries) × EndsIn (record { copy = k.shard.copy; master = k.shard.master }) k.last };
+}
+
+impl<D: LogDevice, N: HistoryName> Kept<D, N> {
+    /// The index, whose history has this name from now on.
+    pub(crate) fn of(begun: Begun<D>) -> Kept<D, N>
+        requires { begun ≡ N.line }
+    {
+        let Begun {
+            shard,
+            chronicle,
+            writer,
+            mark,
+        } = begun;
+        Kept {
+            shard,
+            chronicle,
+            writer,
+            last: Reached {
+                mark,
+                count: 1,
+                of: PhantomData,
+            },
+        }
+    }
+
+    /// How far its history goes.
+    pub(crate) fn reached(&self) -> Reached<D, N>
+        ensures { EndsIn self.now result }
+    {
+        self.last.again()
+    }
+
+    /// Does a command, for one who knows so much of the history, and tells how far this goes then.
+    #[tactic(auto, using(crate::proofs::Histories::next_by, crate::proofs::Histories::done_by))]
+    pub(crate) fn call(&mut self, known: &Reached<D, N>, command: Command) -> (Reply, Reached<D, N>)
+        ensures done { IsDone known.now (command_view command) (reply_view result.0) result.1 }
+        ensures ends { EndsIn self.new result.1 }
+    {
+        self.writer.has(&self.chronicle, &known.mark);
+        let reply = self.shard.call(command);
+        self.shard.is_logged();
+        let mark = self.writer.append(&self.chronicle, &self.shard);
+        self.last = self.last.behind(mark);
+        (reply, self.last.again())
+    }
+
+    /// What searches see at this place of the history; nothing while the copy is closed.
+    pub(crate) fn snapshot(&self) -> Option<&Arc<Snapshot, Global>>
+        ensures { IfSome result (λ s. IsSeenOf (arc_value s.now) self.now) }
+    {
+        self.shard.snapshot()
+    }
+
+    /// Begins a merge of segments that go well into one, where searches look through many. The index stays as it is.
+    pub(crate) fn begin_next_merge(&self) -> Result<Option<Merging>, AllocError> {
+        self.shard.begin_next_merge()
+    }
+
+    /// Puts a merged segment in place of those that it is made of, and tells whether these are there. What the index has and shows stays.
+    pub(crate) fn swap_merged(&mut self, merged: Merged) -> Result<bool, AllocError>
+        ensures { self.new ≡ self.old }
+    {
+        self.shard.swap_merged(merged)
+    }
+}
