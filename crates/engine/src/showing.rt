@@ -151,7 +151,7 @@ impl Showing {
         self.parts.len()
     }
 
-    /// The same with a merged part in place of those that it is made of, where these are all there. A merge of none leaves all as it is.
+    /// The same with a merged part in place of those of its parts that are still there, where one is. A merge of none leaves all as it is.
     pub(crate) fn swapped(
         &self,
         alloc: Global,

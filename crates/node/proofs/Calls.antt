@@ -1,9 +1,7 @@
 -- What a call leaves.
 use Rattle.std.proofs.Common.{◌≡◌, ℕ, suc, List, [], ◌∷◌, ◌++◌, length, refl, sym, ap, subst, ◌∙◌, Result, Ok, Err, IfErr}
-use Rattle.std.specs.Prelude.{IsOk, Some, slice_get}
-use Rattle.replica.specs.declared.fault.CopyFault.{CopyFault}
+use Rattle.std.specs.Prelude.{Some, slice_get}
 use Rattle.replica.specs.declared.input.Input.{Input}
-use Rattle.replica.specs.declared.output.Output.{Output}
 use Rattle.replica.specs.Logged.{Logged, IsLogged}
 use Rattle.journal.specs.declared.journal.Deed.{Deed}
 use Rattle.journal.specs.Journal.{Standing, IsLegal, IsLegalAt, after, next, open_at}
@@ -13,7 +11,7 @@ use Rattle.node.specs.Entry.{Receipt, IsEntryAt}
 use Rattle.node.specs.declared.telling.Entered.{Entered}
 use Rattle.node.specs.declared.telling.Told.{Told}
 use Rattle.node.specs.Passes.{PassData}
-use Rattle.node.specs.Held.{JournalData, IsHeld, IsCall, IsRefusal, IsLastOf}
+use Rattle.node.specs.Held.{JournalData, IsHeld, IsRefusal, IsLastOf}
 use Rattle.node.specs.Stands.{IsDenied, LastStands}
 use Rattle.node.specs.Telling.{IsEntered, IsTelling, receipt, given_of}
 use Rattle.node.specs.Replay.{IsIdle, IsReplayed, IsStep}
@@ -81,26 +79,6 @@ entered_there h new number asked e is =
 -- it stands in a legal journal
 pub entry_at : (h : JournalData) (l : Logged) (node place : ℕ) (d : Deed) → node ≡ h.opening.id → IsHeld h l → slice_get h.deeds place ≡ Some d → IsEntryAt node place d
 entry_at h l node place d is held there = record { opening = h.opening; deeds = h.deeds; legal = held.legal; node_is = sym is; stands = there }
-
--- its receipt is that of a call
-pub called : (old new : JournalData) (p q : PassData) (asked : Input) (e : Entered) (r : Receipt) → IsEntered old new p.number asked e → r ≡ receipt new.opening.id e.place e.kept
-    → q ≡ record p { receipts = p.receipts ++ r ∷ [] } → IsCall old new p q asked r
-called old new p q asked e r is same pass =
-    let deed : r.deed ≡ e.kept = ap (λ (x : Receipt). x.deed) same in
-    record {
-      journal = is.journal ∙ ap (λ (d : Deed). let x : JournalData = record old { deeds = old.deeds ++ d ∷ [] } in x) (sym deed);
-      pass = pass;
-      node = ap (λ (x : Receipt). x.node) same ∙ ap (λ (x : JournalData). x.opening.id) is.journal;
-      place = ap (λ (x : Receipt). x.place) same ∙ is.place;
-      number = ap (λ (d : Deed). d.pass) deed ∙ is.pass;
-      asked = ap (λ (d : Deed). d.input) deed ∙ is.input;
-      legal = subst (λ (d : Deed). IsLegalAt (after_all old) d) (sym deed) is.legal;
-    }
-
--- an entry that the caller gets is that of the journal
-pub given_ok : (d g : Deed) (answer : Result Output CopyFault) → Ok g ≡ given_of d answer → (g ≡ d) × IsOk answer
-given_ok d g (Ok output) same = (cc, refl)
-given_ok d g (Err e) same = absurd cc
 
 -- its receipt is the last
 pub entered_last : (old new : JournalData) (number : ℕ) (asked : Input) (e : Entered) (r : Receipt) → IsEntered old new number asked e → r ≡ receipt new.opening.id e.place e.kept → IsLastOf new r

@@ -195,7 +195,7 @@ impl<D: LogDevice, N: HistoryName> Kept<D, N> {
         self.shard.begin_next_merge()
     }
 
-    /// Puts a merged segment in place of those that it is made of, and tells whether these are there. What the index has and shows stays.
+    /// Puts a merged segment in place of those that it is made of and that are still there, and tells whether one is. What the index has and shows stays.
     pub(crate) fn swap_merged(&mut self, merged: Merged) -> Result<bool, AllocError>
         ensures { self.new ≡ self.old }
     {

@@ -101,7 +101,7 @@ impl<D: LogDevice> Shard<D> {
         self.copy.begin_next_merge(self.alloc)
     }
 
-    /// Puts a merged segment in place of those that it is made of, and tells whether these are there. What the index has and shows stays.
+    /// Puts a merged segment in place of those that it is made of and that are still there, and tells whether one is. What the index has and shows stays.
     pub(crate) fn swap_merged(&mut self, merged: Merged) -> Result<bool, AllocError>
         ensures copy { self.new.copy ≡ self.old.copy }
         ensures master { self.new.master ≡ self.old.master }
