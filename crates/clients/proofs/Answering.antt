@@ -1,5 +1,5 @@
 -- One step of a conversation.
-use Rattle.std.proofs.Common.{◌≡◌, ◌≤◌, ℕ, zero, suc, Bool, true, false, List, [], ◌∷◌, length, drop, Option, Some, None, if◌then◌else◌, refl, sym, ap, ◌∙◌, arith}
+use Rattle.std.proofs.Common.{◌≡◌, ◌≤◌, ℕ, zero, suc, Bool, true, false, List, [], ◌∷◌, length, drop, Option, Some, None, IfSome, if◌then◌else◌, refl, sym, ap, ◌∙◌, arith}
 use Rattle.doc.specs.Mapping.{MappingData}
 use Rattle.wire.specs.declared.reading.Whole.{Whole}
 use Rattle.wire.specs.declared.reading.Whole.TheVariants.{Broken, Asked}
@@ -19,41 +19,48 @@ drop_past (suc n) [] h = refl
 drop_past (suc n) (x ∷ xs) h = drop_past n xs (omega arith)
 
 -- no request stands whole
-pub no_more : (old : Talk) (slice : List ℕ) (left : Option (List ℕ)) (w : Option Whole) → old.ended ≡ false → slice ≡ old.waiting → w ≡ None → IsRead (first slice) w left → standing old ≡ []
+pub no_more : {K : Type 0} (old : Talk K) (slice : List ℕ) (left : Option (List ℕ)) (w : Option Whole) → old.ended ≡ false → slice ≡ old.waiting → w ≡ None → IsRead (first slice) w left → standing old ≡ []
 no_more old slice left w going same is r =
     let none_read : IsRead (first slice) None left = rw is at r in
     ap (λ e. if e then [] else requests old.waiting) going ∙ ap requests (sym same) ∙ read_none left slice none_read
 
 -- nothing is answered any more
-pub no_more_ended : (old : Talk) → old.ended ≡ true → standing old ≡ []
+pub no_more_ended : {K : Type 0} (old : Talk K) → old.ended ≡ true → standing old ≡ []
 no_more_ended old e = ap (λ b. if b then [] else requests old.waiting) e
 
-module _ {S : Type 0} (greets : Bool) (answers : S → Command → Reply → S → Type 0) (index : List ℕ) (mapping : MappingData) where
+module _ {S K : Type 0} (greets : Bool) (answers : S → Command → Reply → S → Type 0) (knows : S → K) (index : List ℕ) (mapping : MappingData) where
   -- the first request was read and answered
-  pub next_answered : (s t : S) (old new : Talk) (w : Whole) (slice rest page : List ℕ) → old.ended ≡ false → old.unsent ≡ [] → slice ≡ old.waiting
+  pub next_answered : (s t : S) (old new : Talk K) (w : Whole) (slice rest page : List ℕ) → old.ended ≡ false → old.unsent ≡ [] → slice ≡ old.waiting
       → IsRead (first slice) (Some w) (Some rest) → new.waiting ≡ rest → new.ended ≡ ends w → new.unsent ≡ page
+      → IfSome old.known (λ k. knows s ≡ k) → new.known ≡ Some (knows t)
       → ((q : Standing) → IsStanding w q → AnsweredBy greets answers index mapping q s page t)
-      → (q : Standing) × IsStanding w q × Answers greets answers index mapping q s t old new
-  next_answered s t old new (Broken e) slice rest page going sent same r waiting ended unsent a =
+      → (q : Standing) × IsStanding w q × (from : S) × Answers greets answers knows index mapping q from t old new
+  next_answered s t old new (Broken e) slice rest page going sent same r waiting ended unsent resumed learnt a =
       let f : first old.waiting ≡ broken r.0 = ap first (sym same) ∙ r.2 in (
         bad r.0,
         (r.0, r.1, refl),
+        s,
         record {
           going = going;
           sent = sent;
           is_first = rw f (refl, ended);
+          resumed = resumed;
           answered = rw unsent (a (bad r.0) (r.0, r.1, refl));
+          learnt = learnt;
         },
       )
-  next_answered s t old new (Asked q) slice rest page going sent same r waiting ended unsent a =
+  next_answered s t old new (Asked q) slice rest page going sent same r waiting ended unsent resumed learnt a =
       let f : first old.waiting ≡ asked (request_view q) q.closes r.0 = ap first (sym same) ∙ r.2 in
       let behind : rest ≡ r.0 = cc r.1 in (
         good (request_view q),
         refl,
+        s,
         record {
           going = going;
           sent = sent;
           is_first = rw f (refl, waiting ∙ behind, ended);
+          resumed = resumed;
           answered = rw unsent (a (good (request_view q)) refl);
+          learnt = learnt;
         },
       )

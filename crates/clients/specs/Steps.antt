@@ -1,5 +1,5 @@
 -- The steps of a conversation.
-use Rattle.std.specs.Prelude.{◌≡◌, ℕ, List, [], ◌++◌, length, Bool, true, false, Option, Some, None, if◌then◌else◌}
+use Rattle.std.specs.Prelude.{◌≡◌, ℕ, List, [], ◌++◌, length, Bool, true, false, Option, Some, None, IfSome, if◌then◌else◌}
 use Rattle.std.specs.Io.KnownBytes.{Consumes, Appends}
 use Rattle.doc.specs.Mapping.{MappingData}
 use Rattle.wire.specs.declared.reading.Whole.{Whole}
@@ -14,19 +14,19 @@ use Rattle.front.specs.Work.{work_of}
 use Rattle.clients.specs.Talk.{Talk}
 
 -- these bytes came behind the others
-abbrev pub Receives : List ℕ → Talk → Talk → Type 0
-Receives bytes old new = (new.waiting ≡ old.waiting ++ bytes) × (new.unsent ≡ old.unsent) × (new.ended ≡ old.ended)
+abbrev pub Receives : {K : Type 0} → List ℕ → Talk K → Talk K → Type 0
+Receives bytes old new = (new.waiting ≡ old.waiting ++ bytes) × (new.unsent ≡ old.unsent) × (new.ended ≡ old.ended) × (new.known ≡ old.known)
 
 -- these bytes, the first that weren't sent, were sent
-abbrev pub Sends : List ℕ → Talk → Talk → Type 0
-Sends bytes old new = (new.waiting ≡ old.waiting) × (old.unsent ≡ bytes ++ new.unsent) × (new.ended ≡ old.ended)
+abbrev pub Sends : {K : Type 0} → List ℕ → Talk K → Talk K → Type 0
+Sends bytes old new = (new.waiting ≡ old.waiting) × (old.unsent ≡ bytes ++ new.unsent) × (new.ended ≡ old.ended) × (new.known ≡ old.known)
 
 -- so many bytes were read, and came behind the others
-abbrev pub Gathers : ℕ → Option (List ℕ) → Option (List ℕ) → Talk → Talk → Type 0
+abbrev pub Gathers : {K : Type 0} → ℕ → Option (List ℕ) → Option (List ℕ) → Talk K → Talk K → Type 0
 Gathers n left after old new = (bytes : List ℕ) × (length bytes ≡ n) × Consumes left after bytes × Receives bytes old new
 
 -- so many bytes, the first that weren't sent, were written
-abbrev pub SendsTo : ℕ → Option (List ℕ) → Option (List ℕ) → Talk → Talk → Type 0
+abbrev pub SendsTo : {K : Type 0} → ℕ → Option (List ℕ) → Option (List ℕ) → Talk K → Talk K → Type 0
 SendsTo n before after old new = (bytes : List ℕ) × (length bytes ≡ n) × Appends before after bytes × Sends bytes old new
 
 -- this request stands first, these bytes are behind it, and this is whether the stream ends after it
@@ -40,18 +40,20 @@ abbrev pub AnsweredBy : {S : Type 0} → Bool → (S → Command → Reply → S
 AnsweredBy true answers index mapping q s out t = Greeted answers index mapping q s out t
 AnsweredBy false answers index mapping q s out t = Answered answers index (work_of index mapping q) s out t
 
--- the first request of the bytes that wait was answered, once, and its page waits to be sent
-pub record Answers {S : Type 0} (greets : Bool) (answers : S → Command → Reply → S → Type 0) (index : List ℕ) (mapping : MappingData) (q : Standing) (s t : S) (old new : Talk) : Type 0 where
+-- the first request of the bytes that wait was answered, once, by a service that went on from what the client knew; its page waits to be sent, and the client knows what the service then tells
+pub record Answers {S K : Type 0} (greets : Bool) (answers : S → Command → Reply → S → Type 0) (knows : S → K) (index : List ℕ) (mapping : MappingData) (q : Standing) (s t : S) (old new : Talk K) : Type 0 where
   pub going : old.ended ≡ false
   pub sent : old.unsent ≡ []
   pub is_first : IsNext (first old.waiting) q new.waiting new.ended
+  pub resumed : IfSome old.known (λ k. knows s ≡ k)
   pub answered : AnsweredBy greets answers index mapping q s new.unsent t
+  pub learnt : new.known ≡ Some (knows t)
 
 -- the requests that stand whole and aren't answered
-abbrev pub standing : Talk → List Standing
+abbrev pub standing : {K : Type 0} → Talk K → List Standing
 standing c = if c.ended then [] else requests c.waiting
 
--- the request was answered, or where there was none nothing was done
-abbrev pub AnswersNext : {S : Type 0} → Bool → (S → Command → Reply → S → Type 0) → List ℕ → MappingData → S → S → Talk → Talk → Option Whole → Type 0
-AnswersNext greets answers index mapping s t old new None = (standing old ≡ []) × (t ≡ s) × (new ≡ old)
-AnswersNext greets answers index mapping s t old new (Some w) = (q : Standing) × IsStanding w q × Answers greets answers index mapping q s t old new
+-- the request was answered, and the service is then t; or where there was none nothing was done
+abbrev pub AnswersNext : {S K : Type 0} → Bool → (S → Command → Reply → S → Type 0) → (S → K) → List ℕ → MappingData → S → S → Talk K → Talk K → Option Whole → Type 0
+AnswersNext greets answers knows index mapping s t old new None = (standing old ≡ []) × (t ≡ s) × (new ≡ old)
+AnswersNext {S} greets answers knows index mapping s t old new (Some w) = (q : Standing) × IsStanding w q × (from : S) × Answers greets answers knows index mapping q from t old new

@@ -6,7 +6,7 @@ use crate::noting::{Notes, Noting};
 use crate::poller::{LISTENER, Poller};
 use crate::table::{Job, Table};
 use crate::watcher::Watcher;
-use front::{Command, Reply, Service};
+use front::{Command, Reply, Resumable, Service};
 use mio::net::TcpStream;
 use mio::{Interest, Token, Waker};
 use std::alloc::Global;
@@ -25,28 +25,28 @@ const MOST_ACCEPTED: u64 = 256;
 
 /// The next connection that is ready, whether no other is open, and whether others are ready.
 #[derive(Drop)]
-struct NextJob {
-    job: Job,
+struct NextJob<K: Drop> {
+    job: Job<K>,
     alone: bool,
     others: bool,
 }
 
-/// The connections of a listener.
+/// The connections of a listener, whose clients know this of the service.
 #[derive(Drop)]
-pub struct Clients<'w, W: Watcher> {
+pub struct Clients<'w, W: Watcher, K: Drop> {
     alloc: Global,
     limits: Limits,
     watcher: &'w W,
     started: Option<Instant>,
     poller: Mutex<Poller>,
-    table: Mutex<Table>,
+    table: Mutex<Table<K>>,
     waker: Waker,
     all_begun: AtomicBool,
     ended: AtomicBool,
     notes: Notes,
 }
 
-impl<'w, W: Watcher> Clients<'w, W> {
+impl<'w, W: Watcher, K: Drop> Clients<'w, W, K> {
     /// The connections that come to a listener.
     pub fn new<R: Net + Clock>(
         rt: &R,
@@ -54,7 +54,7 @@ impl<'w, W: Watcher> Clients<'w, W> {
         listener: TcpListener,
         limits: Limits,
         watcher: &'w W,
-    ) -> io::Result<Clients<'w, W>> {
+    ) -> io::Result<Clients<'w, W, K>> {
         let (poller, waker) = Poller::new(rt, alloc, listener)?;
         let idle = limits.idle.saturating_mul(1000);
         Ok(Clients {
@@ -77,7 +77,7 @@ impl<'w, W: Watcher> Clients<'w, W> {
     }
 
     /// Serves connections in this lane with this service, until the last that is wanted has ended; in the last lane it refreshes the index.
-    pub fn run<R: Wait + Clock, S: Service + Drop>(
+    pub fn run<R: Wait + Clock, S: Resumable<Known = K> + Drop>(
         &self,
         rt: &R,
         lane: usize,
@@ -99,7 +99,7 @@ impl<'w, W: Watcher> Clients<'w, W> {
     }
 
     /// Works on what is ready, and where nothing is waits until something is.
-    fn serve<'a, R: Wait + Clock, S: Service>(
+    fn serve<'a, R: Wait + Clock, S: Resumable<Known = K>>(
         &'a self,
         rt: &R,
         service: &mut Noting<'a, S>,
@@ -117,16 +117,16 @@ impl<'w, W: Watcher> Clients<'w, W> {
         unreachable!()
     }
 
-    fn next_job<R: Wait>(&self, rt: &R) -> Option<Job> {
+    fn next_job<R: Wait>(&self, rt: &R) -> Option<Job<K>> {
         let mut table = self.table.lock(rt);
         table.next()
     }
 
     /// Has the connection do what it can, and puts it back.
-    fn work<R: Wait + Clock, S: Service>(
+    fn work<R: Wait + Clock, S: Resumable<Known = K>>(
         &self,
         rt: &R,
-        job: Job,
+        job: Job<K>,
         service: &mut S,
         room: &mut [u8],
     ) {
@@ -141,7 +141,7 @@ impl<'w, W: Watcher> Clients<'w, W> {
     }
 
     /// Ends a connection.
-    fn close<R: Wait>(&self, rt: &R, job: Job, now: u64) {
+    fn close<R: Wait>(&self, rt: &R, job: Job<K>, now: u64) {
         let Job { place, connection } = job;
         let (share, ticket) = (connection.has_share, connection.has_ticket);
         drop(connection);
@@ -166,7 +166,7 @@ impl<'w, W: Watcher> Clients<'w, W> {
 
     /// Waits for all connections, while no other thread does: it has the lead. Where one alone is ready this thread works on it itself, and gives the
     /// lead up only before a command that would hold up the others: handing it on costs more than a get.
-    fn lead<'a, R: Wait + Clock, S: Service>(
+    fn lead<'a, R: Wait + Clock, S: Resumable<Known = K>>(
         &'a self,
         rt: &R,
         service: &mut Noting<'a, S>,
@@ -197,7 +197,7 @@ impl<'w, W: Watcher> Clients<'w, W> {
         unreachable!()
     }
 
-    fn next_of<R: Wait>(&self, rt: &R) -> Option<NextJob> {
+    fn next_of<R: Wait>(&self, rt: &R) -> Option<NextJob<K>> {
         let mut table = self.table.lock(rt);
         let job = table.next()?;
         Some(NextJob {

@@ -4,7 +4,7 @@ use crate::conversation::Conversation;
 use crate::limits::{LINGER, LONGEST_REQUEST, MOST_LINGERING, PATIENCE, SHARE, STEPS_IN_A_ROW};
 use crate::progress::Progress;
 use crate::watcher::Watcher;
-use front::Service;
+use front::Resumable;
 use mio::net::TcpStream;
 use std::alloc::Global;
 use std::io::{Error, ErrorKind, Read};
@@ -42,10 +42,10 @@ enum Phase {
 
 /// A connection, its conversation, and what it holds of the room for unfinished requests.
 #[derive(Drop)]
-pub(crate) struct Connection {
+pub(crate) struct Connection<K: Drop> {
     number: u64,
     stream: TcpStream,
-    conversation: Conversation,
+    conversation: Conversation<K>,
     progress: Progress,
     answered: u64,
     drained: bool,
@@ -60,14 +60,14 @@ pub(crate) struct Connection {
     pub(crate) expired: bool,
 }
 
-impl Connection {
+impl<K: Drop> Connection<K> {
     pub(crate) fn new(
         alloc: Global,
         number: u64,
         stream: TcpStream,
         deadline: u64,
         greets: bool,
-    ) -> Connection {
+    ) -> Connection<K> {
         Connection {
             number,
             stream,
@@ -88,7 +88,7 @@ impl Connection {
     }
 
     /// Does what can be done without waiting, up to so many steps.
-    pub(crate) fn work<S: Service, W: Watcher>(
+    pub(crate) fn work<S: Resumable<Known = K>, W: Watcher>(
         &mut self,
         service: &mut S,
         watcher: &W,
@@ -108,7 +108,7 @@ impl Connection {
     }
 
     /// Sends what waits to be sent, or else answers a request that stands whole, or else reads.
-    fn step<S: Service, W: Watcher>(
+    fn step<S: Resumable<Known = K>, W: Watcher>(
         &mut self,
         service: &mut S,
         watcher: &W,
@@ -136,7 +136,11 @@ impl Connection {
     }
 
     /// Answers the next request, and sends its page as far as it is taken at once. Where memory is wanting for it this connection ends.
-    fn answer<S: Service, W: Watcher>(&mut self, service: &mut S, watcher: &W) -> Next {
+    fn answer<S: Resumable<Known = K>, W: Watcher>(
+        &mut self,
+        service: &mut S,
+        watcher: &W,
+    ) -> Next {
         if !self.conversation.is_sent() {
             return Next::Goes;
         }

@@ -4,30 +4,31 @@ ghost use Rattle.wire.specs.Reading.{IsStanding};
 ghost use Rattle.wire.specs.Requests.{Standing};
 ghost use Rattle.clients.specs.Steps.{AnsweredBy};
 
-use front::{Service, answer, greet};
+use front::{Resumable, Service, answer, greet};
 use std::alloc::{AllocError, Global};
 use std::io;
 use std::io::{Read, Write};
 use wire::{StreamFault, Whole, read_request};
 
-/// The bytes that were received and aren't answered yet, and the page that is being sent.
+/// The bytes that were received and aren't answered yet, the page that is being sent, and what the client knows.
 #[derive(Drop)]
-pub struct Conversation {
+pub struct Conversation<K: Drop> {
     alloc: Global,
     waiting: Vec<u8>,
     page: String,
     sent: usize,
     ended: bool,
     greets: bool,
+    known: Option<K>,
 }
 
-impl Conversation {
+impl<K: Drop> Conversation<K> {
     ghost use Rattle.std.specs.Io.KnownBytes.{Keeps};
     ghost use Rattle.clients.specs.Talk.{talk, greets_of, begun};
     ghost use Rattle.clients.specs.Steps.{Receives, SendsTo, Gathers, AnswersNext};
 
     /// One in which nothing was said. Its requests are answered by `greet` or by `answer`.
-    pub fn new(alloc: Global, greets: bool) -> Conversation
+    pub fn new(alloc: Global, greets: bool) -> Conversation<K>
         ensures nothing { talk result ≡ begun }
         ensures rule { greets_of result ≡ greets }
     {
@@ -38,6 +39,7 @@ impl Conversation {
             sent: 0,
             ended: false,
             greets,
+            known: None,
         }
     }
 
@@ -106,11 +108,14 @@ impl Conversation {
         Ok(n)
     }
 
-    /// Answers the first request that stands whole, and gives it back; none where none does, or the stream has ended. The page of the request
-    /// before was sent.
-    pub fn answer<S: Service>(&mut self, service: &mut S) -> Result<Option<Whole>, StreamFault>
+    /// Answers the first request that stands whole, and gives it back; none where none does, or the stream has ended. The service goes on from what the
+    /// client knows, which then knows what it tells. The page of the request before was sent.
+    pub fn answer<S: Resumable<Known = K>>(
+        &mut self,
+        service: &mut S,
+    ) -> Result<Option<Whole>, StreamFault>
         requires { (talk self.old).unsent ≡ [] }
-        ensures ok { IfOk result (AnswersNext (greets_of self.old) S.answers (S.name service.old) (S.fields service.old) service.old service.new (talk self.old) (talk self.new)) }
+        ensures ok { IfOk result (AnswersNext (greets_of self.old) S.answers S.knows (S.name service.old) (S.fields service.old) service.old service.new (talk self.old) (talk self.new)) }
         ensures name { S.name service.new ≡ S.name service.old }
         ensures fields { S.fields service.new ≡ S.fields service.old }
         ensures rule { greets_of self.new ≡ greets_of self.old }
@@ -123,7 +128,9 @@ impl Conversation {
             return Ok(None);
         };
         let rest = rest.to_vec(self.alloc)?;
+        service.resume(&self.known);
         let page = answered(self.alloc, self.greets, service, &whole)?;
+        self.known = Some(service.known());
         self.page = page;
         self.sent = 0;
         self.ended = whole.ends();

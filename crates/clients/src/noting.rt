@@ -3,9 +3,9 @@ ghost use Rattle.std.specs.Prelude.{◌≡◌};
 
 use crate::poller::Poller;
 use doc::Mapping;
-use front::Service;
 use front::command::Command;
 use front::reply::Reply;
+use front::{Resumable, Service};
 use std::sync::MutexGuard;
 use std::sync::atomic::{AtomicBool, Ordering};
 
@@ -82,5 +82,19 @@ impl<'a, S: Service> Service for Noting<'a, S> {
             self.notes.written.store(true, Ordering::SeqCst);
         }
         reply
+    }
+}
+
+impl<'a, S: Resumable> Resumable for Noting<'a, S> {
+    type Known = S::Known;
+
+    ghost knows = { λ n. S.knows n.service };
+
+    fn known(&self) -> S::Known {
+        self.service.known()
+    }
+
+    fn resume(&mut self, known: &Option<S::Known>) {
+        self.service.resume(known);
     }
 }

@@ -7,8 +7,8 @@ use std::collections::VecDeque;
 
 /// A place of the table. While a thread works on a connection it isn't here; what is noted meanwhile has it looked at again.
 #[derive(Drop)]
-struct Slot {
-    connection: Option<Box<Connection>>,
+struct Slot<K: Drop> {
+    connection: Option<Box<Connection<K>>>,
     used: bool,
     noted: bool,
     closed: bool,
@@ -16,15 +16,15 @@ struct Slot {
 
 /// A connection that a thread works on, and its place.
 #[derive(Drop)]
-pub(crate) struct Job {
+pub(crate) struct Job<K: Drop> {
     pub(crate) place: usize,
-    pub(crate) connection: Box<Connection>,
+    pub(crate) connection: Box<Connection<K>>,
 }
 
 /// The connections, the places that are free, and those that may have something to do, in turn.
 #[derive(Drop)]
-pub(crate) struct Table {
-    slots: Vec<Slot>,
+pub(crate) struct Table<K: Drop> {
+    slots: Vec<Slot<K>>,
     free: Vec<usize>,
     ready: VecDeque<usize>,
     budget: Budget,
@@ -32,8 +32,8 @@ pub(crate) struct Table {
     idle: u64,
 }
 
-impl Table {
-    pub(crate) fn new(alloc: Global, bytes: u64, idle: u64) -> Table {
+impl<K: Drop> Table<K> {
+    pub(crate) fn new(alloc: Global, bytes: u64, idle: u64) -> Table<K> {
         Table {
             slots: Vec::new(alloc),
             free: Vec::new(alloc),
@@ -103,7 +103,7 @@ impl Table {
     }
 
     /// The next connection that may have something to do, and room to do it.
-    pub(crate) fn next(&mut self) -> Option<Job> {
+    pub(crate) fn next(&mut self) -> Option<Job<K>> {
         for _ in 0..self.ready.len() {
             let place = self.ready.pop_front()?;
             if let Some(connection) = self.taken(place) {
@@ -116,7 +116,7 @@ impl Table {
     }
 
     /// Takes the connection out of its place.
-    fn taken(&mut self, place: usize) -> Option<Box<Connection>> {
+    fn taken(&mut self, place: usize) -> Option<Box<Connection<K>>> {
         let slot = self.slots.get_mut(place)?;
         let mut connection = slot.connection.take()?;
         slot.noted = false;
@@ -127,7 +127,7 @@ impl Table {
     }
 
     /// The connection, if it has a share of the room for bytes or there is one; else it goes back, and waits.
-    fn admitted(&mut self, place: usize, mut connection: Box<Connection>) -> Option<Job> {
+    fn admitted(&mut self, place: usize, mut connection: Box<Connection<K>>) -> Option<Job<K>> {
         if connection.held == Held::Free && !connection.has_share && !connection.expired {
             match self.budget.shares.take(place) {
                 Ok(true) => connection.has_share = true,
@@ -146,7 +146,7 @@ impl Table {
     }
 
     /// Puts a connection back that a thread has worked on.
-    pub(crate) fn put(&mut self, job: Job, next: Next, now: u64) {
+    pub(crate) fn put(&mut self, job: Job<K>, next: Next, now: u64) {
         let Job {
             place,
             mut connection,
@@ -178,7 +178,7 @@ impl Table {
         self.give_back(gives_share, gives_ticket, now);
     }
 
-    fn set(&mut self, place: usize, connection: Box<Connection>, again: bool) {
+    fn set(&mut self, place: usize, connection: Box<Connection<K>>, again: bool) {
         let Some(slot) = self.slots.get_mut(place) else {
             return;
         };
@@ -192,7 +192,7 @@ impl Table {
     }
 
     /// A connection begins: it is looked at at once, since something may have come with it.
-    pub(crate) fn start(&mut self, place: usize, connection: Box<Connection>) {
+    pub(crate) fn start(&mut self, place: usize, connection: Box<Connection<K>>) {
         self.set(place, connection, true);
     }
 

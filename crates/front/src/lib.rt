@@ -22,6 +22,6 @@ pub use command::Command;
 pub use explaining::{greeted_reasons_of, reasons_of};
 pub use greeting::greet;
 pub use reply::Reply;
-pub use service::Service;
+pub use service::{Resumable, Service};
 pub use serving::{answer, serve_stream};
 pub use wire::StreamFault;

@@ -1,5 +1,5 @@
 //! What stands behind the requests of one index.
-ghost use Rattle.std.specs.Prelude.{◌≡◌, List, ℕ};
+ghost use Rattle.std.specs.Prelude.{◌≡◌, List, ℕ, IfSome};
 ghost use Rattle.doc.specs.Mapping.{MappingData};
 ghost use Rattle.front.specs.Command as asked;
 ghost use Rattle.front.specs.Reply as given;
@@ -35,4 +35,24 @@ pub trait Service {
         ensures answers { answers self.old (command_view command) (reply_view result) self.new }
         ensures name { name self.new ≡ name self.old }
         ensures fields { fields self.new ≡ fields self.old };
+}
+
+/// A service that many clients ask in turn, by any of several threads. What one of them knows of it goes with that client, and whoever answers it next goes
+/// on from there.
+pub trait Resumable: Service {
+    /// What a client knows of the service.
+    type Known: Drop;
+
+    /// What the client knows that is served now.
+    ghost knows: { Self → Self.Known };
+
+    /// What the client knows that is served now.
+    fn known(&self) -> Self::Known
+        ensures { result ≡ knows self.now };
+
+    /// Serves from now on a client who knows this; one who was told nothing yet, where nothing is given.
+    fn resume(&mut self, known: &Option<Self::Known>)
+        ensures knows { IfSome known.now (λ k. knows self.new ≡ k) }
+        ensures name { Self.name self.new ≡ Self.name self.old }
+        ensures fields { Self.fields self.new ≡ Self.fields self.old };
 }

@@ -12,9 +12,9 @@ use crate::promoting::{is_promotion, promote, refusal_to};
 use cluster::{Client, ClusterFault, Confirmed};
 use doc::{DocId, Mapping};
 use engine::Hits;
-use front::Service;
 use front::command::{Command, Write};
 use front::reply::{Refusal, Reply};
+use front::{Resumable, Service};
 use node::Receipt;
 use published::{SearchFault, Searcher, Unnamed};
 use query::{Page, Query, SearchBody};
@@ -91,6 +91,17 @@ impl<'a, R: Wait, D: LogDevice> Service for Group<'a, R, D> {
             Err(fault) => Reply::Refused(refusal_to(promotes, &fault)),
         }
     }
+}
+
+/// Its clients know nothing of it that it would go on from.
+impl<'a, R: Wait, D: LogDevice> Resumable for Group<'a, R, D> {
+    type Known = ();
+
+    ghost knows = { λ g. tt };
+
+    fn known(&self) {}
+
+    fn resume(&mut self, _known: &Option<()>) {}
 }
 
 impl<'a, R: Wait, D: LogDevice> Group<'a, R, D> {

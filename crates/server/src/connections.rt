@@ -4,7 +4,7 @@ use clients::{Clients, Watcher};
 use cluster::Client;
 use doc::Mapping;
 use group::{Chair, Group};
-use shard::{Desk, HistoryName, SharedShard};
+use shard::{Desk, HistoryName, Reached, SharedShard};
 use std::alloc::Global;
 use std::sync::Wait;
 use std::thread::{Threads, join};
@@ -28,7 +28,7 @@ pub(crate) struct OneCopy<'a, D: LogDevice, N: HistoryName> {
 pub(crate) fn serve_connections<R, D, W, N>(
     rt: &R,
     alloc: Global,
-    clients: &Clients<'_, W>,
+    clients: &Clients<'_, W, Reached<D, N>>,
     index: &OneCopy<'_, D, N>,
 ) -> io::Result<()>
 where
@@ -52,7 +52,7 @@ where
 fn serve_lanes<R, D, W, N>(
     rt: &R,
     alloc: Global,
-    clients: &Clients<'_, W>,
+    clients: &Clients<'_, W, Reached<D, N>>,
     index: &OneCopy<'_, D, N>,
 ) -> io::Result<()>
 where
@@ -94,7 +94,7 @@ pub(crate) struct Index<'a, D: LogDevice> {
 pub(crate) fn serve_group<R, D, W>(
     rt: &R,
     alloc: Global,
-    clients: &Clients<'_, W>,
+    clients: &Clients<'_, W, ()>,
     index: &Index<'_, D>,
 ) -> io::Result<()>
 where
@@ -109,7 +109,7 @@ where
 fn serve_chairs<R, D, W>(
     rt: &R,
     alloc: Global,
-    clients: &Clients<'_, W>,
+    clients: &Clients<'_, W, ()>,
     index: &Index<'_, D>,
     chairs: &[Chair; 8],
 ) -> io::Result<()>

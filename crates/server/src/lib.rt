@@ -2,10 +2,18 @@
 #![tactic(auto)]
 
 mod connections;
+mod fault;
 mod index_name;
+mod listening;
+mod lone;
+mod mapping;
+mod members;
 mod opening;
 mod serving;
+mod settings;
 mod telling;
 
 pub use cluster::Syncing;
-pub use serving::{ServeFault, Settings, serve};
+pub use fault::ServeFault;
+pub use serving::serve;
+pub use settings::Settings;

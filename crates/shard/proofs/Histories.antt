@@ -1,5 +1,5 @@
 -- Histories that go on.
-use Rattle.std.proofs.Common.{◌≡◌, ◌<◌, ◌≤◌, ℕ, suc, ◌+◌, min, zero, List, [], ◌∷◌, ◌++◌, length, map, refl, sym, ap, subst, ◌∙◌, arith, Some}
+use Rattle.std.proofs.Common.{◌≡◌, ◌<◌, ◌≤◌, ℕ, suc, ◌+◌, min, List, [], ◌∷◌, ◌++◌, length, map, refl, sym, ap, subst, ◌∙◌, arith}
 use Rattle.std.proofs.lemmas.List.{map-append, length-append}
 use mathlib.Core.List.{IsPrefix}
 use Rattle.replica.specs.Logged.{IsLogged}
@@ -45,6 +45,10 @@ ends_more ts u = record { before = ts; is = refl }
 map_length : {X Y : Type 0} (f : X → Y) (xs : List X) → length (map f xs) ≡ length xs
 map_length f [] = refl
 map_length f (x ∷ xs) = ap suc (map_length f xs)
+
+-- of two lists of which the shorter begins the other, so it is of their maps
+pub mapped_prefix : {X Y : Type 0} (f : X → Y) (xs ys : List X) → (length xs ≤ length ys → IsPrefix xs ys) → length (map f xs) ≤ length (map f ys) → IsPrefix (map f xs) (map f ys)
+mapped_prefix f xs ys begins le = map_prefix f xs ys (begins (omega (arith, le, map_length f xs, map_length f ys)))
 
 -- one more stands behind a history
 pub next_is_history : (old new : List Stand) → IsHistory old → IsNext old new → IsHistory new

@@ -13,7 +13,8 @@ taken x = Ok x
 from_ok : (x d : Decided) → taken x ≡ Ok d → d ≡ x
 from_ok x d is = cc
 
-sends : (fs : List (Bool × MasterFault)) (m : State) (x : Msg) (d : Decided) → unless fs (decides m None (Some x) false) ≡ Ok d → d.decision.sent ≡ Some x
+-- an accepted promotion has just the message of the table
+pub sends : (fs : List (Bool × MasterFault)) (m : State) (x : Msg) (d : Decided) → unless fs (decides m None (Some x) false) ≡ Ok d → d.decision.sent ≡ Some x
 unfolding unless
 sends [] m x d is = ap (λ (e : Decided). e.decision.sent) (from_ok _ d is)
 sends (f ∷ fs) m x d is = elim f.0 as (λ b. (if b then Err f.1 else unless fs (decides m None (Some x) false)) ≡ Ok d → d.decision.sent ≡ Some x) [ true ↦ λ e. absurd (cc) | false ↦ λ e. sends fs m x d e ] is

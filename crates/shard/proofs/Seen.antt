@@ -5,7 +5,7 @@ use Rattle.engine.specs.Answer.{SnapshotData, answer_of, found}
 use Rattle.master.specs.Logged as ruler
 use Rattle.query.specs.Page.{PageData}
 use Rattle.query.specs.Query.{Query}
-use Rattle.replica.specs.Logged.{Logged}
+use Rattle.replica.specs.Logged.{Logged, IsLogged}
 use Rattle.front.specs.declared.reply.Refusal.TheVariants.{NoMemory}
 use Rattle.front.specs.Command.{Command, search, count}
 use Rattle.front.specs.Reply.{Reply, counted, refused}
@@ -14,9 +14,10 @@ use Rattle.shard.specs.Ready.{is_write, IsServed, IsReady}
 use Rattle.shard.specs.History.{Stand, IsReplyAt, IsSeenAt, IsSeenOf}
 
 -- an open copy that isn't to write is ready as it is
-stays_ready : (s : Logged) (m : ruler.Logged) → s.closed ≡ false → IsReady false s s m m
-stays_ready s m now_open = record {
+stays_ready : (s : Logged) (m : ruler.Logged) → s.closed ≡ false → IsLogged s → IsReady false s s m m
+stays_ready s m now_open logged = record {
   between = s;
+  logged = logged;
   reopened = record { stays = λ _. refl; restarts = λ closed. absurd (let no : true ≡ false = sym closed ∙ now_open in cc) };
   led = record { stays = λ _. (refl, refl); leads = λ leads. absurd (cc) };
 }
@@ -24,7 +25,7 @@ stays_ready s m now_open = record {
 -- what is seen answers as the copy does, and leaves it
 asked_seen : (s : SnapshotData) (at : Stand) (c : Command) (r : Reply) → is_write c ≡ false → IsSeenOf s at → IsAnswered at.copy c r at.copy → IsServed at.copy at.master c r at.copy at.master
 asked_seen s at c r reads seen answered = record {
-  served = inl (record { asked = at.copy; ready = subst (λ b. IsReady b at.copy at.copy at.master at.master) (sym reads) (stays_ready at.copy at.master seen.now_open); answered = answered });
+  served = inl (record { asked = at.copy; ready = subst (λ b. IsReady b at.copy at.copy at.master at.master) (sym reads) (stays_ready at.copy at.master seen.now_open seen.logged); logged = seen.logged; answered = answered });
 }
 
 search_of_seen : (s : SnapshotData) (at : Stand) (q : Query) (page : PageData) (r : Reply) → IsSeenOf s at → r ≡ hits_of (answer_of s q page) → IsServed at.copy at.master (search q page) r at.copy at.master
@@ -50,7 +51,7 @@ wanting_of_seen : (at : Stand) (c : Command) → IsServed at.copy at.master c (r
 wanting_of_seen at c = record {
   served = inr (record {
     reply = refl;
-    unready = record { between = at.copy; reopened = inl refl; same = record { copy = refl; closed = refl; log = refl; failures = refl } };
+    unready = record { between = at.copy; reopened = inl refl; same = record { copy = refl; closed = refl; log = refl; failures = refl }; master = inl refl };
   });
 }
 

@@ -1,5 +1,5 @@
 -- The history of an index of one copy: what its copy and its master were after each command.
-use Rattle.std.specs.Prelude.{◌≡◌, ◌⊎◌, false, List, [], ◌∷◌, ◌++◌, map}
+use Rattle.std.specs.Prelude.{◌≡◌, ◌⊎◌, false, List, [], ◌∷◌, ◌++◌}
 use mathlib.Core.List.{IsPrefix}
 use Rattle.master.specs.Logged as ruler
 use Rattle.replica.specs.Logged.{Logged, IsLogged}
@@ -76,9 +76,10 @@ IsTold old c r new = IsDone old c r new ⊎ IsLooked old c r new
 abbrev pub seen_of : Copy → SnapshotData
 seen_of c = record { mapping = c.mapping; documents = documents (shown c.records c.point) }
 
--- it is what searches see of an index whose copy is open
+-- it is what searches see of an index whose copy is open, and whose log is that of its records
 pub record IsSeenOf (s : SnapshotData) (t : Stand) : Type 0 where
   pub now_open : t.copy.closed ≡ false
+  pub logged : IsLogged t.copy
   pub sees : s ≡ seen_of t.copy.copy
 
 -- it is what they see at the end of a history

@@ -17,7 +17,7 @@ use Rattle.replica.specs.declared.input.Input.TheVariants.{Restart, Take}
 use Rattle.replica.specs.declared.output.Output.{Output}
 use Rattle.replica.specs.declared.role.Role.{Role}
 use Rattle.replica.specs.declared.role.Role.TheVariants.{Empty, Replica, Primary}
-use Rattle.replica.specs.Logged.{Logged, IsRefusal, IsReopened, IsSame}
+use Rattle.replica.specs.Logged.{Logged, IsLogged, IsRefusal, IsReopened, IsSame}
 use Rattle.replica.specs.Step.{copy_step, stepped}
 use Rattle.front.specs.Command.{Command, write, bulk, get, search, count, refresh, promote}
 use Rattle.front.specs.declared.reply.Refusal.TheVariants.{NoMemory}
@@ -96,6 +96,32 @@ pub record IsDenied (r : ℕ) (m n : ruler.Logged) : Type 0 where
   pub opened : IsAwake m awake
   pub denial : IsDenial r awake n
 
+-- memory was wanting to open a closed master: it keeps what it kept
+pub record IsShutStill (m n : ruler.Logged) : Type 0 where
+  pub was_closed : m.closed ≡ true
+  pub stays_closed : n.closed ≡ true
+  pub state : n.state ≡ m.state
+  pub keeps : kept_state n.log ≡ kept_state m.log
+
+-- memory was wanting for the decision of an open master, which was opened first where it was closed
+pub record IsUndecided (m n : ruler.Logged) : Type 0 where
+  pub awake : ruler.Logged
+  pub opened : IsAwake m awake
+  pub same : ruler.IsSame awake n
+
+-- the master has made copy r the primary, by some message
+pub record HasTold (r : ℕ) (m n : ruler.Logged) : Type 0 where
+  pub message : Msg
+  pub told : IsTold r m n message
+
+-- memory was wanting for the master's message: it has decided nothing
+abbrev pub IsUnasked : ruler.Logged → ruler.Logged → Type 0
+IsUnasked m n = IsShutStill m n ⊎ IsUndecided m n
+
+-- memory was wanting to have copy r lead: the master has decided nothing, or the copy couldn't take its message
+abbrev pub IsUnheard : ℕ → ruler.Logged → ruler.Logged → Type 0
+IsUnheard r m n = IsUnasked m n ⊎ HasTold r m n
+
 -- no message comes from the master
 abbrev pub IsUntold : ℕ → ruler.Logged → ruler.Logged → Type 0
 IsUntold r m n = IsShut m n ⊎ IsDenied r m n
@@ -139,29 +165,32 @@ pub record IsLeading (writes : Bool) (s t : Logged) (m n : ruler.Logged) : Type 
 
 -- ---- a command
 
--- the copy that is asked, in place of the one that was there, and the master
+-- the copy that is asked, in place of the one that was there, and the master. The log of an open copy is that of its records all the while
 pub record IsReady (writes : Bool) (s u : Logged) (m n : ruler.Logged) : Type 0 where
   pub between : Logged
   pub reopened : IsReopening s between
+  pub logged : IsLogged between
   pub led : IsLeading writes between u m n
 
--- memory was wanting before the copy was ready: it is as it was, or opened again
-pub record IsUnready (s u : Logged) : Type 0 where
+-- memory was wanting before the copy was ready: it is as it was, or opened again, and the master is as it was, or as one whose copy couldn't be made the primary
+pub record IsUnready (s u : Logged) (m n : ruler.Logged) : Type 0 where
   pub between : Logged
   pub reopened : (between ≡ s) ⊎ IsReopening s between
   pub same : IsSame between u
+  pub master : (n ≡ m) ⊎ IsUnheard between.copy.id m n
 
 -- the copy was made ready, and was then asked
 pub record IsAsked (s : Logged) (m : ruler.Logged) (c : Command) (r : Reply) (t : Logged) (n : ruler.Logged) : Type 0 where
   pub asked : Logged
   pub ready : IsReady (is_write c) s asked m n
+  pub logged : IsLogged asked
   pub answered : IsAnswered asked c r t
 
 -- memory was wanting to make it ready, and that is told
-pub record IsWanting (s : Logged) (r : Reply) (t : Logged) : Type 0 where
+pub record IsWanting (s : Logged) (m : ruler.Logged) (r : Reply) (t : Logged) (n : ruler.Logged) : Type 0 where
   pub reply : r ≡ refused NoMemory
-  pub unready : IsUnready s t
+  pub unready : IsUnready s t m n
 
 -- the reply to a command, and the copy and the master after it
 pub record IsServed (s : Logged) (m : ruler.Logged) (c : Command) (r : Reply) (t : Logged) (n : ruler.Logged) : Type 0 where
-  pub served : IsAsked s m c r t n ⊎ IsWanting s r t
+  pub served : IsAsked s m c r t n ⊎ IsWanting s m r t n

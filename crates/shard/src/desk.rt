@@ -12,9 +12,9 @@ use crate::history::{Begun, HistoryName, Kept, Reached};
 use crossbeam_channel::{Receiver, Sender, unbounded};
 use doc::Mapping;
 use engine::{Merged, Merging, Snapshot};
-use front::Service;
 use front::command::Command;
 use front::reply::{Refusal, Reply};
+use front::{Resumable, Service};
 use std::alloc::{AllocError, Global};
 use std::marker::Model;
 use std::sync::{Arc, Mutex, Wait};
@@ -297,7 +297,7 @@ impl<D: LogDevice, N: HistoryName> SharedShard<D, N> {
     }
 }
 
-/// An index of one copy, as one thread that serves connections has it, with what it knows of the index's history. Searches and counts are of what
+/// An index of one copy, as one thread that serves connections has it, with what the client that it serves knows of the index's history. Searches and counts are of what
 /// was shown when a command ended last; they wait for no other.
 #[derive(Drop)]
 pub struct Desk<'a, R: Wait, D: LogDevice, N: HistoryName> {
@@ -332,5 +332,21 @@ impl<'a, R: Wait, D: LogDevice, N: HistoryName> Service for Desk<'a, R, D, N> {
         };
         self.known = known;
         reply
+    }
+}
+
+impl<'a, R: Wait, D: LogDevice, N: HistoryName> Resumable for Desk<'a, R, D, N> {
+    type Known = Reached<D, N>;
+
+    ghost knows = { λ d. d.known };
+
+    fn known(&self) -> Reached<D, N> {
+        self.known.again()
+    }
+
+    fn resume(&mut self, known: &Option<Reached<D, N>>) {
+        if let Some(known) = known {
+            self.known = known.again();
+        }
     }
 }

@@ -1,5 +1,5 @@
 //! The history of an index of one copy: what it was after each command. It exists in proofs alone, but for how long it is.
-ghost use Rattle.std.specs.Prelude.{◌≡◌, IsTrue, IfSome, map};
+ghost use Rattle.std.specs.Prelude.{◌≡◌, ◌≤◌, IsTrue, IfSome, length, map};
 ghost use Rattle.std.specs.Arc.{arc_value};
 ghost use mathlib.Core.List.{IsPrefix};
 ghost use Rattle.front.specs.CommandView.{command_view};
@@ -110,6 +110,14 @@ impl<D: LogDevice, N: HistoryName> Reached<D, N> {
         }
     }
 
+    /// What two clients know is of one list of what the index was: where the other one reaches as far, it begins with this.
+    #[tactic(auto, using(crate::proofs::Histories::mapped_prefix))]
+    pub fn agrees(&self, other: &Reached<D, N>)
+        ensures { length self.now ≤ length other.now → IsPrefix self.now other.now }
+    {
+        self.mark.agrees(&other.mark);
+    }
+
     /// Whether it is known that another one goes on from this.
     pub fn is_before(&self, other: &Reached<D, N>) -> bool
         ensures before { IsTrue result → IsPrefix self.now other.now }
@@ -187,6 +195,7 @@ impl<D: LogDevice, N: HistoryName> Kept<D, N> {
     pub(crate) fn snapshot(&self) -> Option<&Arc<Snapshot, Global>>
         ensures { IfSome result (λ s. IsSeenOf (arc_value s.now) self.now) }
     {
+        self.shard.is_logged();
         self.shard.snapshot()
     }
 

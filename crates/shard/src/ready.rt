@@ -3,7 +3,8 @@ ghost use Rattle.std.specs.Prelude.{◌≡◌, ◌⊎◌, false, IfNone, IfOk, I
 ghost use Rattle.front.specs.CommandView.{command_view};
 ghost use Rattle.replica.specs.Logged.{IsSame};
 ghost use Rattle.shard.specs.Ready as spec;
-ghost use Rattle.shard.specs.Ready.{IsDenial, IsLeading, IsOpen, IsPromotion, IsReady, IsReopening, IsTaking, IsTold, IsUnopened, IsUnready, IsUntold};
+ghost use Rattle.shard.specs.Ready.{IsDenial, IsLeading, IsOpen, IsPromotion, IsReady, IsReopening, IsTaking, IsTold, IsUnasked, IsUnheard, IsUnopened, IsUnready, IsUntold};
+ghost use Rattle.master.specs.Logged as ruler;
 
 use front::Command;
 use master::{Master, MasterFault, Request};
@@ -21,9 +22,10 @@ pub(crate) fn make_ready<D: LogDevice>(
     writes: bool,
 ) -> Result<(), AllocError>
     ensures ready { OnOk result (IsReady writes copy.old copy.new master.old master.new) }
-    ensures wanting { OnErr result (IsUnready copy.old copy.new) }
+    ensures wanting { OnErr result (IsUnready copy.old copy.new master.old master.new) }
 {
     reopen(alloc, copy)?;
+    copy.is_logged();
     lead(alloc, copy, master, writes)
 }
 
@@ -80,6 +82,7 @@ fn lead<D: LogDevice>(
 ) -> Result<(), AllocError>
     ensures done { OnOk result (IsLeading writes copy.old copy.new master.old master.new) }
     ensures wanting { OnErr result (IsSame copy.old copy.new) }
+    ensures unheard { OnErr result (IsUnheard copy.old.copy.id master.old master.new) }
 {
     if !writes || is_primary(copy.role()) || copy.snapshot().is_none() {
         return Ok(());
@@ -98,6 +101,7 @@ fn promotion<D: LogDevice>(
 ) -> Result<Option<Msg>, AllocError>
     ensures told { IfOk result (λ o. IfSome o (IsTold id master.old master.new)) }
     ensures untold { IfOk result (λ o. IfNone o (IsUntold id master.old master.new)) }
+    ensures wanting { OnErr result (IsUnasked master.old master.new) }
 {
     if !master.is_closed() {
         return promote(alloc, master, id);
@@ -117,6 +121,7 @@ fn promote<D: LogDevice>(
     requires { master.old.closed ≡ false }
     ensures told { IfOk result (λ o. IfSome o (IsPromotion id master.old master.new)) }
     ensures denied { IfOk result (λ o. IfNone o (IsDenial id master.old master.new)) }
+    ensures wanting { OnErr result (ruler.IsSame master.old master.new) }
 {
     match master.step(alloc, Request::Promote(id)) {
         Ok(decision) => Ok(decision.sent),

@@ -80,7 +80,7 @@ impl<D: LogDevice> Shard<D> {
     /// Makes the copy ready for writes, and tells whether it is: open, and the primary.
     pub fn lead(&mut self) -> Result<bool, AllocError>
         ensures ready { OnOk result (IsReady true self.old.copy self.new.copy self.old.master self.new.master) }
-        ensures wanting { OnErr result (IsUnready self.old.copy self.new.copy) }
+        ensures wanting { OnErr result (IsUnready self.old.copy self.new.copy self.old.master self.new.master) }
         ensures leads { IfOk result (λ b. b ≡ (not self.new.copy.closed && spec.is_primary self.new.copy.copy.role)) }
         ensures name { string_bytes self.new.name ≡ string_bytes self.old.name }
         ensures mapping { self.new.mapping ≡ self.old.mapping }
@@ -141,6 +141,7 @@ impl<D: LogDevice> Service for Shard<D> {
         if make_ready(self.alloc, &mut self.copy, &mut self.master, writes).is_err() {
             return Reply::Refused(Refusal::NoMemory);
         }
+        self.copy.is_logged();
         reply_to(self.alloc, &mut self.copy, command)
     }
 }

@@ -1,4 +1,4 @@
-use Rattle.std.proofs.Common.{◌≡◌, sym, subst}
+use Rattle.std.proofs.Common.{sym, subst}
 use Rattle.front.specs.ReplyView.{reply_view}
 use Rattle.query.specs.View.{query_view}
 use Rattle.shard.specs.History.{IsSeenAt}

@@ -1,4 +1,4 @@
-use Rattle.server.proofs.serving.listen.Given as goal
+use Rattle.server.proofs.listening.listen.Given as goal
 
 -- the history of the index that is served gives its name
 abbrev pub ghosts-listen_to_one : goal.ghosts-listen_to_one

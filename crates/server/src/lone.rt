@@ -1,0 +1,127 @@
+//! An index of one copy in a folder.
+
+use crate::fault::ServeFault;
+use crate::listening::listen;
+use crate::opening::OpeningLine;
+use crate::settings::Settings;
+use folder::{DataFault, KeptCopy, MappingFile, open_copy};
+use master::Master;
+use shard::Shard;
+use std::alloc::{AllocError, Global};
+use std::fs::File;
+use std::io::Write;
+use std::net::{Net, TcpListener, TcpStream};
+use std::rt::Files;
+use std::sync::Wait;
+use std::thread::Threads;
+use std::time::Clock;
+use translog::FileDevice;
+
+/// An index of one copy in a folder, which no other process serves while this is held.
+#[derive(Drop)]
+pub(crate) struct KeptIndex {
+    shard: Shard<FileDevice<File>>,
+    lock: File,
+}
+
+/// Opens the index of a folder, and shows meanwhile how far that is.
+pub(crate) fn open_alone<R, E>(
+    rt: &R,
+    settings: Settings<'_>,
+    folder: &str,
+    mapping: Option<&MappingFile>,
+    errors: &mut E,
+) -> Result<KeptIndex, DataFault>
+where
+    R: Files<File = File> + AllocGlobal + Threads + Clock + Sync,
+    E: Write + Send,
+{
+    let line = OpeningLine::of_one(rt, rt.alloc(), folder, settings.at_terminal)?;
+    line.shown_while(
+        rt,
+        errors,
+        || open_index(rt, folder, settings.index, mapping),
+    )
+}
+
+/// Opens the index of a folder, whose copy then leads, and begins one where there is none.
+fn open_index<R: Files<File = File> + AllocGlobal>(
+    rt: &R,
+    path: &str,
+    name: &str,
+    given: Option<&MappingFile>,
+) -> Result<KeptIndex, DataFault> {
+    match open_copy(rt, path, given) {
+        Ok(KeptCopy { master, copy, lock }) => match led(rt.alloc(), name, master, copy) {
+            Ok(shard) => Ok(KeptIndex { shard, lock }),
+            Err(fault) => {
+                drop(lock);
+                Err(fault)
+            }
+        },
+        Err(fault) => Err(fault),
+    }
+}
+
+/// The index of a copy, which is made the primary.
+fn led(
+    alloc: Global,
+    name: &str,
+    master: Master<FileDevice<File>>,
+    copy: replica::Copy<FileDevice<File>>,
+) -> Result<Shard<FileDevice<File>>, DataFault> {
+    match named(alloc, name, master, copy) {
+        Ok(shard) => leading(shard),
+        Err(_) => Err(DataFault::NoMemory),
+    }
+}
+
+fn named(
+    alloc: Global,
+    name: &str,
+    master: Master<FileDevice<File>>,
+    copy: replica::Copy<FileDevice<File>>,
+) -> Result<Shard<FileDevice<File>>, AllocError> {
+    match String::from_str(alloc, name) {
+        Ok(name) => Shard::over(alloc, name, master, copy),
+        Err(refused) => {
+            drop(master);
+            drop(copy);
+            Err(refused)
+        }
+    }
+}
+
+fn leading(mut shard: Shard<FileDevice<File>>) -> Result<Shard<FileDevice<File>>, DataFault> {
+    let fault = match shard.lead() {
+        Ok(true) => return Ok(shard),
+        Ok(false) => DataFault::NotLed,
+        Err(_) => DataFault::NoMemory,
+    };
+    drop(shard);
+    Err(fault)
+}
+
+/// Serves an index of one copy that is kept in a folder.
+pub(crate) fn serve_kept<R, O, E>(
+    rt: &R,
+    settings: Settings<'_>,
+    kept: KeptIndex,
+    output: &mut O,
+    errors: &mut E,
+) -> Result<(), ServeFault>
+where
+    R: AllocGlobal
+        + Net<Listener = TcpListener, Stream = TcpStream>
+        + Threads
+        + Wait
+        + Clock
+        + Sync,
+    O: Write,
+    E: Write + Send,
+{
+    let KeptIndex { shard, lock } = kept;
+    let ended = listen(rt, settings, shard, output, errors);
+    drop(lock);
+    ended
+}

@@ -1,0 +1,378 @@
+//! An index of several copies on threads of their own.
+
+use crate::connections::Index;
+use crate::fault::ServeFault;
+use crate::listening::listen_to_group;
+use crate::mapping::fields_of;
+use crate::opening::{Counted, OpeningLine};
+use crate::settings::Settings;
+use cluster::{Cluster, Devices, InMemory, Open, Unopened};
+use doc::Mapping;
+use folder::{KeptFolder, MappingFile, judge, keep_journals, open_folder};
+use journal::Journal;
+use std::alloc::Global;
+use std::fs::File;
+use std::io::Write;
+use std::net::{Net, TcpListener, TcpStream};
+use std::rt::Files;
+use std::sync::Wait;
+use std::thread::Threads;
+use std::time::Clock;
+use translog::{FileDevice, LogDevice};
+
+/// Serves a new index of copies on threads of their own, in memory.
+pub(crate) fn serve_copies<R, O, E>(
+    rt: &R,
+    settings: Settings<'_>,
+    mapping: Option<&MappingFile>,
+    output: &mut O,
+    errors: &mut E,
+) -> Result<(), ServeFault>
+where
+    R: Files<File = File>
+        + AllocGlobal
+        + Net<Listener = TcpListener, Stream = TcpStream>
+        + Threads
+        + Wait
+        + Clock
+        + Copy
+        + Send
+        + Sync
+        + Drop
+        + 'static,
+    O: Write,
+    E: Write + Send,
+{
+    let fields = fields_of(rt.alloc(), mapping)?;
+    let ended = serve_started(rt, settings, mapping, &fields, output, errors);
+    drop(fields);
+    ended
+}
+
+fn serve_started<R, O, E>(
+    rt: &R,
+    settings: Settings<'_>,
+    mapping: Option<&MappingFile>,
+    fields: &Mapping,
+    output: &mut O,
+    errors: &mut E,
+) -> Result<(), ServeFault>
+where
+    R: Files<File = File>
+        + AllocGlobal
+        + Net<Listener = TcpListener, Stream = TcpStream>
+        + Threads
+        + Wait
+        + Clock
+        + Copy
+        + Send
+        + Sync
+        + Drop
+        + 'static,
+    O: Write,
+    E: Write + Send,
+{
+    let alloc = rt.alloc();
+    let copied = fields.copy(alloc)?;
+    let copies = settings.copies.max(1).min(5) as u8;
+    match Cluster::start(rt, alloc, copied, copies, InMemory { alloc }, Open) {
+        Ok(cluster) => {
+            let served = serve_cluster(rt, settings, fields, &cluster, output, errors);
+            match journals_of(rt, cluster, served) {
+                Ok(journals) => tell_journals(
+                    rt, settings, mapping, fields, journals, output, errors,
+                ),
+                Err(fault) => Err(fault),
+            }
+        }
+        Err(fault) => Err(ServeFault::from(fault)),
+    }
+}
+
+/// Ends a cluster that has served, and gives its journals; or why it served no more.
+fn journals_of<R, D, V>(
+    rt: &R,
+    cluster: Cluster<D, V, Open>,
+    served: Result<(), ServeFault>,
+) -> Result<Vec<Journal>, ServeFault>
+where
+    R: Threads + Wait + Copy + Send + Drop + 'static,
+    D: LogDevice + Send + 'static,
+    V: Devices<D>,
+{
+    let closed = cluster.close(rt, &[]);
+    match served {
+        Ok(()) => closed.map_err(ServeFault::from),
+        Err(fault) => {
+            drop(closed);
+            Err(fault)
+        }
+    }
+}
+
+/// Keeps journals where that is wanted, and audits them where that is.
+fn tell_journals<R, O, E>(
+    rt: &R,
+    settings: Settings<'_>,
+    mapping: Option<&MappingFile>,
+    fields: &Mapping,
+    journals: Vec<Journal>,
+    output: &mut O,
+    errors: &mut E,
+) -> Result<(), ServeFault>
+where
+    R: Files<File = File> + AllocGlobal,
+    O: Write,
+    E: Write,
+{
+    let told = match kept(rt, settings, mapping, journals.as_slice()) {
+        Ok(()) => audited(
+            rt.alloc(),
+            settings,
+            fields,
+            journals.as_slice(),
+            output,
+            errors,
+        ),
+        Err(fault) => Err(fault),
+    };
+    drop(journals);
+    told
+}
+
+fn kept<R: Files<File = File> + AllocGlobal>(
+    rt: &R,
+    settings: Settings<'_>,
+    mapping: Option<&MappingFile>,
+    journals: &[Journal],
+) -> Result<(), ServeFault> {
+    match settings.journals {
+        Some(folder) => keep_journals(rt, folder, mapping, journals).map_err(ServeFault::from),
+        None => Ok(()),
+    }
+}
+
+fn audited<O: Write, E: Write>(
+    alloc: Global,
+    settings: Settings<'_>,
+    fields: &Mapping,
+    journals: &[Journal],
+    output: &mut O,
+    errors: &mut E,
+) -> Result<(), ServeFault> {
+    if !settings.audit {
+        return Ok(());
+    }
+    judge(
+        alloc,
+        fields,
+        journals,
+        settings.at_terminal,
+        output,
+        errors,
+    )
+    .map_err(ServeFault::Audit)
+}
+
+/// Serves an index of copies on threads of their own that is kept in a folder; also one copy, whose worker then syncs its log for all that waits. It
+/// begins with those that the folder has; more are added where fewer than are wanted could be opened, and those that couldn't be are told.
+pub(crate) fn serve_kept_copies<R, O, E>(
+    rt: &R,
+    settings: Settings<'_>,
+    folder: &str,
+    mapping: Option<&MappingFile>,
+    output: &mut O,
+    errors: &mut E,
+) -> Result<(), ServeFault>
+where
+    R: Files<File = File>
+        + AllocGlobal
+        + Net<Listener = TcpListener, Stream = TcpStream>
+        + Threads
+        + Wait
+        + Clock
+        + Copy
+        + Send
+        + Sync
+        + Drop
+        + 'static,
+    O: Write,
+    E: Write + Send,
+{
+    match open_folder(rt, folder, mapping) {
+        Ok(
+            KeptFolder {
+                mapping: fields,
+                lock,
+            },
+        ) => {
+            let ended = serve_folder(rt, settings, folder, &fields, output, errors);
+            drop(fields);
+            drop(lock);
+            ended
+        }
+        Err(fault) => Err(ServeFault::from(fault)),
+    }
+}
+
+fn serve_folder<R, O, E>(
+    rt: &R,
+    settings: Settings<'_>,
+    folder: &str,
+    fields: &Mapping,
+    output: &mut O,
+    errors: &mut E,
+) -> Result<(), ServeFault>
+where
+    R: Files<File = File>
+        + AllocGlobal
+        + Net<Listener = TcpListener, Stream = TcpStream>
+        + Threads
+        + Wait
+        + Clock
+        + Copy
+        + Send
+        + Sync
+        + Drop
+        + 'static,
+    O: Write,
+    E: Write + Send,
+{
+    match opened(rt, settings, folder, fields, errors) {
+        Ok(mut cluster) => {
+            let served = serve_opened(rt, settings, fields, &mut cluster, output, errors);
+            journals_of(rt, cluster, served).map(drop)
+        }
+        Err(fault) => Err(fault),
+    }
+}
+
+/// The copies of a folder, and shows meanwhile how far their opening is.
+fn opened<R, E>(
+    rt: &R,
+    settings: Settings<'_>,
+    folder: &str,
+    fields: &Mapping,
+    errors: &mut E,
+) -> Result<Cluster<FileDevice<File>, Counted<R>, Open>, ServeFault>
+where
+    R: Files<File = File>
+        + AllocGlobal
+        + Net<Listener = TcpListener, Stream = TcpStream>
+        + Threads
+        + Wait
+        + Clock
+        + Copy
+        + Send
+        + Sync
+        + Drop
+        + 'static,
+    E: Write + Send,
+{
+    let alloc = rt.alloc();
+    let line = OpeningLine::of_several(alloc, settings.at_terminal)?;
+    let copied = fields.copy(alloc)?;
+    match Counted::new(*rt, alloc, folder, settings.when_synced(), &line) {
+        Ok(devices) => {
+            let cluster = line.shown_while(rt, errors, || {
+                let copies = settings.copies.max(1).min(5) as u8;
+                Cluster::open(rt, alloc, copied, copies, devices, Open)
+            });
+            cluster.map_err(ServeFault::from)
+        }
+        Err(_) => {
+            drop(copied);
+            Err(ServeFault::NoMemory)
+        }
+    }
+}
+
+/// Adds the copies that are lacking, and serves all.
+fn serve_opened<R, V, O, E>(
+    rt: &R,
+    settings: Settings<'_>,
+    fields: &Mapping,
+    cluster: &mut Cluster<FileDevice<File>, V, Open>,
+    output: &mut O,
+    errors: &mut E,
+) -> Result<(), ServeFault>
+where
+    R: AllocGlobal
+        + Net<Listener = TcpListener, Stream = TcpStream>
+        + Threads
+        + Wait
+        + Clock
+        + Copy
+        + Send
+        + Sync
+        + Drop
+        + 'static,
+    V: Devices<FileDevice<File>>,
+    O: Write,
+    E: Write + Send,
+{
+    let lacking = lacking(rt, cluster, settings.copies)?;
+    if let Some(short) = cluster.short_log() {
+        let _ = writeln!(errors, "indexd: {short}");
+    }
+    for copy in cluster.unopened() {
+        let _ = writeln!(errors, "indexd: {copy}; it leaves the index");
+    }
+    for _ in 0..lacking {
+        cluster.allocate(rt)?;
+    }
+    serve_cluster(rt, settings, fields, cluster, output, errors)
+}
+
+/// Serves copies that are there.
+fn serve_cluster<R, D, V, O, E>(
+    rt: &R,
+    settings: Settings<'_>,
+    fields: &Mapping,
+    cluster: &Cluster<D, V, Open>,
+    output: &mut O,
+    errors: &mut E,
+) -> Result<(), ServeFault>
+where
+    R: AllocGlobal
+        + Net<Listener = TcpListener, Stream = TcpStream>
+        + Threads
+        + Wait
+        + Clock
+        + Sync,
+    D: LogDevice + Send + 'static,
+    V: Devices<D>,
+    O: Write,
+    E: Write + Send,
+{
+    let index = Index {
+        name: settings.index,
+        mapping: fields,
+        client: cluster.client(),
+    };
+    listen_to_group(rt, settings, &index, output, errors)
+}
+
+/// How many copies are to be added, so that there are as many as are wanted.
+fn lacking<R, V>(
+    rt: &R,
+    cluster: &Cluster<FileDevice<File>, V, Open>,
+    wanted: u64,
+) -> Result<u64, ServeFault>
+where
+    R: Wait,
+    V: Devices<FileDevice<File>>,
+{
+    let state = cluster.client().state(rt)?;
+    let mut lacking = wanted;
+    for copy in state.in_sync.as_slice() {
+        if !is_among(*copy, cluster.unopened()) {
+            lacking = lacking.saturating_sub(1);
+        }
+    }
+    Ok(lacking)
+}
+
+fn is_among(copy: u32, unopened: &[Unopened]) -> bool {
+    unopened.iter().any(|it| it.copy == copy)
+}
