@@ -1,0 +1,116 @@
+-- What a client of an index of one copy may rely on. The client goes on from a place of the index's history, and each reply tells it one that isn't before it.
+use Rattle.std.specs.Prelude.{◌≡◌, ◌≤◌, ℕ, Bool, true, false, List, Option, Some, None, length, slice_get}
+use Rattle.std.specs.List.{flat_map}
+use mathlib.Core.List.{IsPrefix}
+use Rattle.doc.specs.Id.{Id}
+use Rattle.doc.specs.Mapping.{MappingData}
+use Rattle.op.specs.declared.operation.Op.{Op}
+use Rattle.op.specs.Operations.{last_on}
+use Rattle.op.specs.Documents.{document_of, documents}
+use Rattle.engine.specs.Answer.{answer, found}
+use Rattle.replica.specs.Step.{get_answer}
+use Rattle.front.specs.declared.command.Write.{Write}
+use Rattle.front.specs.declared.reply.Found.{Found}
+use Rattle.front.specs.declared.reply.Wrote.{Wrote}
+use Rattle.front.specs.declared.reply.ItemReply.{ItemReply}
+use Rattle.front.specs.declared.reply.ItemReply.TheVariants as item
+use Rattle.wire.specs.Requests.{Standing}
+use Rattle.clients.specs.Conversation.{Told}
+use Rattle.front.specs.Calls.{Calls}
+use Rattle.front.specs.Command.{Command, write, bulk, get, search, count, refresh, promote}
+use Rattle.front.specs.Greeting.{greeted}
+use Rattle.front.specs.Work.{commands, work_of}
+use Rattle.front.specs.Reply.{Reply, wrote, bulked, got, hits, counted, refreshed, promoted, refused}
+use Rattle.shard.specs.Answering.{hits_of, reply_of}
+use Rattle.shard.specs.History.{Stand, IsTold}
+
+-- the last operation on the id has this number, or a greater one
+pub record HasWrite (id : Id) (seq : ℕ) (os : List Op) : Type 0 where
+  pub last : Op
+  pub is_last : last_on os id ≡ Some last
+  pub not_older : seq ≤ last.seq
+
+-- a get of the id tells the document that its last operation left, of operations that have the write
+pub record IsFoundAmong (id : Id) (seq : ℕ) (r : Reply) : Type 0 where
+  pub operations : List Op
+  pub has : HasWrite id seq operations
+  pub told : r ≡ reply_of 0 (get_answer (document_of (last_on operations id)))
+
+-- the reply to a search or a count over the documents of operations
+abbrev pub IsOver : MappingData → List Op → Command → Reply → Type 0
+IsOver mapping os (search q page) r = r ≡ hits_of (answer mapping os q page)
+IsOver mapping os (count q) r = r ≡ counted (length (found (record { mapping = mapping; documents = documents os }) q))
+IsOver mapping os (write w) r = ⊥
+IsOver mapping os (bulk ws) r = ⊥
+IsOver mapping os (get id) r = ⊥
+IsOver mapping os refresh r = ⊥
+IsOver mapping os (promote copy) r = ⊥
+
+-- it is over the documents of operations that have the write
+pub record IsSeenAmong (id : Id) (seq : ℕ) (c : Command) (r : Reply) : Type 0 where
+  pub mapping : MappingData
+  pub operations : List Op
+  pub has : HasWrite id seq operations
+  pub over : IsOver mapping operations c r
+
+-- whether a command looks for documents
+abbrev pub is_search : Command → Bool
+is_search (search q page) = true
+is_search (count q) = true
+is_search (write w) = false
+is_search (bulk ws) = false
+is_search (get id) = false
+is_search refresh = false
+is_search (promote copy) = false
+
+abbrev pub is_refused : Reply → Bool
+is_refused (refused f) = true
+is_refused (wrote w) = false
+is_refused (bulked items) = false
+is_refused (got d) = false
+is_refused (hits total page) = false
+is_refused (counted n) = false
+is_refused (refreshed n) = false
+is_refused (promoted copy term) = false
+
+-- ---- the promises
+
+-- a write was told as done: with its own reply, or as one of a bulk, in which it has the same place as its reply
+pub data IsAcknowledged (w : Write) (x : Wrote) : Command → Reply → Type 0 where
+  alone : IsAcknowledged w x (write w) (wrote x)
+  among : (ws : List Write) (items : List ItemReply) (place : ℕ) → slice_get ws place ≡ Some w → slice_get items place ≡ Some (item.Wrote x) → IsAcknowledged w x (bulk ws) (bulked items)
+
+-- a client that has gone on from there, and gets the id, is told the write or a newer one
+abbrev pub WritesAreFound : Type 0
+WritesAreFound =
+    (w : Write) (x : Wrote) (asked : Command) (reply : Reply) (o : Option Found) (old acked later new : List Stand)
+    → IsAcknowledged w x asked reply → IsTold old asked reply acked → IsPrefix acked later → IsTold later (get w.id) (got o) new → IsFoundAmong w.id x.seq (got o)
+
+-- where it was to be refreshed at once, searches of such a client see it
+abbrev pub WritesAreSeen : Type 0
+WritesAreSeen =
+    (w : Write) (x : Wrote) (c : Command) (r : Reply) (old acked later new : List Stand)
+    → IsTold old (write w) (wrote x) acked → w.refresh ≡ true → IsPrefix acked later → IsTold later c r new → is_search c ≡ true → is_refused r ≡ false → IsSeenAmong w.id x.seq c r
+
+-- and so they do where a refresh was told since
+abbrev pub RefreshedWritesAreSeen : Type 0
+RefreshedWritesAreSeen =
+    (w : Write) (x : Wrote) (asked : Command) (reply : Reply) (n : ℕ) (c : Command) (r : Reply) (old acked before shown later new : List Stand)
+    → IsAcknowledged w x asked reply → IsTold old asked reply acked → IsPrefix acked before → IsTold before refresh (refreshed n) shown → IsPrefix shown later → IsTold later c r new
+    → is_search c ≡ true → is_refused r ≡ false → IsSeenAmong w.id x.seq c r
+
+-- any commands of a client, one after another: what was known at first begins what is known at last
+abbrev pub NeverBack : Type 0
+NeverBack = (old new : List Stand) (commands : List Command) (replies : List Reply) → Calls IsTold old commands replies new → IsPrefix old new
+
+-- the commands that a request of a connection asks, by the one rule of answering or the other
+abbrev pub commands_of : Bool → List ℕ → MappingData → Standing → List Command
+commands_of true index mapping q = commands (work_of index mapping (greeted q))
+commands_of false index mapping q = commands (work_of index mapping q)
+
+-- where each reply of a service is told so, the commands of all requests of a connection are told one after another, along one history
+abbrev pub GoesOnAlong : {S : Type 0} → (S → Command → Reply → S → Type 0) → (S → List Stand) → Type 0
+GoesOnAlong {S} answers knows =
+    ((s : S) (c : Command) (r : Reply) (t : S) → answers s c r t → IsTold (knows s) c r (knows t))
+    → (greets : Bool) (index : List ℕ) (mapping : MappingData) (requests : List Standing) (out : List ℕ) (last : List Stand) → Told greets answers knows index mapping None requests out (Some last)
+    → (first : List Stand) × (replies : List Reply) × Calls IsTold first (flat_map (commands_of greets index mapping) requests) replies last
