@@ -3,6 +3,7 @@ use Rattle.std.proofs.Common.{◌≡◌, ℕ, Bool, true, false, List, length, O
 use Rattle.doc.specs.Id.{Id}
 use Rattle.doc.specs.Outcome.{◌>>=◌}
 use Rattle.op.specs.declared.operation.Op.{Op}
+use Rattle.op.specs.declared.record.Record.{Record}
 use Rattle.op.specs.Documents.{Document, document_at, document_of, documents}
 use Rattle.op.specs.Operations.{IsAscending, is_on, last_on, op_at}
 use Rattle.op.specs.Records.{operations, shown}
@@ -20,7 +21,7 @@ use Rattle.front.specs.Reply.{Reply, wrote, bulked, got, hits, counted, refreshe
 use Rattle.shard.specs.Answering.{IsAnswered, asked, is_failure, reply_of, taken, told}
 use Rattle.shard.specs.Ready.{IsAsked, IsServed, IsWanting, is_write}
 use Rattle.shard.specs.History.{Stand}
-use Rattle.promises.specs.Promises.{HasWrite, IsAcknowledged, alone, among, IsOver, IsSeenAmong, is_search, is_refused, WritesAreFound, WritesAreSeen, RefreshedWritesAreSeen}
+use Rattle.promises.specs.Promises.{HasWrite, IsAcknowledged, alone, among, IsOver, IsSeenAt, is_search, is_refused, WritesAreFound, WritesAreSeen, RefreshedWritesAreSeen}
 use Rattle.promises.proofs.Lists.{has_write}
 use Rattle.promises.proofs.Places.{IsPlaced, between, placed}
 use Rattle.promises.proofs.Serving.{IsThere, ascends, shown_ascends, by_state, is_open, ready}
@@ -99,16 +100,19 @@ any_members n (Some d) = refl
 has_at : (id : Id) (o : Op) (seq : ℕ) (os : List Op) → IsAscending os → op_at os o.seq ≡ Some o → is_on id o ≡ true → o.seq ≡ seq → HasWrite id seq os
 has_at id o seq os up h on number = subst (λ (n : ℕ). HasWrite id n os) number (has_write os id o up h on)
 
-gets : (c d : Copy) (id : Id) (f : Option Found) → (d, got f) ≡ told c (taken c (Getting id)) → got f ≡ reply_of 0 (get_answer (document_of (last_on (operations c.records) id)))
+gets : (c d : Copy) (id : Id) (f : Option Found) → (d, got f) ≡ told c (taken c (Getting id)) → (d.records ≡ c.records) × (got f ≡ reply_of 0 (get_answer (document_of (last_on (operations c.records) id))))
 gets c d id f h = by_step (copy_step c (Getting id)) refl h
   where
-    by_step : (r : Step) → copy_step c (Getting id) ≡ r → (d, got f) ≡ told c (r >>= λ s. Ok (s.copy, reply_of (members_of s.copy.role) s.answer)) → got f ≡ reply_of 0 (get_answer (document_of (last_on (operations c.records) id)))
+    by_step : (r : Step) → copy_step c (Getting id) ≡ r → (d, got f) ≡ told c (r >>= λ s. Ok (s.copy, reply_of (members_of s.copy.role) s.answer))
+        → (d.records ≡ c.records) × (got f ≡ reply_of 0 (get_answer (document_of (last_on (operations c.records) id))))
     by_step (Err e) step h = absurd (let no = ap (λ (p : Copy × Reply). p.1) h in cc)
     by_step (Ok s) step h =
-        let one = from_done c (get_answer (document_at (documents (operations c.records)) id)) s step in
-        ap (λ (p : Copy × Reply). p.1) h
-        ∙ (ap (reply_of (members_of s.copy.role)) (one.2 ∙ ap get_answer (document_at-documents (operations c.records) id))
-        ∙ any_members (members_of s.copy.role) (document_of (last_on (operations c.records) id)))
+        let one = from_done c (get_answer (document_at (documents (operations c.records)) id)) s step in (
+          ap (λ (p : Copy × Reply). p.0.records) h ∙ one.0,
+          ap (λ (p : Copy × Reply). p.1) h
+              ∙ (ap (reply_of (members_of s.copy.role)) (one.2 ∙ ap get_answer (document_at-documents (operations c.records) id))
+              ∙ any_members (members_of s.copy.role) (document_of (last_on (operations c.records) id))),
+        )
 
 pub writes_are_found : WritesAreFound
 writes_are_found w x c reply f old acked later new told_as first begins then =
@@ -118,15 +122,17 @@ writes_are_found w x c reply f old acked later new told_as first begins then =
     let there = between is.op false old acked later new c (get w.id) reply (got f) p q begins is.there in
     let by = done_by q.at.copy q.at.master (get w.id) (got f) q.next.copy q.next.master q.served refl in
     let has = by.1.there is.op false there in
+    let tells = gets by.0.copy q.next.copy.copy w.id f by.1.exact in
     record {
-      operations = operations by.0.copy.records;
-      has = has_at w.id is.op x.seq (operations by.0.copy.records) (ascends by.0 by.1.logged by.1.now_open) has.0 is.on is.number;
-      told = gets by.0.copy q.next.copy.copy w.id f by.1.exact;
+      at = q.next;
+      ends = q.ends;
+      has = subst (λ (rs : List Record). HasWrite w.id x.seq (operations rs)) (sym tells.0) (has_at w.id is.op x.seq (operations by.0.copy.records) (ascends by.0 by.1.logged by.1.now_open) has.0 is.on is.number);
+      told = tells.1 ∙ ap (λ (rs : List Record). reply_of 0 (get_answer (document_of (last_on (operations rs) w.id)))) (sym tells.0);
     }
 
-looks : (u : Copy) (d : Copy) (c : Command) (r : Reply) → is_search c ≡ true → (d, r) ≡ told u (asked u c) → IsOver u.mapping (shown u.records u.point) c r
-looks u d (search q page) r is h = ap (λ (p : Copy × Reply). p.1) h
-looks u d (count q) r is h = ap (λ (p : Copy × Reply). p.1) h
+looks : (u : Copy) (d : Copy) (c : Command) (r : Reply) → is_search c ≡ true → (d, r) ≡ told u (asked u c) → (d ≡ u) × IsOver u.mapping (shown u.records u.point) c r
+looks u d (search q page) r is h = (ap (λ (p : Copy × Reply). p.0) h, ap (λ (p : Copy × Reply). p.1) h)
+looks u d (count q) r is h = (ap (λ (p : Copy × Reply). p.0) h, ap (λ (p : Copy × Reply). p.1) h)
 looks u d (write w) r is h = absurd cc
 looks u d (bulk ws) r is h = absurd cc
 looks u d (get id) r is h = absurd cc
@@ -134,16 +140,17 @@ looks u d refresh r is h = absurd cc
 looks u d (promote copy) r is h = absurd cc
 
 -- a search of a copy that shows it
-sees : (id : Id) (seq : ℕ) (o : Op) (c : Command) (r : Reply) (later new : List Stand) (q : IsPlaced later c r new) → o.seq ≡ seq → is_on id o ≡ true → IsThere o true q.at.copy → is_search c ≡ true → is_refused r ≡ false → IsSeenAmong id seq c r
+sees : (id : Id) (seq : ℕ) (o : Op) (c : Command) (r : Reply) (later new : List Stand) (q : IsPlaced later c r new) → o.seq ≡ seq → is_on id o ≡ true → IsThere o true q.at.copy → is_search c ≡ true → is_refused r ≡ false → IsSeenAt id seq c r new
 sees id seq o c r later new q number on there is fine =
     let by = done_by q.at.copy q.at.master c r q.next.copy q.next.master q.served fine in
     let u = by.0 in
     let shows = (by.1.there o true there).1 refl in
+    let tells = looks u.copy q.next.copy.copy c r is by.1.exact in
     record {
-      mapping = u.copy.mapping;
-      operations = shown u.copy.records u.copy.point;
-      has = has_at id o seq (shown u.copy.records u.copy.point) (shown_ascends u by.1.logged by.1.now_open u.copy.point) shows.0 on number;
-      over = looks u.copy q.next.copy.copy c r is by.1.exact;
+      at = q.next;
+      ends = q.ends;
+      has = subst (λ (d : Copy). HasWrite id seq (shown d.records d.point)) (sym tells.0) (has_at id o seq (shown u.copy.records u.copy.point) (shown_ascends u by.1.logged by.1.now_open u.copy.point) shows.0 on number);
+      over = subst (λ (d : Copy). IsOver d.mapping (shown d.records d.point) c r) (sym tells.0) tells.1;
     }
 
 pub writes_are_seen : WritesAreSeen

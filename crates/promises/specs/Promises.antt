@@ -7,6 +7,7 @@ use Rattle.doc.specs.Mapping.{MappingData}
 use Rattle.op.specs.declared.operation.Op.{Op}
 use Rattle.op.specs.Operations.{last_on}
 use Rattle.op.specs.Documents.{document_of, documents}
+use Rattle.op.specs.Records.{operations, shown}
 use Rattle.engine.specs.Answer.{answer, found}
 use Rattle.replica.specs.Step.{get_answer}
 use Rattle.front.specs.declared.command.Write.{Write}
@@ -22,7 +23,7 @@ use Rattle.front.specs.Greeting.{greeted}
 use Rattle.front.specs.Work.{commands, work_of}
 use Rattle.front.specs.Reply.{Reply, wrote, bulked, got, hits, counted, refreshed, promoted, refused}
 use Rattle.shard.specs.Answering.{hits_of, reply_of}
-use Rattle.shard.specs.History.{Stand, IsTold}
+use Rattle.shard.specs.History.{Stand, EndsIn, IsTold}
 
 -- the last operation on the id has this number, or a greater one
 pub record HasWrite (id : Id) (seq : ℕ) (os : List Op) : Type 0 where
@@ -30,11 +31,12 @@ pub record HasWrite (id : Id) (seq : ℕ) (os : List Op) : Type 0 where
   pub is_last : last_on os id ≡ Some last
   pub not_older : seq ≤ last.seq
 
--- a get of the id tells the document that its last operation left, of operations that have the write
-pub record IsFoundAmong (id : Id) (seq : ℕ) (r : Reply) : Type 0 where
-  pub operations : List Op
-  pub has : HasWrite id seq operations
-  pub told : r ≡ reply_of 0 (get_answer (document_of (last_on operations id)))
+-- the copy at the end of this history has the write, and a get of the id tells the document that its last operation left there
+pub record IsFoundAt (id : Id) (seq : ℕ) (r : Reply) (known : List Stand) : Type 0 where
+  pub at : Stand
+  pub ends : EndsIn at known
+  pub has : HasWrite id seq (operations at.copy.copy.records)
+  pub told : r ≡ reply_of 0 (get_answer (document_of (last_on (operations at.copy.copy.records) id)))
 
 -- the reply to a search or a count over the documents of operations
 abbrev pub IsOver : MappingData → List Op → Command → Reply → Type 0
@@ -46,12 +48,12 @@ IsOver mapping os (get id) r = ⊥
 IsOver mapping os refresh r = ⊥
 IsOver mapping os (promote copy) r = ⊥
 
--- it is over the documents of operations that have the write
-pub record IsSeenAmong (id : Id) (seq : ℕ) (c : Command) (r : Reply) : Type 0 where
-  pub mapping : MappingData
-  pub operations : List Op
-  pub has : HasWrite id seq operations
-  pub over : IsOver mapping operations c r
+-- what the copy at the end of this history shows has the write, and the reply is over that
+pub record IsSeenAt (id : Id) (seq : ℕ) (c : Command) (r : Reply) (known : List Stand) : Type 0 where
+  pub at : Stand
+  pub ends : EndsIn at known
+  pub has : HasWrite id seq (shown at.copy.copy.records at.copy.copy.point)
+  pub over : IsOver at.copy.copy.mapping (shown at.copy.copy.records at.copy.copy.point) c r
 
 -- whether a command looks for documents
 abbrev pub is_search : Command → Bool
@@ -84,20 +86,20 @@ pub data IsAcknowledged (w : Write) (x : Wrote) : Command → Reply → Type 0 w
 abbrev pub WritesAreFound : Type 0
 WritesAreFound =
     (w : Write) (x : Wrote) (asked : Command) (reply : Reply) (o : Option Found) (old acked later new : List Stand)
-    → IsAcknowledged w x asked reply → IsTold old asked reply acked → IsPrefix acked later → IsTold later (get w.id) (got o) new → IsFoundAmong w.id x.seq (got o)
+    → IsAcknowledged w x asked reply → IsTold old asked reply acked → IsPrefix acked later → IsTold later (get w.id) (got o) new → IsFoundAt w.id x.seq (got o) new
 
 -- where it was to be refreshed at once, searches of such a client see it
 abbrev pub WritesAreSeen : Type 0
 WritesAreSeen =
     (w : Write) (x : Wrote) (c : Command) (r : Reply) (old acked later new : List Stand)
-    → IsTold old (write w) (wrote x) acked → w.refresh ≡ true → IsPrefix acked later → IsTold later c r new → is_search c ≡ true → is_refused r ≡ false → IsSeenAmong w.id x.seq c r
+    → IsTold old (write w) (wrote x) acked → w.refresh ≡ true → IsPrefix acked later → IsTold later c r new → is_search c ≡ true → is_refused r ≡ false → IsSeenAt w.id x.seq c r new
 
 -- and so they do where a refresh was told since
 abbrev pub RefreshedWritesAreSeen : Type 0
 RefreshedWritesAreSeen =
     (w : Write) (x : Wrote) (asked : Command) (reply : Reply) (n : ℕ) (c : Command) (r : Reply) (old acked before shown later new : List Stand)
     → IsAcknowledged w x asked reply → IsTold old asked reply acked → IsPrefix acked before → IsTold before refresh (refreshed n) shown → IsPrefix shown later → IsTold later c r new
-    → is_search c ≡ true → is_refused r ≡ false → IsSeenAmong w.id x.seq c r
+    → is_search c ≡ true → is_refused r ≡ false → IsSeenAt w.id x.seq c r new
 
 -- any commands of a client, one after another: what was known at first begins what is known at last
 abbrev pub NeverBack : Type 0
