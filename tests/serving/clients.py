@@ -126,12 +126,14 @@ def write_and_read(server, name, count, slow):
 def pooled(name, seconds, *words):
     """Clients that each keep a connection, and write and read what they wrote for some seconds; what was acknowledged is found afterwards."""
     with Server(*words) as server:
-        wrote, faults, end = {}, [], time.monotonic() + seconds
+        wrote, faults, all_begun = {}, [], threading.Barrier(POOLED, timeout=SECONDS)
 
         def run_client(client):
             try:
                 with Client(server) as it:
-                    number = 0
+                    # (else the last ones may not have begun when the time is over)
+                    all_begun.wait()
+                    number, end = 0, time.monotonic() + seconds
                     while time.monotonic() < end:
                         document = b"%d-%d" % (client, number)
                         page = it.ask(put_of(document, b'{"n":%d}' % number))
@@ -140,7 +142,7 @@ def pooled(name, seconds, *words):
                         assert found["_seq_no"] == page["_seq_no"] and found["_source"] == {"n": number}, found
                         number += 1
                     assert number, "nothing was answered"
-            except (AssertionError, OSError, ValueError, KeyError) as fault:
+            except (AssertionError, OSError, ValueError, KeyError, threading.BrokenBarrierError) as fault:
                 faults.append(f"client {client}: {fault!r}"[:200])
 
         at_once(POOLED, run_client)
