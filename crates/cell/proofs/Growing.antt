@@ -14,8 +14,9 @@ use Rattle.replica.specs.Logged.{Logged, is_refresh}
 use Rattle.replica.specs.Step.{Step, Stepped, copy_step, settled_as}
 use Rattle.replica.proofs.Settled.{settled_opened}
 use Rattle.published.specs.declared.listing.Listing.{Listing}
+use Rattle.published.specs.declared.listing.Published.{Published}
 use Rattle.published.specs.declared.showing.Showing.{Showing}
-use Rattle.published.specs.Line.{Line, line}
+use Rattle.published.specs.Line.{Line, line, line_behind}
 use Rattle.published.specs.Listings.{GoesOn, StartsWith}
 use Rattle.published.specs.Showing.{cell_of, listing}
 use Rattle.published.proofs.Orders.{self-GoesOn, trans-GoesOn, trans-StartsWith}
@@ -122,38 +123,41 @@ may_show c p s is shown = record {
   records = subst (λ rs. StartsWith rs p.top.records) (sym shown.records) is.records;
 }
 
-pub begun_published : (c : Copy) (p : Line) (s : Showing) → IsShownBy c s → p ≡ line p.book (listing p.book s) → IsPublishedOf c p
-begun_published c p s shown is = let top : p.top ≡ listing p.book s = ap (λ (x : Line). x.top) is in record {
+shown_published : (c : Copy) (p : Line) (history : List Listing) (s : Showing) → IsShownBy c s → p ≡ line_behind p.book history (listing p.book s) → IsPublishedOf c p
+shown_published c p history s shown is = let top : p.top ≡ listing p.book s = ap (λ (x : Line). x.top) is in record {
   cell = ap (λ (l : Listing). l.cell) top;
   mapping = ap (λ (l : Listing). l.mapping) top ∙ shown.mapping;
   records = ([], sym shown.records ∙ (ap (λ (l : Listing). l.records) (sym top) ∙ sym (append-nil p.top.records)));
-  shown = subst (λ (x : Line). GoesOn x.top x.shown) (sym is) (self-GoesOn (listing p.book s));
+  shown = subst (λ (x : Line). GoesOn x.top x.shown.listing) (sym is) (self-GoesOn (listing p.book s));
 }
+
+pub begun_published : (c : Copy) (p : Line) (s : Showing) → IsShownBy c s → p ≡ line p.book (listing p.book s) → IsPublishedOf c p
+begun_published c p s shown is = shown_published c p [] s shown is
 
 -- after it was published, or refused
 pub still_published : {A E : Type 0} (c : Copy) (old new : Line) (s : Showing) (r : Result A E) → IsPublishedOf c old → IsShownBy c s → new.book ≡ old.book
-    → OnOk r (new ≡ line old.book (listing old.book s)) → OnErr r (new.shown ≡ old.shown) → OnErr r ((new.top ≡ old.top) ⊎ (new.top ≡ listing old.book s)) → IsPublishedOf c new
+    → OnOk r (new ≡ line_behind old.book old.history (listing old.book s)) → OnErr r (new.shown ≡ old.shown) → OnErr r ((new.top ≡ old.top) ⊎ (new.top ≡ listing old.book s)) → IsPublishedOf c new
 still_published c old new s (Ok x) is shown book ok err top =
-    begun_published c new s shown (ok ∙ ap (λ b. line b (listing b s)) (sym book))
+    shown_published c new old.history s shown (ok ∙ ap (λ b. line_behind b old.history (listing b s)) (sym book))
 still_published c old new s (Err e) is shown book ok err top =
     let on : GoesOn (listing old.book s) old.top = may_show c old s is shown in
     ⊎_elim (λ same. record {
       cell = ap (λ (l : Listing). l.cell) same ∙ (is.cell ∙ ap cell_of (sym book));
       mapping = ap (λ (l : Listing). l.mapping) same ∙ is.mapping;
       records = subst (λ (l : Listing). StartsWith c.records l.records) (sym same) is.records;
-      shown = subst (λ (l : Listing). GoesOn new.top l) (sym err) (subst (λ (l : Listing). GoesOn l old.shown) (sym same) is.shown);
+      shown = subst (λ (p : Published). GoesOn new.top p.listing) (sym err) (subst (λ (l : Listing). GoesOn l old.shown.listing) (sym same) is.shown);
     })
     (λ next. record {
       cell = ap (λ (l : Listing). l.cell) next ∙ ap cell_of (sym book);
       mapping = ap (λ (l : Listing). l.mapping) next ∙ shown.mapping;
       records = ([], sym shown.records ∙ (ap (λ (l : Listing). l.records) (sym next) ∙ sym (append-nil new.top.records)));
-      shown = subst (λ (l : Listing). GoesOn new.top l) (sym err) (subst (λ (l : Listing). GoesOn l old.shown) (sym next) (trans-GoesOn old.shown old.top (listing old.book s) is.shown on));
+      shown = subst (λ (p : Published). GoesOn new.top p.listing) (sym err) (subst (λ (l : Listing). GoesOn l old.shown.listing) (sym next) (trans-GoesOn old.shown.listing old.top (listing old.book s) is.shown on));
     }) top
 
-pub whole_after : {A E : Type 0} (c : CellData) (old : Line) (s : Showing) (r : Result A E) → IsShownBy (standing c.journal).copy s → OnOk r (c.line ≡ line old.book (listing old.book s)) → OnOk r (IsAllShown c)
+pub whole_after : {A E : Type 0} (c : CellData) (old : Line) (s : Showing) (r : Result A E) → IsShownBy (standing c.journal).copy s → OnOk r (c.line ≡ line_behind old.book old.history (listing old.book s)) → OnOk r (IsAllShown c)
 whole_after c old s (Ok x) shown is = record {
-  mapping = ap (λ (p : Line). p.shown.mapping) is ∙ shown.mapping;
-  records = ap (λ (p : Line). p.shown.records) is ∙ shown.records;
+  mapping = ap (λ (p : Line). p.shown.listing.mapping) is ∙ shown.mapping;
+  records = ap (λ (p : Line). p.shown.listing.records) is ∙ shown.records;
 }
 whole_after c old s (Err e) shown is = tt
 
@@ -161,5 +165,5 @@ whole_after c old s (Err e) shown is = tt
 pub begun_all : (h : JournalData) (p : Line) (s : Showing) → IsShownBy (standing h).copy s → p ≡ line p.book (listing p.book s) → IsBegun h (record { journal = h; line = p })
 begun_all h p s shown is = record {
   journal = refl;
-  whole = record { mapping = ap (λ (x : Line). x.shown.mapping) is ∙ shown.mapping; records = ap (λ (x : Line). x.shown.records) is ∙ shown.records };
+  whole = record { mapping = ap (λ (x : Line). x.shown.listing.mapping) is ∙ shown.mapping; records = ap (λ (x : Line). x.shown.listing.records) is ∙ shown.records };
 }

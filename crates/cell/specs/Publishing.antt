@@ -31,15 +31,15 @@ pub record IsPublishedOf (c : Copy) (p : Line) : Type 0 where
   pub cell : p.top.cell ≡ cell_of p.book
   pub mapping : p.top.mapping ≡ c.mapping
   pub records : StartsWith c.records p.top.records
-  pub shown : GoesOn p.top p.shown
+  pub shown : GoesOn p.top p.shown.listing
 
 abbrev pub IsPublished : JournalData → Line → Type 0
 IsPublished h p = IsPublishedOf (standing h).copy p
 
 -- searches show all records of the copy
 pub record IsAllShown (c : CellData) : Type 0 where
-  pub mapping : c.line.shown.mapping ≡ (standing c.journal).copy.mapping
-  pub records : c.line.shown.records ≡ (standing c.journal).copy.records
+  pub mapping : c.line.shown.listing.mapping ≡ (standing c.journal).copy.mapping
+  pub records : c.line.shown.listing.records ≡ (standing c.journal).copy.records
 
 -- a call is in the journal, and what is shown stays: memory was wanting for what it shows
 pub record IsUnshown (old new : CellData) (p q : PassData) (input : Input) : Type 0 where

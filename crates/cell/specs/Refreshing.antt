@@ -2,7 +2,7 @@
 use Rattle.std.specs.Prelude.{◌≡◌, ◌⊎◌}
 use Rattle.replica.specs.declared.input.Input.TheVariants.{Write as Client, Refresh}
 use Rattle.replica.specs.declared.input.Write.{Write}
-use Rattle.published.specs.declared.listing.Listing.{Listing}
+use Rattle.published.specs.declared.listing.Published.{Published}
 use Rattle.node.specs.declared.fault.NodeFault.{NodeFault}
 use Rattle.node.specs.declared.fault.NodeFault.TheVariants.{NoMemory}
 use Rattle.node.specs.Entry.{Receipt}
@@ -11,7 +11,7 @@ use Rattle.node.specs.Held.{IsCall}
 use Rattle.cell.specs.Publishing.{CellData, IsAllShown, IsRefusedCall}
 
 -- a refresh has its entry, searches show all records of the copy, and the note is of what they show
-pub record IsRefreshed (old new : CellData) (p q : PassData) (note : Listing) : Type 0 where
+pub record IsRefreshed (old new : CellData) (p q : PassData) (note : Published) : Type 0 where
   pub receipt : Receipt
   pub call : IsCall old.journal new.journal p q Refresh receipt
   pub whole : IsAllShown new
@@ -28,7 +28,7 @@ abbrev pub IsUnnoted : CellData → CellData → PassData → PassData → NodeF
 IsUnnoted old new p q e = IsRefusedCall old new p q Refresh e ⊎ IsWithoutNote old new p q e
 
 -- the write has its entry, and then the refresh
-pub record IsWriteRefreshed (old new : CellData) (p q : PassData) (w : Write) (r : Receipt) (note : Listing) : Type 0 where
+pub record IsWriteRefreshed (old new : CellData) (p q : PassData) (w : Write) (r : Receipt) (note : Published) : Type 0 where
   pub between : CellData
   pub passed : PassData
   pub write : IsCall old.journal between.journal p passed (Client w) r

@@ -1,3 +1,4 @@
 pub mod Bulks
 pub mod Handed
+pub mod Refreshes
 pub mod Rulings

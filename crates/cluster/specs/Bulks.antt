@@ -86,10 +86,10 @@ pub record IsBulkLost (writes : List Write) (r : Receipt) : Type 0 where
   pub stands : IsEntry r
   pub kept : HasKept r
 
--- what a refused bulk shows: that no copy is the primary, or that something of it was kept
+-- what a refused bulk shows: that no copy is the primary, or that something of it was kept, and where an entry ended the wait for it, that this stands behind
 abbrev pub IsBulkRefused : List Write → ClusterFault → Type 0
 IsBulkRefused writes (NoPrimary r) = (r.deed.input ≡ Bulk writes) × IsEntry r × (is_no_primary r.deed.answer ≡ true)
-IsBulkRefused writes (Lost r last) = IsBulkLost writes r
+IsBulkRefused writes (Lost r last) = IsBulkLost writes r × IsBehind r last
 IsBulkRefused writes (Unconfirmed r) = IsBulkLost writes r
 IsBulkRefused writes NoMemory = Unit {0}
 IsBulkRefused writes NoSeat = Unit {0}

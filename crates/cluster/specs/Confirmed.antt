@@ -115,10 +115,10 @@ IsRefusalBy receipt Running = Unit {0}
 IsRefusalBy receipt (Stray place) = Unit {0}
 IsRefusalBy receipt (Unopened tried) = Unit {0}
 
--- a write that its copy kept wasn't acknowledged: the refusal holds its entry, or none
+-- a write that its copy kept wasn't acknowledged: the refusal holds its entry, and where another one ended that, it is of the same copy and stands behind; or it holds none
 abbrev pub IsEndOf : Receipt → ClusterFault → Type 0
 IsEndOf receipt (NoPrimary r) = ⊥
-IsEndOf receipt (Lost r last) = r ≡ receipt
+IsEndOf receipt (Lost r last) = (r ≡ receipt) × IsBehind receipt last
 IsEndOf receipt (Unconfirmed r) = r ≡ receipt
 IsEndOf receipt NoMemory = Unit {0}
 IsEndOf receipt NoSeat = Unit {0}
@@ -134,10 +134,10 @@ pub record IsLost (write : Write) (r : Receipt) : Type 0 where
   pub stands : IsEntry r
   pub kept : (w : Written) × (wrote r.deed.answer ≡ Some w)
 
--- what a refused write shows: that no copy is the primary, or that the write was kept
+-- what a refused write shows: that no copy is the primary, or that the write was kept, and where an entry ended the wait for it, that this stands behind
 abbrev pub IsWriteRefused : Write → ClusterFault → Type 0
 IsWriteRefused write (NoPrimary r) = (r.deed.input ≡ Client write) × IsEntry r × (is_no_primary r.deed.answer ≡ true)
-IsWriteRefused write (Lost r last) = IsLost write r
+IsWriteRefused write (Lost r last) = IsLost write r × IsBehind r last
 IsWriteRefused write (Unconfirmed r) = IsLost write r
 IsWriteRefused write NoMemory = Unit {0}
 IsWriteRefused write NoSeat = Unit {0}

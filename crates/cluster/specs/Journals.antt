@@ -1,5 +1,5 @@
 -- Journals that are handed out.
-use Rattle.std.specs.Prelude.{◌≡◌, ℕ, List, [], ◌∷◌, Some, All, Any}
+use Rattle.std.specs.Prelude.{◌≡◌, ◌<◌, ℕ, List, [], ◌∷◌, Some, All, Any}
 use Rattle.journal.specs.declared.journal.Journal.{Journal}
 use Rattle.journal.specs.declared.journal.Journal.TheVariants.{OfMaster, OfCopy}
 use Rattle.journal.specs.Lawful.{IsLawful}
@@ -19,6 +19,20 @@ node_of (OfCopy opening deeds) = opening.id
 abbrev pub copies_in : List Journal → List Journal
 copies_in [] = []
 copies_in (j ∷ js) = js
+
+abbrev pub IsMasters : Journal → Type 0
+IsMasters (OfMaster state rulings) = Unit {0}
+IsMasters (OfCopy opening deeds) = ⊥
+
+-- the first is the master's
+abbrev pub BeginsWithMaster : List Journal → Type 0
+BeginsWithMaster [] = ⊥
+BeginsWithMaster (j ∷ js) = IsMasters j
+
+-- each is of a copy with a greater id than the one before it, and than this
+abbrev pub RiseFrom : ℕ → List Journal → Type 0
+RiseFrom id [] = Unit {0}
+RiseFrom id (j ∷ js) = (id < node_of j) × RiseFrom (node_of j) js
 
 -- the receipts of one caller are the entries of the journal, each under the number of its copy: each stands at its place, no two at one, and no entry
 -- is without

@@ -5,3 +5,4 @@ pub mod Ruled
 pub mod Journals
 pub mod Leaving
 pub mod Opening
+pub mod Refreshed

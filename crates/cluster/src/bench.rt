@@ -88,8 +88,27 @@ fn serve<R: Wait, D: LogDevice, G: Gate>(
     worker.into_left(rt)
 }
 
-/// Starts a thread, and keeps it with others. Nothing here depends on what it is to do, so this is proved once for all.
-pub(crate) fn start_beside<R: Threads, W: Work + Send + 'static>(
+/// Starts a thread that builds merges and a worker, and keeps each with others. Nothing here depends on what they are to do, so this is proved once for all.
+pub(crate) fn start_both<R: Threads, S: Wait + Drop + Send + 'static, W: Work + Send + 'static>(
+    rt: &R,
+    mergers: &mut Vec<JoinHandle<()>>,
+    merger: Merger<S>,
+    threads: &mut Vec<JoinHandle<Left>>,
+    work: W,
+) -> Result<(), AllocError>
+    ensures { OnOk result (vec_len threads.new ≡ vec_len threads.old + 1) }
+{
+    match start_merger(rt, mergers, merger) {
+        Ok(()) => start_beside(rt, threads, work),
+        Err(refused) => {
+            drop(work);
+            Err(refused)
+        }
+    }
+}
+
+/// Starts a thread, and keeps it with others.
+fn start_beside<R: Threads, W: Work + Send + 'static>(
     rt: &R,
     threads: &mut Vec<JoinHandle<Left>>,
     work: W,
@@ -105,7 +124,7 @@ pub(crate) fn start_beside<R: Threads, W: Work + Send + 'static>(
 }
 
 /// Starts a thread that builds merges, and keeps it with others.
-pub(crate) fn start_merger<R: Threads, S: Wait + Drop + Send + 'static>(
+fn start_merger<R: Threads, S: Wait + Drop + Send + 'static>(
     rt: &R,
     threads: &mut Vec<JoinHandle<()>>,
     merger: Merger<S>,

@@ -4,7 +4,7 @@ ghost use Rattle.cluster.specs.Bulks.{bulked, has_kept, AreBulkSettledAt, AreSet
 ghost use Rattle.cluster.specs.Confirmed.{IsBare, IsBehind, IsEndOf};
 
 use crate::checks::{acknowledges, are_behind, is_of_bulk, items_in};
-use crate::client::{Client, received, refusal_of};
+use crate::client::{Client, lost_by, received, refusal_of};
 use crate::confirmed::ConfirmedBulk;
 use crate::durable::Durable;
 use crate::fault::ClusterFault;
@@ -127,7 +127,7 @@ fn ended<R: Wait>(
 {
     match endings.recv(rt) {
         Ok(BulkEnding::Acknowledged(entries)) => settled(alloc, receipt, entries),
-        Ok(BulkEnding::Lost(entry)) => Err(ClusterFault::Lost(receipt, entry.into_inner())),
+        Ok(BulkEnding::Lost(entry)) => Err(lost_by(receipt, entry.into_inner())),
         Err(_) => Err(ClusterFault::Unconfirmed(receipt)),
     }
 }

@@ -8,3 +8,8 @@ use std::sync::Wait;
 pub(crate) fn sent<R: Wait, T: Drop>(rt: &R, to: &Sender<T, Global>, item: T) -> bool {
     to.send(rt, item).is_ok()
 }
+
+/// Sends something to one who is sent nothing more.
+pub(crate) fn give<R: Wait, T: Drop>(rt: &R, to: Sender<T, Global>, item: T) {
+    sent(rt, &to, item);
+}

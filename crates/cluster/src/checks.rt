@@ -1,5 +1,5 @@
 //! What receipts are looked at for.
-ghost use Rattle.std.specs.Prelude.{◌≡◌, ◌↔◌, All, IsTrue, IfSome, IfNone, Some, None, option_copied};
+ghost use Rattle.std.specs.Prelude.{◌≡◌, ◌↔◌, All, IsOk, IsTrue, IfSome, IfNone, Some, None, option_copied};
 ghost use Rattle.replica.specs.declared.input.Input.TheVariants.{Write as Client, Bulk};
 ghost use Rattle.cluster.specs.Bulks.{bulked};
 ghost use Rattle.cluster.specs.Confirmed as spec;
@@ -114,7 +114,9 @@ pub(crate) fn are_behind(first: &Receipt, others: &[Receipt]) -> bool
 }
 
 /// Why the copy refused, where it did.
-pub(crate) fn refusal_in(receipt: &Receipt) -> Option<CopyFault> {
+pub(crate) fn refusal_in(receipt: &Receipt) -> Option<CopyFault>
+    ensures { IfNone result (IsOk receipt.now.deed.answer) }
+{
     match &receipt.deed().answer {
         Ok(_) => None,
         Err(fault) => Some(fault.copy()),

@@ -1,9 +1,10 @@
 //! What callers ask the copies of a cluster by.
-ghost use Rattle.std.specs.Prelude.{◌≡◌, IfOk, IfErr};
+ghost use Rattle.std.specs.Prelude.{◌≡◌, ◌+◌, false, IsOk, IsTrue, IfOk, IfErr};
 ghost use Rattle.master.specs.declared.state.Request.TheVariants.{Promote};
 ghost use Rattle.master.specs.declared.state.State.{State as MasterState};
 ghost use Rattle.node.specs.Entry.{IsEntry};
 ghost use Rattle.node.specs.Reading.{IsGotAt};
+ghost use Rattle.cluster.specs.Refreshed.{AreRefreshed, AreSoFar, HasRefresh};
 ghost use Rattle.cluster.specs.Ruled.{IsDecided, IsKnown};
 ghost use Rattle.cluster.specs.Confirmed.{IsAcknowledgedWrite, IsAnswerTo, IsBare, IsConfirmed, IsEndOf, IsRefusalBy, IsWriteRefused};
 
@@ -87,7 +88,7 @@ impl<D: LogDevice> Client<D> {
 
     /// Has a copy do a get or a refresh, and waits for its entry.
     pub fn call<R: Wait>(&self, rt: &R, copy: u32, input: Input) -> Result<Receipt, ClusterFault>
-        ensures { IfOk result (λ r. IsAnswerTo copy input r × IsEntry r) }
+        ensures { IfOk result (λ r. IsAnswerTo copy input r × IsEntry r × IsOk r.deed.answer) }
     {
         let asked = input.copy(self.alloc)?;
         let receipt = self.entry(rt, copy, asked)?;
@@ -128,22 +129,45 @@ impl<D: LogDevice> Client<D> {
     }
 
     /// Refreshes each copy that isn't gone, and tells how many of those in sync are. One that is closed is passed over.
-    pub fn refresh<R: Wait>(&self, rt: &R) -> Result<u64, ClusterFault> {
+    #[tactic(auto, using(crate::proofs::Refreshes::none_so_far, crate::proofs::Refreshes::all_so_far))]
+    pub fn refresh<R: Wait>(&self, rt: &R) -> Result<u64, ClusterFault>
+        ensures { IfOk result AreRefreshed }
+    {
         let state = self.state(rt)?;
         let mut refreshed: u64 = 0;
         for copy in 1..state.next {
-            let Ok(copy) = u32::try_from(copy) else {
-                break;
-            };
-            if !state.gone.has(copy) && self.is_refreshed(rt, copy)? && state.in_sync.has(copy) {
-                refreshed = refreshed.saturating_add(1);
-            }
+            refreshed = self.with_refresh(rt, &state, copy, refreshed)?;
         }
         Ok(refreshed)
     }
 
+    /// Refreshes a copy that isn't gone, and tells how many of those in sync are by then.
+    #[tactic(auto, using(crate::proofs::Refreshes::one_more, crate::proofs::Refreshes::no_more))]
+    fn with_refresh<R: Wait>(
+        &self,
+        rt: &R,
+        state: &State,
+        copy: u64,
+        refreshed: u64,
+    ) -> Result<u64, ClusterFault>
+        requires { AreSoFar state.now copy refreshed }
+        ensures { IfOk result (AreSoFar state.now (copy + 1)) }
+    {
+        let Ok(id) = u32::try_from(copy) else {
+            return Ok(refreshed);
+        };
+        if !state.gone.has(id) && self.is_refreshed(rt, id)? && state.in_sync.has(id) {
+            Ok(refreshed + 1)
+        } else {
+            Ok(refreshed)
+        }
+    }
+
     /// Refreshes a copy, and tells whether it is.
-    fn is_refreshed<R: Wait>(&self, rt: &R, copy: u32) -> Result<bool, ClusterFault> {
+    #[tactic(auto, using(crate::proofs::Refreshes::refreshed_by))]
+    fn is_refreshed<R: Wait>(&self, rt: &R, copy: u32) -> Result<bool, ClusterFault>
+        ensures { IfOk result (λ b. IsTrue b → HasRefresh copy) }
+    {
         match self.call(rt, copy, Input::Refresh) {
             Ok(_receipt) => Ok(true),
             Err(fault) => passed_over(fault),
@@ -180,7 +204,9 @@ struct Begun {
 }
 
 /// A copy that refused is passed over, as not refreshed; want of memory is told.
-fn passed_over(fault: ClusterFault) -> Result<bool, ClusterFault> {
+fn passed_over(fault: ClusterFault) -> Result<bool, ClusterFault>
+    ensures { IfOk result (λ b. b ≡ false) }
+{
     if let ClusterFault::NoMemory = &fault {
         return Err(fault);
     }
@@ -204,7 +230,7 @@ pub(crate) fn received<R: Wait>(
 
 /// The entry, where it is the one that was asked for, and not a refusal.
 fn answered(receipt: Receipt, copy: u32, input: &Input) -> Result<Receipt, ClusterFault>
-    ensures { IfOk result (λ r. IsAnswerTo copy input.now r × IsEntry r) }
+    ensures { IfOk result (λ r. IsAnswerTo copy input.now r × IsEntry r × IsOk r.deed.answer) }
 {
     if !is_answer_to(&receipt, copy, input) {
         return Err(ClusterFault::Stray(receipt.place()));
@@ -278,6 +304,17 @@ fn ended(receipt: Receipt, written: Written, ending: Ending) -> Result<Confirmed
                 Err(ClusterFault::Stray(last.place()))
             }
         }
-        Ending::Lost(entry) => Err(ClusterFault::Lost(receipt, entry.into_inner())),
+        Ending::Lost(entry) => Err(lost_by(receipt, entry.into_inner())),
+    }
+}
+
+/// What was kept and is perhaps lost, by the entry that ended the wait for it.
+pub(crate) fn lost_by(receipt: Receipt, last: Receipt) -> ClusterFault
+    ensures { IsEndOf receipt result }
+{
+    if is_behind(&receipt, &last) {
+        ClusterFault::Lost(receipt, last)
+    } else {
+        ClusterFault::Stray(last.place())
     }
 }

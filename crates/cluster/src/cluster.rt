@@ -1,10 +1,10 @@
 //! Starting the threads of a cluster, and ending them.
 ghost use Rattle.std.specs.Prelude.{◌≡◌, ◌+◌, ◌≤◌, false, vec_len, All, IsOk, IfOk, OnOk};
 ghost use Rattle.master.specs.declared.state.Request.TheVariants.{Allocate};
-ghost use Rattle.cluster.specs.Journals.{copies_in, IsLegalJournal, IsOfOneCaller, StandsIn};
+ghost use Rattle.cluster.specs.Journals.{copies_in, BeginsWithMaster, IsLegalJournal, IsMasters, IsOfOneCaller, RiseFrom, StandsIn};
 ghost use Rattle.cluster.specs.Ruled.{IsDecided};
 
-use crate::bench::{Bench, Start, start_beside, start_merger};
+use crate::bench::{Bench, Start, start_both};
 use crate::channels::sent;
 use crate::client::Client;
 use crate::devices::Devices;
@@ -126,11 +126,55 @@ impl<D: LogDevice + Send + 'static, V: Devices<D>, G: Gate + Send + Sync + 'stat
     {
         let mut setting = setting;
         let alloc = setting.alloc;
-        let ready = new_copies(alloc, copies, &setting.mapping, &mut setting.devices)?;
-        let master = new_master(alloc, copies, device)?;
-        let mut cluster = Cluster::over(setting, master)?;
-        let begun = cluster.launch_all(rt, ready);
-        cluster.or_closed(rt, begun)
+        match new_copies(alloc, copies, &setting.mapping, &mut setting.devices) {
+            Ok(ready) => Cluster::begin_over(rt, setting, ready, new_master(alloc, copies, device)),
+            Err(fault) => {
+                drop(setting);
+                drop(device);
+                Err(fault)
+            }
+        }
+    }
+
+    /// A cluster of copies that are to be served, where the master has begun too.
+    fn begin_over<R: Threads + Wait + Copy + Send + Drop + 'static>(
+        rt: &R,
+        setting: Setting<V, G>,
+        ready: Vec<Ready<D>>,
+        master: Result<Master<D>, ClusterFault>,
+    ) -> Result<Cluster<D, V, G>, ClusterFault>
+        requires { IfOk master (λ m. m.closed ≡ false) }
+        ensures { IfOk result (λ c. vec_len c.threads ≡ vec_len ready) }
+    {
+        match master {
+            Ok(master) => Cluster::launch_over(rt, Cluster::over(setting, master), ready),
+            Err(fault) => {
+                drop(setting);
+                drop(ready);
+                Err(fault)
+            }
+        }
+    }
+
+    /// Starts the threads of copies, where the cluster that they are of could be made.
+    fn launch_over<R: Threads + Wait + Copy + Send + Drop + 'static>(
+        rt: &R,
+        cluster: Result<Cluster<D, V, G>, ClusterFault>,
+        ready: Vec<Ready<D>>,
+    ) -> Result<Cluster<D, V, G>, ClusterFault>
+        requires { IfOk cluster (λ c. vec_len c.threads ≡ 0) }
+        ensures { IfOk result (λ c. vec_len c.threads ≡ vec_len ready) }
+    {
+        match cluster {
+            Ok(mut cluster) => {
+                let begun = cluster.launch_all(rt, ready);
+                cluster.or_closed(rt, begun)
+            }
+            Err(fault) => {
+                drop(ready);
+                Err(fault)
+            }
+        }
     }
 
     fn reopen<R: Threads + Wait + Copy + Send + Drop + 'static>(
@@ -451,8 +495,7 @@ impl<D: LogDevice + Send + 'static, V: Devices<D>, G: Gate + Send + Sync + 'stat
             merges,
             worker,
         };
-        start_merger(rt, &mut self.mergers, merger)?;
-        start_beside(rt, &mut self.threads, bench)?;
+        start_both(rt, &mut self.mergers, merger, &mut self.threads, bench)?;
         match heard.recv(rt) {
             Ok(true) => Ok(()),
             _ => Err(ClusterFault::NoMemory),
@@ -469,6 +512,8 @@ impl<D: LogDevice + Send + 'static, V: Devices<D>, G: Gate + Send + Sync + 'stat
     ) -> Result<Vec<Journal>, ClusterFault>
         ensures legal { IfOk result (λ js. All IsLegalJournal js.items) }
         ensures all { IfOk result (λ js. vec_len js ≡ vec_len self.threads + 1) }
+        ensures master { IfOk result (λ js. BeginsWithMaster js.items) }
+        ensures order { IfOk result (λ js. RiseFrom 0 (copies_in js.items)) }
         ensures gathered { IfOk result (λ js. All IsOfOneCaller (copies_in js.items)) }
         ensures receipts { IfOk result (λ js. All (StandsIn (copies_in js.items)) receipts.now) }
     {
@@ -495,7 +540,8 @@ impl<D: LogDevice + Send + 'static, V: Devices<D>, G: Gate + Send + Sync + 'stat
 }
 
 fn journal_of<D: LogDevice>(master: Ruled<D>) -> Journal
-    ensures { IsLegalJournal result }
+    ensures legal { IsLegalJournal result }
+    ensures master { IsMasters result }
 {
     master.into_journal()
 }
@@ -531,6 +577,7 @@ fn journals<D: LogDevice>(
     ensures legal { IfOk result (λ js. All IsLegalJournal js.items) }
     ensures all { IfOk result (λ js. vec_len js ≡ vec_len lefts + 1) }
     ensures copies { IfOk result (λ js. copies_in js.items ≡ lefts.items) }
+    ensures master { IfOk result (λ js. BeginsWithMaster js.items) }
 {
     let mut journals = Vec::new(alloc);
     journals.push(journal_of(master))?;

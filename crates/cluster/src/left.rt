@@ -1,6 +1,6 @@
 //! What a worker leaves.
 ghost use Rattle.std.specs.Prelude.{◌≡◌, All, IfNone, IsTrue};
-ghost use Rattle.cluster.specs.Journals.{HasReceipt, IsLegalJournal, IsOfOneCaller, StandsIn};
+ghost use Rattle.cluster.specs.Journals.{node_of, HasReceipt, IsLegalJournal, IsOfOneCaller, RiseFrom, StandsIn};
 
 use cell::CopyCell;
 use journal::Journal;
@@ -63,6 +63,13 @@ impl Left {
         }
     }
 
+    /// The id of the copy.
+    fn node(&self) -> u32
+        ensures { result ≡ node_of self.now }
+    {
+        self.node
+    }
+
     /// Whether a receipt stands in the journal, and is of its copy.
     fn has(&self, receipt: &Receipt) -> bool
         ensures { IsTrue result → HasReceipt receipt.now self.now }
@@ -108,15 +115,35 @@ fn first_unseen(receipts: &[Receipt]) -> u64 {
     place
 }
 
-/// The place of the first receipt that stands in no journal: of those that workers kept, and then of some others.
+/// The place of the first receipt that stands in no journal: of those that workers kept, and then of some others. Where the journals aren't in the order
+/// of the ids of their copies, it is that of a first entry.
 pub(crate) fn stray_in(lefts: &[Left], receipts: &[Receipt]) -> Option<u64>
+    ensures order { IfNone result (RiseFrom 0 lefts.now) }
     ensures workers { IfNone result (All IsOfOneCaller lefts.now) }
     ensures others { IfNone result (All (StandsIn lefts.now) receipts.now) }
 {
+    if !are_in_order(lefts) {
+        return Some(0);
+    }
     match stray_of_workers(lefts) {
         Some(place) => Some(place),
         None => stray_among(lefts, receipts),
     }
+}
+
+/// Whether the ids of the copies rise.
+fn are_in_order(lefts: &[Left]) -> bool
+    ensures { IsTrue result → RiseFrom 0 lefts.now }
+{
+    let mut last = 0;
+    for left in lefts {
+        let node = left.node();
+        if node <= last {
+            return false;
+        }
+        last = node;
+    }
+    true
 }
 
 fn stray_of_workers(lefts: &[Left]) -> Option<u64>

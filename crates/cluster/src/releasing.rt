@@ -3,7 +3,7 @@
 ghost use Rattle.std.specs.Prelude.{◌<◌, length};
 ghost use Rattle.cluster.specs.Leaving.{sent_by};
 
-use crate::channels::sent;
+use crate::channels::give;
 use crate::checks::{is_shut, items_in, written_in};
 use crate::durable::Durable;
 use crate::gate::Gate;
@@ -112,8 +112,11 @@ impl<D: LogDevice, G: Gate> Worker<D, G> {
     fn leave<R: Wait>(&mut self, rt: &R, parcel: Parcel, on_disk: &OnDisk) {
         match parcel {
             Parcel::Entry(entry) => self.tell(rt, entry, on_disk),
-            Parcel::Got(got, to) => tell_got(rt, got, &to, on_disk),
-            Parcel::EndOfWaits => self.end_waits(),
+            Parcel::Got(got, to) => tell_got(rt, got, to, on_disk),
+            end => {
+                drop(end);
+                self.end_waits();
+            }
         }
     }
 
@@ -141,39 +144,41 @@ impl<D: LogDevice, G: Gate> Worker<D, G> {
         asked: Asked,
     ) {
         match asked {
-            Asked::Within => self.follow(rt, &entry, leads, term),
             Asked::Call(to) => {
                 self.follow(rt, &entry, leads, term);
-                sent(rt, &to, Ok(entry));
+                give(rt, to, Ok(entry));
             }
             Asked::Write(first, second) => {
-                if term >= self.deposed {
-                    self.note(&entry, second);
-                }
+                self.note(&entry, term, second);
                 self.follow(rt, &entry, leads, term);
-                sent(rt, &first, Ok(entry));
+                give(rt, first, Ok(entry));
             }
             Asked::Bulk(first, second) => {
-                if term >= self.deposed {
-                    self.note_bulk(&entry, second);
-                }
+                self.note_bulk(&entry, term, second);
                 self.follow(rt, &entry, leads, term);
-                sent(rt, &first, Ok(entry));
+                give(rt, first, Ok(entry));
+            }
+            within => {
+                drop(within);
+                self.follow(rt, &entry, leads, term);
+                drop(entry);
             }
         }
     }
 
-    /// Notes who waits for the acknowledgement of a write that is kept.
-    fn note(&mut self, entry: &Durable<Receipt>, to: Sender<Ending, Global>) {
-        if let Some(written) = written_in(entry.what()) {
-            self.waits.add(written, to);
+    /// Notes who waits for the acknowledgement of a write that is kept, unless another copy is the primary of a later term.
+    fn note(&mut self, entry: &Durable<Receipt>, term: u64, to: Sender<Ending, Global>) {
+        match written_in(entry.what()) {
+            Some(written) if term >= self.deposed => self.waits.add(written, to),
+            _ => drop(to),
         }
     }
 
     /// The same of the writes of a bulk that are kept.
-    fn note_bulk(&mut self, entry: &Durable<Receipt>, to: Sender<BulkEnding, Global>) {
-        if let Some(items) = items_in(entry.what()) {
-            self.waits.add_bulk(items, to);
+    fn note_bulk(&mut self, entry: &Durable<Receipt>, term: u64, to: Sender<BulkEnding, Global>) {
+        match items_in(entry.what()) {
+            Some(items) if term >= self.deposed => self.waits.add_bulk(items, to),
+            _ => drop(to),
         }
     }
 
@@ -264,9 +269,9 @@ impl<D: LogDevice, G: Gate> Worker<D, G> {
             }
             Parcel::Got(got, to) => {
                 drop(got);
-                sent(rt, &to, Err(unsynced()));
+                give(rt, to, Err(unsynced()));
             }
-            Parcel::EndOfWaits => self.put_back(rt, Parcel::EndOfWaits),
+            end => self.put_back(rt, end),
         }
     }
 
@@ -296,9 +301,12 @@ impl<D: LogDevice, G: Gate> Worker<D, G> {
             }
             Parcel::Got(got, to) => {
                 drop(got);
-                sent(rt, &to, Err(unsynced()));
+                give(rt, to, Err(unsynced()));
             }
-            Parcel::EndOfWaits => self.end_waits(),
+            end => {
+                drop(end);
+                self.end_waits();
+            }
         }
     }
 }
@@ -313,17 +321,18 @@ fn refuse<R: Wait>(rt: &R, receipt: Receipt, asked: Asked) {
         }
     };
     match asked {
-        Asked::Within => drop(told),
-        Asked::Call(to) => {
-            sent(rt, &to, told);
-        }
+        Asked::Call(to) => give(rt, to, told),
         Asked::Write(to, ending) => {
-            sent(rt, &to, told);
+            give(rt, to, told);
             drop(ending);
         }
         Asked::Bulk(to, ending) => {
-            sent(rt, &to, told);
+            give(rt, to, told);
             drop(ending);
+        }
+        within => {
+            drop(within);
+            drop(told);
         }
     }
 }
@@ -331,6 +340,7 @@ fn refuse<R: Wait>(rt: &R, receipt: Receipt, asked: Asked) {
 /// The same of an entry that is kept.
 fn refuse_copied<R: Wait>(alloc: Global, rt: &R, receipt: &Receipt, asked: Asked) {
     if let Asked::Within = &asked {
+        drop(asked);
         return;
     }
     match receipt.copy(alloc) {
@@ -343,7 +353,7 @@ fn refuse_copied<R: Wait>(alloc: Global, rt: &R, receipt: &Receipt, asked: Asked
 fn tell_got<R: Wait>(
     rt: &R,
     got: Got,
-    to: &Sender<Result<Durable<Got>, NodeFault>, Global>,
+    to: Sender<Result<Durable<Got>, NodeFault>, Global>,
     on_disk: &OnDisk,
 ) {
     let told = match Durable::got(got, on_disk) {
@@ -353,5 +363,5 @@ fn tell_got<R: Wait>(
             Err(unsynced())
         }
     };
-    sent(rt, to, told);
+    give(rt, to, told);
 }

@@ -1,7 +1,7 @@
 //! What the thread of a copy does.
 
 use crate::backlog::Backlog;
-use crate::channels::sent;
+use crate::channels::give;
 use crate::durable::Durable;
 use crate::fate::{Fate, fate_of, is_of_primary};
 use crate::gate::Gate;
@@ -92,6 +92,7 @@ impl<D: LogDevice, G: Gate> Worker<D, G> {
     /// Does what a post asks, and tells whether it goes on.
     pub(crate) fn serve<R: Wait>(&mut self, rt: &R, post: Post) -> bool {
         if let Post::Stop = &post {
+            drop(post);
             return false;
         }
         self.gate.pass(self.id());
@@ -110,8 +111,8 @@ impl<D: LogDevice, G: Gate> Worker<D, G> {
             Post::Depose(term) => self.depose(rt, term),
             Post::Get(id, to) => self.get(rt, id, to),
             Post::Merged(merged) => self.put_merged(rt, merged),
-            Post::Seat(to) => self.seat(rt, &to),
-            Post::Stop => {}
+            Post::Seat(to) => self.seat(rt, to),
+            stop => drop(stop),
         }
     }
 
@@ -151,6 +152,7 @@ impl<D: LogDevice, G: Gate> Worker<D, G> {
     /// Does a call. A refresh shows searches only what is on the disk, and adds a segment.
     fn ask<R: Wait>(&mut self, rt: &R, input: Input, to: Sender<Answered, Global>) {
         if let Input::Refresh = &input {
+            drop(input);
             self.refresh(rt, to);
         } else {
             self.do_asked(rt, input, to);
@@ -160,7 +162,7 @@ impl<D: LogDevice, G: Gate> Worker<D, G> {
     fn refresh<R: Wait>(&mut self, rt: &R, to: Sender<Answered, Global>) {
         self.release(rt);
         if self.cell.sync().is_err() {
-            sent(rt, &to, Err(unsynced()));
+            give(rt, to, Err(unsynced()));
             return;
         }
         self.do_asked(rt, Input::Refresh, to);
@@ -174,9 +176,7 @@ impl<D: LogDevice, G: Gate> Worker<D, G> {
                 let parcel = self.entry(receipt, Asked::Call(to));
                 self.keep(rt, parcel);
             }
-            Err(fault) => {
-                sent(rt, &to, Err(fault));
-            }
+            Err(fault) => give(rt, to, Err(fault)),
         }
         self.mend_since(rt, was_open);
     }
@@ -196,7 +196,8 @@ impl<D: LogDevice, G: Gate> Worker<D, G> {
                 self.keep(rt, parcel);
             }
             Err(fault) => {
-                sent(rt, &first, Err(fault));
+                drop(second);
+                give(rt, first, Err(fault));
             }
         }
         self.mend_since(rt, was_open);
@@ -217,7 +218,8 @@ impl<D: LogDevice, G: Gate> Worker<D, G> {
                 self.keep(rt, parcel);
             }
             Err(fault) => {
-                sent(rt, &first, Err(fault));
+                drop(second);
+                give(rt, first, Err(fault));
             }
         }
         self.mend_since(rt, was_open);
@@ -230,9 +232,12 @@ impl<D: LogDevice, G: Gate> Worker<D, G> {
             return;
         };
         match self.fate(rt, message.into_inner()) {
-            Fate::Settled => {}
+            Fate::Settled => drop(kept),
             Fate::Postponed(cost) => self.again(rt, kept, tries, cost),
-            Fate::Impossible => self.refuse(rt, kept.what()),
+            Fate::Impossible => {
+                self.refuse(rt, kept.what());
+                drop(kept);
+            }
         }
     }
 
@@ -241,9 +246,12 @@ impl<D: LogDevice, G: Gate> Worker<D, G> {
         let was_open = self.is_open();
         let made = self.made(rt, Input::Take(message));
         let fate = fate_of(&made);
-        if let Ok(receipt) = made {
-            let parcel = self.entry(receipt, Asked::Within);
-            self.keep(rt, parcel);
+        match made {
+            Ok(receipt) => {
+                let parcel = self.entry(receipt, Asked::Within);
+                self.keep(rt, parcel);
+            }
+            Err(fault) => drop(fault),
         }
         self.mend_since(rt, was_open);
         fate
@@ -254,11 +262,13 @@ impl<D: LogDevice, G: Gate> Worker<D, G> {
     fn again<R: Wait>(&mut self, rt: &R, message: Durable<Msg>, tries: u32, cost: u32) {
         let from = message.what().from;
         if from == 0 && !self.is_open() {
+            drop(message);
             return;
         }
         let next = tries.saturating_add(cost);
         if next > TRIES {
             self.refuse(rt, message.what());
+            drop(message);
             self.keep(rt, Parcel::EndOfWaits);
             return;
         }
@@ -319,19 +329,17 @@ impl<D: LogDevice, G: Gate> Worker<D, G> {
     ) {
         match self.cell.get(self.alloc, id) {
             Ok(got) => self.keep(rt, Parcel::Got(got, to)),
-            Err(fault) => {
-                sent(rt, &to, Err(fault));
-            }
+            Err(fault) => give(rt, to, Err(fault)),
         }
     }
 
     /// Hands out a searcher of the copy.
-    fn seat<R: Wait>(&mut self, rt: &R, to: &Sender<Seated, Global>) {
+    fn seat<R: Wait>(&mut self, rt: &R, to: Sender<Seated, Global>) {
         let searcher = match self.cell.searcher() {
             Ok(searcher) => Ok(searcher),
             Err(_) => Err(NodeFault::NoSeat),
         };
-        sent(rt, to, searcher);
+        give(rt, to, searcher);
     }
 
     /// Ends what searches see of the copy, which waits for those that are just taking it.
@@ -345,12 +353,14 @@ impl<D: LogDevice, G: Gate> Worker<D, G> {
             merges,
             alloc: _,
             number: _,
-            gate: _gate,
-            shared: _shared,
+            gate,
+            shared,
             deposed: _,
             given_up: _,
             is_to_lead: _,
         } = self;
+        drop(gate);
+        drop(shared);
         drop(outbox);
         drop(waits);
         drop(backlog);

@@ -1,5 +1,5 @@
 -- What an index of several copies answers a command.
-use Rattle.std.specs.Prelude.{◌≡◌, ◌⊎◌, ◌<◌, ℕ, List, [], ◌∷◌, map, Option, Some, None, option_map, Result, Ok, Err, length, slice_get, unwrap_or}
+use Rattle.std.specs.Prelude.{◌≡◌, ◌⊎◌, ◌<◌, ℕ, true, List, [], ◌∷◌, map, Option, Some, None, option_map, Result, Ok, Err, length, slice_get, unwrap_or}
 use Rattle.doc.specs.Id.{Id}
 use Rattle.op.specs.declared.message.Msg.{Msg}
 use Rattle.query.specs.Page.{PageData}
@@ -19,10 +19,13 @@ use Rattle.cluster.specs.declared.confirmed.Confirmed.{Confirmed}
 use Rattle.cluster.specs.declared.confirmed.ConfirmedBulk.{ConfirmedBulk}
 use Rattle.cluster.specs.Bulks.{bulked as items_in, IsBulkConfirmed}
 use Rattle.cluster.specs.Confirmed.{IsConfirmed}
+use Rattle.cluster.specs.Refreshed.{AreRefreshed}
 use Rattle.cluster.specs.Ruled.{IsDecided}
 use Rattle.op.specs.Documents.{documents}
 use Rattle.op.specs.Records.{operations}
 use Rattle.published.specs.declared.listing.Listing.{Listing}
+use Rattle.published.specs.declared.listing.Published.{Published}
+use Rattle.published.specs.Chain.{IsChain, IsLast}
 use Rattle.front.specs.declared.command.Write.{Write}
 use Rattle.front.specs.declared.reply.Refusal.{Refusal}
 use Rattle.front.specs.declared.reply.Refusal.TheVariants.{OldTerm, NotInSync, IsPrimary, Gone, Log, NoMemory, Full}
@@ -41,11 +44,19 @@ unfoldable pub told_by : Result Output CopyFault → ℕ → Reply
 told_by (Ok output) copies = reply_of copies output.answer
 told_by (Err fault) copies = refused (refusal_of fault)
 
--- the write has an entry of its copy and one that acknowledges it; the reply tells the first, and the copies that the second counts
+-- copies in sync were refreshed, one at least, each with an entry of its own
+pub record HasRefreshed : Type 0 where
+  pub copies : ℕ
+  pub some : 0 < copies
+  pub entries : AreRefreshed copies
+
+-- the write has an entry of its copy and one that acknowledges it; the reply tells the first, and the copies that the second counts. Where it was to be
+-- refreshed at once, copies were
 pub record IsWritten (w : Write) (r : Reply) : Type 0 where
   pub confirmed : Confirmed
   pub acknowledged : IsConfirmed (write_of w) confirmed
   pub told : r ≡ told_by confirmed.write.deed.answer (counted_in confirmed.acknowledgement.deed.answer)
+  pub refreshed : w.refresh ≡ true → HasRefreshed
 
 -- how many copies the entry at a place counts
 abbrev pub counted_at : List Receipt → ℕ → ℕ
@@ -85,21 +96,24 @@ pub record IsGot (id : Id) (r : Reply) : Type 0 where
 abbrev pub shown_in : Listing → SnapshotData
 shown_in l = record { mapping = l.mapping; documents = documents (operations l.records) }
 
--- the reply has the hits among the documents of a published list
+-- the reply has the hits among the documents of the last list of a history, in which each list goes on from the one before it
 pub record IsFound (q : Query) (page : PageData) (r : Reply) : Type 0 where
-  pub listing : Listing
-  pub hits_are : r ≡ hits_of (answer_of (shown_in listing) q page)
+  pub shown : Published
+  pub chain : IsChain shown.history
+  pub last : IsLast shown.history shown.listing
+  pub hits_are : r ≡ hits_of (answer_of (shown_in shown.listing) q page)
 
--- the reply has the number of the documents that the query means in a published list
+-- the reply has the number of the documents that the query means in such a list
 pub record IsCounted (q : Query) (r : Reply) : Type 0 where
-  pub listing : Listing
-  pub total_is : r ≡ counted (length (found (shown_in listing) q))
+  pub shown : Published
+  pub chain : IsChain shown.history
+  pub last : IsLast shown.history shown.listing
+  pub total_is : r ≡ counted (length (found (shown_in shown.listing) q))
 
--- the reply tells how many copies were refreshed, one at least
+-- the reply tells how many copies were refreshed
 pub record IsRefreshed (r : Reply) : Type 0 where
-  pub copies : ℕ
-  pub some : 0 < copies
-  pub told : r ≡ refreshed copies
+  pub done : HasRefreshed
+  pub told : r ≡ refreshed done.copies
 
 -- the master has decided that the copy is the primary, and the reply tells the term in which it is
 pub record IsMadePrimary (copy : ℕ) (r : Reply) : Type 0 where

@@ -1,11 +1,12 @@
 //! An index of several copies, each on a thread of its own.
-ghost use Rattle.std.specs.Prelude.{◌≡◌, ◌<◌, IfOk};
+ghost use Rattle.std.specs.Prelude.{◌≡◌, ◌<◌, true, IfOk, OnOk};
+ghost use Rattle.cluster.specs.Refreshed.{AreRefreshed};
 ghost use Rattle.query.specs.View.{query_view};
 ghost use Rattle.engine.specs.Shown.{hits_view};
 ghost use Rattle.front.specs.CommandView.{command_view};
 ghost use Rattle.front.specs.ReplyView.{reply_view};
 ghost use Rattle.shard.specs.Answering as spec;
-ghost use Rattle.group.specs.Group.{counted_in, told_by, IsBulkWritten, IsCounted, IsDone, IsFound, IsGot, IsRefreshed, IsWritten};
+ghost use Rattle.group.specs.Group.{counted_in, told_by, HasRefreshed, IsBulkWritten, IsCounted, IsDone, IsFound, IsGot, IsRefreshed, IsWritten};
 
 use crate::bulks::told_bulk;
 use crate::promoting::{is_promotion, promote, refusal_to};
@@ -126,10 +127,19 @@ impl<'a, R: Wait, D: LogDevice> Group<'a, R, D> {
     {
         let refresh = write.refresh;
         let confirmed = self.client.write(self.rt, write_of(write))?;
-        if refresh {
+        self.refresh_where(refresh)?;
+        Ok(told(confirmed))
+    }
+
+    /// Refreshes the copies where that is wanted.
+    #[tactic(auto, using(crate::proofs::Found::has_refreshed))]
+    fn refresh_where(&self, wanted: bool) -> Result<(), ClusterFault>
+        ensures { OnOk result (wanted ≡ true → HasRefreshed) }
+    {
+        if wanted {
             self.refresh_copies()?;
         }
-        Ok(told(confirmed))
+        Ok(())
     }
 
     /// Has the primary do the writes of a bulk with one step, and waits until each member has those that were kept.
@@ -194,7 +204,7 @@ impl<'a, R: Wait, D: LogDevice> Group<'a, R, D> {
 
     /// Refreshes the copies, and tells how many are. Where each was passed over, nothing was refreshed, and that is refused.
     fn refresh_copies(&self) -> Result<u64, ClusterFault>
-        ensures { IfOk result (λ copies. 0 < copies) }
+        ensures { IfOk result (λ copies. (0 < copies) × AreRefreshed copies) }
     {
         let copies = self.client.refresh(self.rt)?;
         if copies == 0 {

@@ -1,5 +1,5 @@
 -- What a command leaves of the one copy of an index.
-use Rattle.std.proofs.Common.{◌≡◌, ◌≢◌, ◌⊎◌, inl, inr, ℕ, zero, suc, Bool, true, false, List, [], ◌∷◌, ◌++◌, length, Option, Some, Result, Ok, Err, IfOk, refl, sym, ap, subst, ◌∙◌, ⊎_elim}
+use Rattle.std.proofs.Common.{◌≡◌, ◌≢◌, ◌⊎◌, ℕ, zero, suc, Bool, true, false, List, [], ◌∷◌, ◌++◌, length, Option, Some, Result, Ok, Err, IfOk, refl, sym, ap, subst, ◌∙◌, ⊎_elim}
 use Rattle.std.specs.Prelude.{◌&&◌, ◌==◌, if◌then◌else◌, not, take}
 use Rattle.std.specs.List.{flat_map, AllByRecursion}
 use Rattle.doc.specs.Outcome.{◌>>=◌}
@@ -24,12 +24,12 @@ use Rattle.replica.specs.Copy.{Copy}
 use Rattle.replica.specs.Fault.{is_log}
 use Rattle.replica.specs.Logged.{Logged, HasKept, IsFailed, IsLogged, IsRefusal, IsSame}
 use Rattle.replica.specs.Step.{Step, copy_step, members_of}
+use Rattle.shard.proofs.Failures.{failure}
 use Rattle.shard.proofs.Promotions.{sends}
 use Rattle.front.specs.declared.command.Write.{Write}
-use Rattle.front.specs.declared.reply.Refusal.{Refusal}
-use Rattle.front.specs.declared.reply.Refusal.TheVariants.{NotPrimary, VersionConflict, WindowFull, OldTerm, NotSynced, BeyondWindow, Mismatch, Closed, Log, NoMemory, WrongAddress, Exhausted, NoSuchCopy, NoSuchMessage, NotInSync, Gone, IsPrimary, Full}
+use Rattle.front.specs.declared.reply.Refusal.TheVariants.{Mismatch, Log, NoMemory}
 use Rattle.front.specs.Command.{Command, write, bulk, get, search, count, refresh, promote}
-use Rattle.front.specs.Reply.{Reply, wrote, bulked, got, hits, counted, refreshed, promoted, refused}
+use Rattle.front.specs.Reply.{Reply, refused}
 use Rattle.shard.specs.Answering.{HasFailedIn, IsAnswered, IsPartOf, asked, bulk_of, bulk_reply_of, bulk_written, input_of, is_bulk, is_failure, left_by, refreshed_after, reply_of, taken, told, written}
 use Rattle.shard.specs.Ready.{HasTaken, IsAsked, IsLeading, IsOpen, IsPromoted, IsPromotion, IsReady, IsReopening, IsServed, IsUnready, IsWanting, has_to_lead, is_primary, is_write}
 use Rattle.promises.proofs.Steps.{Has, HasOp, Later, MayCome, itself, later_still, step_keeps, whole}
@@ -267,40 +267,6 @@ module _ (c : Copy) (up : IsAscending (operations c.records)) where
   parts (count q) d h = same_copy d h
   parts refresh d h = same_copy d h
   parts (promote copy) d h = same_copy d h
-
--- a failure is want of memory or of the log
-abbrev IsFailure : Reply → Type 0
-IsFailure r = (r ≡ refused NoMemory) ⊎ (r ≡ refused Log)
-
-failure_is : (f : Refusal) → is_failure (refused f) ≡ true → IsFailure (refused f)
-failure_is NoMemory h = inl refl
-failure_is Log h = inr refl
-failure_is NotPrimary h = absurd cc
-failure_is VersionConflict h = absurd cc
-failure_is WindowFull h = absurd cc
-failure_is OldTerm h = absurd cc
-failure_is NotSynced h = absurd cc
-failure_is BeyondWindow h = absurd cc
-failure_is Mismatch h = absurd cc
-failure_is Closed h = absurd cc
-failure_is WrongAddress h = absurd cc
-failure_is Exhausted h = absurd cc
-failure_is NoSuchCopy h = absurd cc
-failure_is NoSuchMessage h = absurd cc
-failure_is NotInSync h = absurd cc
-failure_is Gone h = absurd cc
-failure_is IsPrimary h = absurd cc
-failure_is Full h = absurd cc
-
-failure : (r : Reply) → is_failure r ≡ true → IsFailure r
-failure (refused f) h = failure_is f h
-failure (wrote w) h = absurd cc
-failure (bulked items) h = absurd cc
-failure (got d) h = absurd cc
-failure (hits total page) h = absurd cc
-failure (counted n) h = absurd cc
-failure (refreshed n) h = absurd cc
-failure (promoted copy term) h = absurd cc
 
 not_log : (r : Reply) → is_failure r ≡ false → r ≢ refused Log
 not_log r h e = let no : true ≡ false = sym (ap is_failure e) ∙ h in absurd cc

@@ -1,10 +1,11 @@
 -- Beginnings of one history.
-use Rattle.std.proofs.Common.{◌≡◌, ℕ, Bool, Option, None, zero, suc, ◌≤◌, List, [], ◌∷◌, ◌++◌, length, Some, refl, ap, sym, subst, ◌∙◌, arith, append_assoc, length-append}
+use Rattle.std.proofs.Common.{◌≡◌, ℕ, Bool, Option, None, ◌≤◌, List, [], ◌∷◌, ◌++◌, length, Some, refl, ap, sym, subst, ◌∙◌, arith}
 use mathlib.Core.List.{IsPrefix}
 use Rattle.published.specs.declared.listing.Listing.{Listing}
 use Rattle.logbook.specs.Pages.{Book}
 use Rattle.published.specs.Showing.{cell_of}
-use Rattle.published.specs.Listings.{GoesOn, GoesOnAll}
+use Rattle.published.specs.declared.listing.Published.{Published}
+use Rattle.published.specs.Listings.{GoesOn, ComesAfterAll}
 use Rattle.published.specs.Told.{IsAt, IsOf, IsTold, IsOne}
 use Rattle.published.specs.Chain.{last_of, RunsOn, IsChain, IsLast, MayFollow}
 use Rattle.published.proofs.Orders.{self-GoesOn, trans-GoesOn}
@@ -69,10 +70,10 @@ last-snoc (a ∷ log) x = ap Some (last_of-snoc a log x)
 pub same-book : (a b : Book) → cell_of a ≡ cell_of b → a ≡ b
 same-book a b e = λ i. record { number = (e i).0; log_name = (e i).1; cells_name = (e i).2 }
 
-pub at-cell : (taken : Listing) (known : List Listing) (named : Bool) (cell : ℕ × ℕ × ℕ) → GoesOnAll taken known → IsAt named cell known → IsOf named cell taken
+pub at-cell : (taken : Published) (known : List Published) (named : Bool) (cell : ℕ × ℕ × ℕ) → ComesAfterAll taken known → IsAt named cell known → IsOf named cell taken
 at-cell taken [] named cell on at = absurd at
-at-cell taken (a ∷ known) named cell on at = λ is. on.0.cell ∙ at is
+at-cell taken (a ∷ known) named cell on at = λ is. on.0.listing.cell ∙ at is
 
-pub at-one : (taken : Listing) (known : List Listing) (named : Bool) (cell : ℕ × ℕ × ℕ) (told : Option Listing) → GoesOnAll taken known → IsAt named cell known → IsTold named cell told → IsOne taken told
+pub at-one : (taken : Published) (known : List Published) (named : Bool) (cell : ℕ × ℕ × ℕ) (told : Option Published) → ComesAfterAll taken known → IsAt named cell known → IsTold named cell told → IsOne taken told
 at-one taken known named cell None on at t = tt
-at-one taken known named cell (Some l) on at t = at-cell taken known named cell on at t.0 ∙ sym t.1
+at-one taken known named cell (Some p) on at t = at-cell taken known named cell on at t.0 ∙ sym t.1

@@ -1,14 +1,13 @@
 -- A search that follows a note.
-use Rattle.std.specs.Prelude.{◌≡◌}
 use Rattle.engine.specs.Answer.{Answer}
 use Rattle.query.specs.Page.{PageData}
 use Rattle.query.specs.Query.{Query}
-use Rattle.published.specs.declared.listing.Listing.{Listing}
-use Rattle.published.specs.Listings.{GoesOn}
-use Rattle.published.specs.Search.{answer_in}
+use Rattle.published.specs.declared.listing.Published.{Published}
+use Rattle.published.specs.Listings.{ComesAfter}
+use Rattle.published.specs.Search.{IsFoundIn}
 
--- the hits are those of a list that goes on from the one that was told
-pub record FindsAfter (told : Listing) (q : Query) (page : PageData) (hits : Answer) : Type 0 where
-  pub now : Listing
-  pub later : GoesOn now told
-  pub found : hits ≡ answer_in now q page
+-- the hits are those of what comes after what was told
+pub record FindsAfter (told : Published) (q : Query) (page : PageData) (hits : Answer) : Type 0 where
+  pub now : Published
+  pub later : ComesAfter now told
+  pub found : IsFoundIn now q page hits

@@ -1,7 +1,9 @@
 -- Lists of records that were published.
 use Rattle.std.specs.Prelude.{◌≡◌, List, [], ◌∷◌, ◌++◌}
+use mathlib.Core.List.{IsPrefix}
 use Rattle.op.specs.declared.record.Record.{Record}
 use Rattle.published.specs.declared.listing.Listing.{Listing}
+use Rattle.published.specs.declared.listing.Published.{Published}
 
 -- a list begins with another
 abbrev pub StartsWith : List Record → List Record → Type 0
@@ -13,7 +15,12 @@ pub record GoesOn (new old : Listing) : Type 0 where
   pub mapping : new.mapping ≡ old.mapping
   pub records : StartsWith new.records old.records
 
--- it goes on from each of these
-abbrev pub GoesOnAll : Listing → List Listing → Type 0
-GoesOnAll new [] = Unit {0}
-GoesOnAll new (old ∷ olds) = GoesOn new old × GoesOnAll new olds
+-- what was published is the same or comes later in the same history
+pub record ComesAfter (new old : Published) : Type 0 where
+  pub history : IsPrefix old.history new.history
+  pub listing : GoesOn new.listing old.listing
+
+-- so it is with each of these
+abbrev pub ComesAfterAll : Published → List Published → Type 0
+ComesAfterAll new [] = Unit {0}
+ComesAfterAll new (old ∷ olds) = ComesAfter new old × ComesAfterAll new olds

@@ -3,19 +3,19 @@ use Rattle.std.specs.Prelude.{◌≡◌, ℕ, List, [], ◌∷◌}
 use Rattle.std.specs.Arc.{arc_value}
 use mathlib.Core.Option.{some}
 use lib.ListN.{get_elem?}
-use Rattle.published.specs.declared.listing.Listing.{Listing}
+use Rattle.published.specs.declared.listing.Published.{Published}
 use Rattle.published.specs.declared.latest.Latest.{Latest}
-use Rattle.published.specs.Entry.{listing_of}
-use Rattle.published.specs.Listings.{GoesOnAll}
+use Rattle.published.specs.Entry.{published_of}
+use Rattle.published.specs.Listings.{ComesAfterAll}
 
--- the list that readers take
-abbrev pub published : Latest → Listing
-published p = listing_of (arc_value p.entry)
+-- what readers take
+abbrev pub published : Latest → Published
+published p = published_of (arc_value p.entry)
 
--- the published list goes on from each list that is known anywhere
-abbrev pub Keeps : Latest → List (List Listing) → Type 0
-Keeps p views = (seat : ℕ) (known : List Listing) → get_elem? views seat ≡ some known → GoesOnAll (published p) known
+-- what is published comes after all that is known anywhere
+abbrev pub Keeps : Latest → List (List Published) → Type 0
+Keeps p views = (seat : ℕ) (known : List Published) → get_elem? views seat ≡ some known → ComesAfterAll (published p) known
 
--- what is known afterwards is the list of y, which goes on from all that was known
-abbrev pub Sees : List Listing → Latest → Latest → List Listing → Type 0
-Sees known x y after = GoesOnAll (published y) known × (after ≡ published y ∷ [])
+-- what is known afterwards is that of y, which comes after all that was known
+abbrev pub Sees : List Published → Latest → Latest → List Published → Type 0
+Sees known x y after = ComesAfterAll (published y) known × (after ≡ published y ∷ [])

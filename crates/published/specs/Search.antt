@@ -1,36 +1,44 @@
 -- What a search tells.
-use Rattle.std.specs.Prelude.{◌≡◌, List, [], ◌∷◌, Option}
+use Rattle.std.specs.Prelude.{◌≡◌, List, ◌∷◌, Option}
 use Rattle.engine.specs.Answer.{Answer, answer}
 use Rattle.op.specs.Records.{operations}
 use Rattle.query.specs.Page.{PageData}
 use Rattle.query.specs.Query.{Query}
 use Rattle.published.specs.declared.listing.Listing.{Listing}
-use Rattle.published.specs.Listings.{GoesOn, GoesOnAll}
+use Rattle.published.specs.declared.listing.Published.{Published}
+use Rattle.published.specs.Chain.{IsChain, IsLast}
+use Rattle.published.specs.Listings.{ComesAfter, ComesAfterAll}
 use Rattle.published.specs.Told.{listed}
 
 -- what a search of a list answers
 abbrev pub answer_in : Listing → Query → PageData → Answer
 answer_in l q page = answer l.mapping (operations l.records) q page
 
--- whatever goes on from all that is known afterwards goes on from the list too
-abbrev pub IsFloor : Listing → List Listing → Type 0
-IsFloor l after = (later : Listing) → GoesOnAll later after → GoesOn later l
+-- the hits are those of what was published: the last list of its history, in which each goes on from the one before it
+pub record IsFoundIn (p : Published) (q : Query) (page : PageData) (hits : Answer) : Type 0 where
+  pub chain : IsChain p.history
+  pub last : IsLast p.history p.listing
+  pub found : hits ≡ answer_in p.listing q page
+
+-- whatever comes after all that is known afterwards comes after this too
+abbrev pub IsFloor : Published → List Published → Type 0
+IsFloor p after = (later : Published) → ComesAfterAll later after → ComesAfter later p
 
 -- nothing that was known is forgotten
-pub record IsNoLess (before after : List Listing) : Type 0 where
-  pub kept : (later : Listing) → GoesOnAll later after → GoesOnAll later before
+pub record IsNoLess (before after : List Published) : Type 0 where
+  pub kept : (later : Published) → ComesAfterAll later after → ComesAfterAll later before
 
--- the hits are those of a published list that goes on from all that was known; it is known from then on
-pub record Finds (before after : List Listing) (q : Query) (page : PageData) (hits : Answer) : Type 0 where
-  pub now : Listing
-  pub later : GoesOnAll now before
+-- the hits are those of what was published and comes after all that was known; it is known from then on
+pub record Finds (before after : List Published) (q : Query) (page : PageData) (hits : Answer) : Type 0 where
+  pub now : Published
+  pub later : ComesAfterAll now before
   pub known : IsFloor now after
-  pub found : hits ≡ answer_in now q page
+  pub found : IsFoundIn now q page hits
 
--- the hits are those of a list that goes on from the one that was taken and from the one that was told; it is one of them
-pub record FindsIn (taken : Listing) (told : Option Listing) (q : Query) (page : PageData) (hits : Answer) : Type 0 where
-  pub now : Listing
-  pub fresh : GoesOn now taken
-  pub later : GoesOnAll now (listed told)
+-- the hits are those of what comes after what was taken and what was told; it is one of them
+pub record FindsIn (taken : Published) (told : Option Published) (q : Query) (page : PageData) (hits : Answer) : Type 0 where
+  pub now : Published
+  pub fresh : ComesAfter now taken
+  pub later : ComesAfterAll now (listed told)
   pub known : IsFloor now (taken ∷ listed told)
-  pub found : hits ≡ answer_in now q page
+  pub found : IsFoundIn now q page hits

@@ -1,33 +1,33 @@
 -- What a searcher knows of its cell.
 use Rattle.std.specs.Prelude.{◌≡◌, ◌⊎◌, ℕ, Bool, true, List, [], ◌∷◌, Option, Some, None}
-use Rattle.published.specs.declared.listing.Listing.{Listing}
-use Rattle.published.specs.Listings.{GoesOn, GoesOnAll}
+use Rattle.published.specs.declared.listing.Published.{Published}
+use Rattle.published.specs.Listings.{ComesAfter}
 
-abbrev pub listed : Option Listing → List Listing
+abbrev pub listed : Option Published → List Published
 listed None = []
-listed (Some l) = l ∷ []
+listed (Some p) = p ∷ []
 
--- a list of the cell with this name, if it has one
-abbrev pub IsOf : Bool → ℕ × ℕ × ℕ → Listing → Type 0
-IsOf named cell l = named ≡ true → l.cell ≡ cell
+-- what was published by the cell with this name, if it has one
+abbrev pub IsOf : Bool → ℕ × ℕ × ℕ → Published → Type 0
+IsOf named cell p = named ≡ true → p.listing.cell ≡ cell
 
--- a list of that cell is known
-abbrev pub IsAt : Bool → ℕ × ℕ × ℕ → List Listing → Type 0
+-- something of that cell is known
+abbrev pub IsAt : Bool → ℕ × ℕ × ℕ → List Published → Type 0
 IsAt named cell [] = ⊥
-IsAt named cell (l ∷ known) = IsOf named cell l
+IsAt named cell (p ∷ known) = IsOf named cell p
 
 -- only the notes of a cell with a name are learned
-abbrev pub IsTold : Bool → ℕ × ℕ × ℕ → Option Listing → Type 0
+abbrev pub IsTold : Bool → ℕ × ℕ × ℕ → Option Published → Type 0
 IsTold named cell None = Unit {0}
-IsTold named cell (Some l) = (named ≡ true) × (l.cell ≡ cell)
+IsTold named cell (Some p) = (named ≡ true) × (p.listing.cell ≡ cell)
 
--- the list that was taken is of the same cell
-abbrev pub IsOne : Listing → Option Listing → Type 0
+-- what was taken is of the same cell
+abbrev pub IsOne : Published → Option Published → Type 0
 IsOne taken None = Unit {0}
-IsOne taken (Some l) = taken.cell ≡ l.cell
+IsOne taken (Some p) = taken.listing.cell ≡ p.listing.cell
 
--- one of two lists, which goes on from both
-pub record IsLatest (a b now : Listing) : Type 0 where
-  pub first : GoesOn now a
-  pub second : GoesOn now b
+-- one of two, which doesn't come before the other
+pub record IsLatest (a b now : Published) : Type 0 where
+  pub first : ComesAfter now a
+  pub second : ComesAfter now b
   pub one : (now ≡ a) ⊎ (now ≡ b)

@@ -3,6 +3,7 @@ ghost use Rattle.std.specs.Prelude.{◌≡◌, true, IfOk};
 ghost use Rattle.engine.specs.Shown.{hits_view};
 ghost use Rattle.query.specs.View.{query_view};
 ghost use Rattle.published.specs.Fresh.{FindsAfter};
+ghost use Rattle.published.specs.Line.{line_behind};
 ghost use Rattle.published.specs.Listings.{GoesOn};
 ghost use Rattle.published.specs.Showing.{listing};
 ghost use Rattle.published.specs.Told.{IsOf};
@@ -29,8 +30,8 @@ fn found_after<N: Name, R: Wait>(
     requires named { N.named ≡ true }
     requires cell { IsOf N.named N.cell publisher.old.shown }
     requires later { GoesOn (listing publisher.old.book next) publisher.old.top }
-    requires next { IsOf N.named N.cell (listing publisher.old.book next) }
-    ensures { IfOk result (λ h. FindsAfter (listing publisher.old.book next) (query_view query.now) page (hits_view h)) }
+    requires next { IsOf N.named N.cell (line_behind publisher.old.book publisher.old.history (listing publisher.old.book next)).shown }
+    ensures { IfOk result (λ h. FindsAfter (line_behind publisher.old.book publisher.old.history (listing publisher.old.book next)).shown (query_view query.now) page (hits_view h)) }
 {
     let Ok(mut searcher) = publisher.searcher::<N>() else {
         return Err(SearchFault::NoMemory);
@@ -54,9 +55,9 @@ pub fn fresh<R: Wait>(
     query: &Query,
     page: Page,
 ) -> Result<Hits, SearchFault>
-    requires cell { publisher.old.top.cell ≡ publisher.old.shown.cell }
+    requires cell { publisher.old.top.cell ≡ publisher.old.shown.listing.cell }
     requires later { GoesOn (listing publisher.old.book next) publisher.old.top }
-    ensures { IfOk result (λ h. FindsAfter (listing publisher.old.book next) (query_view query.now) page (hits_view h)) }
+    ensures { IfOk result (λ h. FindsAfter (line_behind publisher.old.book publisher.old.history (listing publisher.old.book next)).shown (query_view query.now) page (hits_view h)) }
 {
     found_after::<Brand, R>(rt, alloc, publisher, next, query, page)
 }

@@ -1,10 +1,10 @@
 //! What a cell tells.
-ghost use Rattle.std.specs.Prelude.{◌≡◌, MatchBool};
+ghost use Rattle.std.specs.Prelude.{◌≡◌, ◌≤◌, length, MatchBool};
+ghost use mathlib.Core.List.{IsPrefix};
 ghost use Rattle.std.specs.Arc.{arc_value};
-ghost use Rattle.published.specs.Entry.{listing_of};
-ghost use Rattle.published.specs.Listings.{GoesOn, GoesOnAll};
-ghost use Rattle.published.specs.Told.{listed, IsLatest, IsOf, IsOne};
-ghost use Rattle.published.specs.Showing.{listing};
+ghost use Rattle.published.specs.Entry.{listing_of, published_of};
+ghost use Rattle.published.specs.Listings.{ComesAfter};
+ghost use Rattle.published.specs.Told.{IsLatest, IsOf};
 
 use crate::front::Entry;
 use crate::name::Name;
@@ -13,7 +13,7 @@ use std::alloc::Global;
 use std::marker::{Model, PhantomData};
 use std::sync::Arc;
 
-/// A list that a cell published. Contracts see it as the list.
+/// A list that a cell published. Contracts see it with the history of the cell up to it.
 #[derive(Drop)]
 pub struct Note<N: Name> {
     entry: Arc<Entry, Global>,
@@ -22,26 +22,34 @@ pub struct Note<N: Name> {
 
 impl<N: Name> Model for Note<N> {
     ghost use Rattle.std.specs.Arc.{arc_value};
-    ghost use Rattle.published.specs.declared.listing.Listing.{Listing};
-    ghost use Rattle.published.specs.Entry.{listing_of};
+    ghost use Rattle.published.specs.declared.listing.Published.{Published};
+    ghost use Rattle.published.specs.Entry.{published_of};
     ghost use Rattle.published.specs.Told.{IsOf};
 
-    ghost Value = { Listing };
+    ghost Value = { Published };
 
-    ghost view = { λ n. listing_of (arc_value n.entry) };
+    ghost view = { λ n. published_of (arc_value n.entry) };
 
-    ghost invariant = { λ n. IsOf N.named N.cell (listing_of (arc_value n.entry)) };
+    ghost invariant = { λ n. IsOf N.named N.cell (published_of (arc_value n.entry)) };
 }
 
 impl<N: Name> Note<N> {
     pub(crate) fn of(entry: Arc<Entry, Global>) -> Note<N>
-        requires { IsOf N.named N.cell (listing_of (arc_value entry)) }
-        ensures { result ≡ listing_of (arc_value entry) }
+        requires { IsOf N.named N.cell (published_of (arc_value entry)) }
+        ensures { result ≡ published_of (arc_value entry) }
     {
         Note {
             entry,
             of: PhantomData,
         }
+    }
+
+    /// What two notes of one cell tell is of one history: that of the one whose isn't longer begins that of the other.
+    pub fn agrees(&self, other: &Note<N>)
+        requires cell { other.now.listing.cell ≡ self.now.listing.cell }
+        ensures { length self.now.history ≤ length other.now.history → IsPrefix self.now.history other.now.history }
+    {
+        self.entry.front.compare(&other.entry.front);
     }
 
     /// It is of the cell with its name.
@@ -53,8 +61,8 @@ impl<N: Name> Note<N> {
 
     /// Of this list and one that is taken the later.
     pub(crate) fn later<'a>(&'a self, taken: &'a Entry) -> &'a Entry
-        requires cell { (listing_of taken.now).cell ≡ self.now.cell }
-        ensures { IsLatest (listing_of taken.entry.now) self.entry.now (listing_of result.now) }
+        requires cell { (listing_of taken.now).cell ≡ self.now.listing.cell }
+        ensures { IsLatest (published_of taken.entry.now) self.entry.now (published_of result.now) }
     {
         let told = &*self.entry;
         if is_before(taken, told) { told } else { taken }
@@ -62,7 +70,7 @@ impl<N: Name> Note<N> {
 
     /// Of two lists the later.
     pub(crate) fn longer(self, other: Note<N>) -> Note<N>
-        requires cell { self.cell ≡ other.cell }
+        requires cell { self.listing.cell ≡ other.listing.cell }
         ensures { IsLatest self other result }
     {
         if is_before(&*self.entry, &*other.entry) {
@@ -73,10 +81,10 @@ impl<N: Name> Note<N> {
     }
 }
 
-/// Whether the second goes on from the first; else the first goes on from the second.
+/// Whether the second comes after the first; else the first comes after the second.
 fn is_before(first: &Entry, second: &Entry) -> bool
     requires cell { (listing_of first.now).cell ≡ (listing_of second.now).cell }
-    ensures { MatchBool result (GoesOn (listing_of second.now) (listing_of first.now)) (GoesOn (listing_of first.now) (listing_of second.now)) }
+    ensures { MatchBool result (ComesAfter (published_of second.now) (published_of first.now)) (ComesAfter (published_of first.now) (published_of second.now)) }
 {
     if first.front.count() < second.front.count() {
         first.front.compare(&second.front);

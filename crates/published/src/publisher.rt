@@ -1,9 +1,9 @@
 //! The writer of what a cell publishes.
-ghost use Rattle.std.specs.Prelude.{◌≡◌, ◌⊎◌, ◌∷◌, [], IfOk, OnOk, OnErr, MatchResult};
+ghost use Rattle.std.specs.Prelude.{◌≡◌, ◌⊎◌, ◌∷◌, ◌++◌, [], IfOk, OnOk, OnErr, MatchResult};
 ghost use Rattle.std.specs.Arc.{arc_value};
 ghost use Rattle.left_right.specs.Sides.{view};
-ghost use Rattle.published.specs.Line.{line};
-ghost use Rattle.published.specs.Listings.{GoesOn};
+ghost use Rattle.published.specs.Line.{line, line_behind};
+ghost use Rattle.published.specs.Listings.{ComesAfter, GoesOn};
 ghost use Rattle.published.specs.Rule.{published};
 ghost use Rattle.published.specs.Showing.{listing};
 ghost use Rattle.published.specs.Told.{IsOf};
@@ -31,7 +31,7 @@ type End = Writer<Latest, Latest, Known, Shows>;
 
 /// Shows readers what comes next.
 fn publish_next<R: Wait>(writer: End, rt: &R, next: Latest) -> (End, Result<(), AllocError>)
-    requires { GoesOn (published next) (published writer.desk.shown.value) }
+    requires { ComesAfter (published next) (published writer.desk.shown.value) }
     ensures ok { OnOk result.1 (published result.0.desk.shown.value ≡ published next) }
     ensures knows { OnOk result.1 (view result.0.desk.place ≡ published next ∷ []) }
     ensures err { OnErr result.1 ((published result.0.desk.shown.value ≡ published writer.desk.shown.value) × (view result.0.desk.place ≡ view writer.desk.place)) }
@@ -97,9 +97,10 @@ impl Publisher {
     ) -> Result<(), AllocError>
         requires { GoesOn (listing self.old.book showing) self.old.top }
         ensures book { self.new.book ≡ self.old.book }
-        ensures ok { OnOk result (self.new ≡ line self.old.book (listing self.old.book showing)) }
+        ensures ok { OnOk result (self.new ≡ line_behind self.old.book self.old.history (listing self.old.book showing)) }
         ensures shown { OnErr result (self.new.shown ≡ self.old.shown) }
         ensures top { OnErr result ((self.new.top ≡ self.old.top) ⊎ (self.new.top ≡ listing self.old.book showing)) }
+        ensures history { OnErr result ((self.new.history ≡ self.old.history) ⊎ (self.new.history ≡ self.old.history ++ listing self.old.book showing ∷ [])) }
     {
         if self.history.count() >= MOST {
             return Err(AllocError);

@@ -1,14 +1,14 @@
-//! The rule of the published list: it goes on from each list that is known anywhere, and no one goes back.
+//! The rule of what is published: it comes after all that is known anywhere, and no one goes back.
 ghost use Rattle.std.specs.Prelude.{[], ◌++◌};
 ghost use Rattle.published.specs.Rule.{Keeps, Sees as sees};
 
 use crate::latest::Latest;
-use crate::listing::Listing;
+use crate::listing::Published;
 use atomic_table::{Join, Split};
 use crossbeam_utils::rule::{Outcome, Protocol};
 
 /// What one side knows: lists that were published. No value of it is made.
-pub type Known = [Listing; 0];
+pub type Known = [Published; 0];
 
 /// The rule.
 pub struct Shows;

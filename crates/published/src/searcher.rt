@@ -3,9 +3,9 @@ ghost use Rattle.std.specs.Prelude.{◌≡◌, ◌++◌, true, IfOk, IfErr, IsEr
 ghost use Rattle.left_right.specs.Sides.{view};
 ghost use Rattle.engine.specs.Shown.{hits_view};
 ghost use Rattle.query.specs.View.{query_view};
-ghost use Rattle.published.specs.Entry.{listing_of};
-ghost use Rattle.published.specs.Listings.{GoesOn, GoesOnAll};
-ghost use Rattle.published.specs.Search.{answer_in, Finds, FindsIn, IsFloor, IsNoLess};
+ghost use Rattle.published.specs.Entry.{published_of};
+ghost use Rattle.published.specs.Listings.{ComesAfter, ComesAfterAll};
+ghost use Rattle.published.specs.Search.{Finds, FindsIn, IsFloor, IsFoundIn, IsNoLess};
 ghost use Rattle.published.specs.Told.{listed, IsAt, IsOne, IsTold};
 ghost use Rattle.published.specs.declared.searcher.SearchFault.TheVariants.{Ended};
 
@@ -34,9 +34,10 @@ pub(crate) type Line = Reader<Latest, Known, Shows>;
 
 /// Searches what is shown.
 fn hits_in(entry: &Entry, alloc: Global, query: &Query, page: Page) -> Result<Hits, SearchFault>
-    ensures found { IfOk result (λ h. hits_view h ≡ answer_in (listing_of entry.now) (query_view query.now) page) }
+    ensures found { IfOk result (λ h. IsFoundIn (published_of entry.now) (query_view query.now) page (hits_view h)) }
     ensures refused { IfErr result (λ e. e ≡ SearchFault.NoMemory) }
 {
+    let _listings = entry.front.count();
     match entry.showing.snapshot.search(alloc, query, page) {
         Ok(hits) => Ok(hits),
         Err(_) => Err(SearchFault::NoMemory),
@@ -51,8 +52,8 @@ fn hits_of<N: Name>(
     query: &Query,
     page: Page,
 ) -> Result<Hits, SearchFault>
-    requires one { IsOne (listing_of taken.now) told.now }
-    ensures found { IfOk result (λ h. FindsIn (listing_of taken.now) told.now (query_view query.now) page (hits_view h)) }
+    requires one { IsOne (published_of taken.now) told.now }
+    ensures found { IfOk result (λ h. FindsIn (published_of taken.now) told.now (query_view query.now) page (hits_view h)) }
     ensures refused { IfErr result (λ e. e ≡ SearchFault.NoMemory) }
 {
     match told {
@@ -93,9 +94,9 @@ fn look<N: Name>(
 fn taken_in<N: Name>(told: Option<Note<N>>, note: Note<N>) -> Note<N>
     requires named { N.named ≡ true }
     requires told { IsTold N.named N.cell told }
-    ensures told { GoesOnAll result (listed told) }
-    ensures note { GoesOn result note }
-    ensures cell { result.cell ≡ N.cell }
+    ensures told { ComesAfterAll result (listed told) }
+    ensures note { ComesAfter result note }
+    ensures cell { result.listing.cell ≡ N.cell }
 {
     note.is_named();
     match told {
@@ -104,7 +105,7 @@ fn taken_in<N: Name>(told: Option<Note<N>>, note: Note<N>) -> Note<N>
     }
 }
 
-/// Reads what a cell publishes. Contracts see it as the lists that it knows: those that it goes on from.
+/// Reads what a cell publishes. Contracts see it as what it knows of that: what it finds comes after it.
 #[derive(Drop)]
 pub struct Searcher<N: Name> {
     reader: Line,
@@ -114,10 +115,10 @@ pub struct Searcher<N: Name> {
 impl<N: Name> Model for Searcher<N> {
     ghost use Rattle.std.specs.Prelude.{List, ◌++◌};
     ghost use Rattle.left_right.specs.Sides.{view as known};
-    ghost use Rattle.published.specs.declared.listing.Listing.{Listing};
+    ghost use Rattle.published.specs.declared.listing.Published.{Published};
     ghost use Rattle.published.specs.Told.{listed, IsAt, IsTold};
 
-    ghost Value = { List Listing };
+    ghost Value = { List Published };
 
     ghost view = { λ s. known s.reader.place ++ listed s.told };
 

@@ -15,21 +15,13 @@ use translog::LogDevice;
 /// How many places for searchers there are: a copy has no more seats.
 const CHAIRS: usize = 8;
 
-/// An index of one copy: its name, its mapping, and the copy behind a lock.
-#[derive(Drop)]
-pub(crate) struct OneCopy<'a, D: LogDevice, N: HistoryName> {
-    pub(crate) name: &'a str,
-    pub(crate) mapping: &'a Mapping,
-    pub(crate) shard: &'a SharedShard<D, N>,
-}
-
 /// Serves connections to an index of one copy until the last that is wanted has ended. A fault on one ends that connection alone. Beside them a thread
 /// merges the segments of the index.
 pub(crate) fn serve_connections<R, D, W, N>(
     rt: &R,
     alloc: Global,
     clients: &Clients<'_, W, Reached<D, N>>,
-    index: &OneCopy<'_, D, N>,
+    shard: &SharedShard<D, N>,
 ) -> io::Result<()>
 where
     R: Threads + Wait + Clock + Sync,
@@ -39,10 +31,10 @@ where
 {
     join(
         rt,
-        || index.shard.merge_beside(rt),
+        || shard.merge_beside(rt),
         || {
-            let served = serve_lanes(rt, alloc, clients, index);
-            index.shard.end_merges(rt);
+            let served = serve_lanes(rt, alloc, clients, shard);
+            shard.end_merges(rt);
             served
         },
     )
@@ -53,7 +45,7 @@ fn serve_lanes<R, D, W, N>(
     rt: &R,
     alloc: Global,
     clients: &Clients<'_, W, Reached<D, N>>,
-    index: &OneCopy<'_, D, N>,
+    shard: &SharedShard<D, N>,
 ) -> io::Result<()>
 where
     R: Threads + Wait + Clock + Sync,
@@ -68,10 +60,8 @@ where
         &|lane| {
             let desk = Desk {
                 rt,
-                name: index.name,
-                mapping: index.mapping,
-                shard: index.shard,
-                known: index.shard.begun(),
+                shard,
+                known: shard.begun(),
             };
             clients.run(rt, lane, desk)
         },

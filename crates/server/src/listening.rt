@@ -1,13 +1,11 @@
 //! Taking a port, and serving what comes to it.
 ghost use Rattle.std.specs.Prelude.{◌≡◌};
 
-use crate::connections::{Index, OneCopy, serve_connections, serve_group};
+use crate::connections::{Index, serve_connections, serve_group};
 use crate::fault::{ServeFault, ended};
 use crate::settings::Settings;
 use crate::telling::Telling;
 use clients::{Clients, Limits};
-use doc::Mapping;
-use front::Service;
 use shard::{Begun, HistoryName, Shard, SharedShard};
 use std::io;
 use std::io::Write;
@@ -37,9 +35,6 @@ where
     E: Write + Send,
     D: LogDevice + Send,
 {
-    let alloc = rt.alloc();
-    let name = String::from_str(alloc, shard.index())?;
-    let mapping = shard.mapping().copy(alloc)?;
     let begun = Begun::new(shard);
     let door = Door {
         port: settings.port,
@@ -47,7 +42,7 @@ where
         explains: settings.explains,
         greets: settings.greets,
     };
-    listen_to_one::<Brand, R, O, E, D>(rt, door, &name, &mapping, begun, output, errors)
+    listen_to_one::<Brand, R, O, E, D>(rt, door, begun, output, errors)
 }
 
 /// How connections come, and how their requests are answered.
@@ -63,8 +58,6 @@ struct Door {
 fn listen_to_one<N, R, O, E, D>(
     rt: &R,
     door: Door,
-    name: &String,
-    mapping: &Mapping,
     begun: Begun<D>,
     output: &mut O,
     errors: &mut E,
@@ -80,33 +73,46 @@ where
     O: Write,
     E: Write + Send,
     D: LogDevice + Send,
-    requires { begun ≡ N.line }
+    requires { begun ≡ N.index }
+{
+    let shared: SharedShard<D, N> = SharedShard::new(rt.alloc(), begun)?;
+    let listener = bound(rt, door.port, output)?;
+    let ended = serve_shared(rt, door, listener, &shared, errors);
+    drop(shared);
+    ended
+}
+
+/// Serves the connections that come to an index of one copy.
+fn serve_shared<N, R, E, D>(
+    rt: &R,
+    door: Door,
+    listener: TcpListener,
+    shared: &SharedShard<D, N>,
+    errors: &mut E,
+) -> Result<(), ServeFault>
+where
+    N: HistoryName + Send + Sync,
+    R: AllocGlobal
+        + Net<Listener = TcpListener, Stream = TcpStream>
+        + Threads
+        + Wait
+        + Clock
+        + Sync,
+    E: Write + Send,
+    D: LogDevice + Send,
 {
     let alloc = rt.alloc();
-    let Door {
-        port,
-        limits,
-        explains,
-        greets,
-    } = door;
-    let shared: SharedShard<D, N> = SharedShard::new(alloc, begun)?;
-    let listener = bound(rt, port, output)?;
     let telling = Telling {
         rt,
         alloc,
-        index: name.as_str(),
-        mapping,
-        explains,
-        greets,
+        index: shared.index(),
+        mapping: shared.mapping(),
+        explains: door.explains,
+        greets: door.greets,
         errors: Mutex::new(errors),
     };
-    let clients = Clients::new(rt, alloc, listener, limits, &telling).map_err(ended)?;
-    let index = OneCopy {
-        name: name.as_str(),
-        mapping,
-        shard: &shared,
-    };
-    serve_connections(rt, alloc, &clients, &index).map_err(ended)
+    let clients = Clients::new(rt, alloc, listener, door.limits, &telling).map_err(ended)?;
+    serve_connections(rt, alloc, &clients, shared).map_err(ended)
 }
 
 /// Takes the port, and serves the connections that come to it to copies on threads.

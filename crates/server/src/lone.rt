@@ -7,7 +7,7 @@ use crate::settings::Settings;
 use folder::{DataFault, KeptCopy, MappingFile, open_copy};
 use master::Master;
 use shard::Shard;
-use std::alloc::{AllocError, Global};
+use std::alloc::Global;
 use std::fs::File;
 use std::io::Write;
 use std::net::{Net, TcpListener, TcpStream};
@@ -70,24 +70,12 @@ fn led(
     master: Master<FileDevice<File>>,
     copy: replica::Copy<FileDevice<File>>,
 ) -> Result<Shard<FileDevice<File>>, DataFault> {
-    match named(alloc, name, master, copy) {
-        Ok(shard) => leading(shard),
-        Err(_) => Err(DataFault::NoMemory),
-    }
-}
-
-fn named(
-    alloc: Global,
-    name: &str,
-    master: Master<FileDevice<File>>,
-    copy: replica::Copy<FileDevice<File>>,
-) -> Result<Shard<FileDevice<File>>, AllocError> {
     match String::from_str(alloc, name) {
-        Ok(name) => Shard::over(alloc, name, master, copy),
-        Err(refused) => {
+        Ok(name) => leading(Shard::over(alloc, name, master, copy)),
+        Err(_) => {
             drop(master);
             drop(copy);
-            Err(refused)
+            Err(DataFault::NoMemory)
         }
     }
 }

@@ -1,12 +1,13 @@
 -- Histories that go on.
-use Rattle.std.proofs.Common.{◌≡◌, ◌<◌, ◌≤◌, ℕ, suc, ◌+◌, min, List, [], ◌∷◌, ◌++◌, length, map, refl, sym, ap, subst, ◌∙◌, arith}
+use Rattle.std.proofs.Common.{◌≡◌, ◌≤◌, ℕ, suc, ◌+◌, min, List, [], ◌∷◌, ◌++◌, length, map, refl, sym, ap, subst, ◌∙◌, arith}
 use Rattle.std.proofs.lemmas.List.{map-append, length-append}
 use mathlib.Core.List.{IsPrefix}
 use Rattle.replica.specs.Logged.{IsLogged}
 use Rattle.front.specs.Command.{Command}
 use Rattle.front.specs.Reply.{Reply}
 use Rattle.shard.specs.Ready.{IsServed}
-use Rattle.shard.specs.History.{Stand, EndsIn, Follows, IsDone, IsHistory, IsNext, RunsOn}
+use Rattle.doc.specs.Mapping.{MappingData}
+use Rattle.shard.specs.History.{AreUnder, Stand, EndsIn, Follows, IsDone, IsHistory, IsNext, RunsOn}
 
 -- a map of a beginning begins the map
 pub map_prefix : {X Y : Type 0} (f : X → Y) (xs ys : List X) → IsPrefix xs ys → IsPrefix (map f xs) (map f ys)
@@ -50,6 +51,20 @@ map_length f (x ∷ xs) = ap suc (map_length f xs)
 pub mapped_prefix : {X Y : Type 0} (f : X → Y) (xs ys : List X) → (length xs ≤ length ys → IsPrefix xs ys) → length (map f xs) ≤ length (map f ys) → IsPrefix (map f xs) (map f ys)
 mapped_prefix f xs ys begins le = map_prefix f xs ys (begins (omega (arith, le, map_length f xs, map_length f ys)))
 
+-- one more is under the same mapping
+under_more : (m : MappingData) (ts : List Stand) (u : Stand) → AreUnder m ts → u.copy.copy.mapping ≡ m → AreUnder m (ts ++ u ∷ [])
+under_more m [] u under last = (last, tt)
+under_more m (t ∷ ts) u under last = (under.0, under_more m ts u under.1 last)
+
+under_last : (m : MappingData) (before : List Stand) (t : Stand) → AreUnder m (before ++ t ∷ []) → t.copy.copy.mapping ≡ m
+under_last m [] t under = under.0
+under_last m (b ∷ before) t under = under_last m before t under.1
+
+pub next_is_under : (m : MappingData) (old new : List Stand) → AreUnder m old → IsNext old new → AreUnder m new
+next_is_under m old new under n =
+    let last : n.at.copy.copy.mapping ≡ m = under_last m n.ends.before n.at (subst (λ ts. AreUnder m ts) n.ends.is under) in
+    subst (λ ts. AreUnder m ts) (sym n.is) (under_more m old n.next under (n.follows.mapping ∙ last))
+
 -- one more stands behind a history
 pub next_is_history : (old new : List Stand) → IsHistory old → IsNext old new → IsHistory new
 next_is_history old new h n = subst IsHistory (sym n.is) (history_more old n.at n.next h n.ends n.follows)
@@ -63,12 +78,12 @@ next_counted marked f old mark count is counted n =
 
 -- a command that was done leads to the next
 pub next_by : {S : Type 0} (entries new : List S) (x : S) (f : S → Stand) (old : List Stand) (at : Stand) (c : Command) (r : Reply) → old ≡ map f entries → EndsIn at old → new ≡ entries ++ x ∷ []
-    → IsServed at.copy at.master c r (f x).copy (f x).master → IsLogged (f x).copy → IsNext old (map f new)
-next_by entries new x f old at c r same ends is served logged = record {
+    → IsServed at.copy at.master c r (f x).copy (f x).master → IsLogged (f x).copy → (f x).copy.copy.mapping ≡ at.copy.copy.mapping → IsNext old (map f new)
+next_by entries new x f old at c r same ends is served logged mapping = record {
   at = at;
   next = f x;
   ends = ends;
-  follows = record { command = c; reply = r; served = served; logged = logged };
+  follows = record { command = c; reply = r; served = served; logged = logged; mapping = mapping };
   is = ap (map f) is ∙ (map_snoc f entries x ∙ ap (λ ts. ts ++ f x ∷ []) (sym same));
 }
 

@@ -3,7 +3,7 @@ use Rattle.std.specs.Prelude.{◌≡◌, ◌≢◌, ◌⊎◌, ◌==◌, ◌&&�
 use Rattle.serde_json.specs.Data.{Data}
 use Rattle.doc.specs.Fault as doc
 use Rattle.doc.specs.Id.{Id}
-use Rattle.doc.specs.Mapping.{MappingData, mapping_of}
+use Rattle.doc.specs.Mapping.{mapping_of}
 use Rattle.doc.specs.Outcome.{◌>>=◌}
 use Rattle.op.specs.Documents.{documents}
 use Rattle.op.specs.Records.{shown}
@@ -42,9 +42,9 @@ use Rattle.front.specs.declared.reply.Refusal.TheVariants.{NotPrimary, VersionCo
 use Rattle.front.specs.Command.{Command, write, bulk, get, search, count, refresh, promote}
 use Rattle.front.specs.Reply.{Reply, wrote, bulked, got, hits, counted, refreshed, refused}
 
--- the mapping that a JSON value is, and the copy of a new index under it
-abbrev pub begun_under : Data → Result (MappingData × Copy) doc.Fault
-begun_under d = mapping_of d >>= λ m. Ok (m, begun 1 1 m)
+-- the copy of a new index under the mapping that a JSON value is
+abbrev pub begun_under : Data → Result Copy doc.Fault
+begun_under d = mapping_of d >>= λ m. Ok (begun 1 1 m)
 
 abbrev pub condition_of : Condition → kept.Condition
 condition_of c = record { seq = c.seq; term = c.term }

@@ -1,6 +1,8 @@
 -- The history of an index of one copy: what its copy and its master were after each command.
-use Rattle.std.specs.Prelude.{◌≡◌, ◌⊎◌, false, List, [], ◌∷◌, ◌++◌}
+use Rattle.std.specs.Prelude.{◌≡◌, ◌⊎◌, ℕ, false, List, [], ◌∷◌, ◌++◌}
 use mathlib.Core.List.{IsPrefix}
+use Rattle.chronicle.specs.Written.{Line}
+use Rattle.doc.specs.Mapping.{MappingData}
 use Rattle.master.specs.Logged as ruler
 use Rattle.replica.specs.Logged.{Logged, IsLogged}
 use Rattle.front.specs.Command.{Command}
@@ -11,17 +13,24 @@ use Rattle.op.specs.Documents.{documents}
 use Rattle.op.specs.Records.{shown}
 use Rattle.replica.specs.Copy.{Copy}
 
+-- which index it is: the line of its history, its name and its mapping
+pub record Index : Type 0 where
+  pub line : Line
+  pub name : List ℕ
+  pub mapping : MappingData
+
 -- what an index is between two commands
 pub record Stand : Type 0 where
   pub copy : Logged
   pub master : ruler.Logged
 
--- a command led from one to the next, in which the log of an open copy is that of its records
+-- a command led from one to the next, of the same mapping, in which the log of an open copy is that of its records
 pub record Follows (s t : Stand) : Type 0 where
   pub command : Command
   pub reply : Reply
   pub served : IsServed s.copy s.master command reply t.copy t.master
   pub logged : IsLogged t.copy
+  pub mapping : t.copy.copy.mapping ≡ s.copy.copy.mapping
 
 -- each follows from the one before it
 abbrev pub RunsOn : Stand → List Stand → Type 0
@@ -31,6 +40,11 @@ RunsOn s (t ∷ ts) = Follows s t × RunsOn t ts
 abbrev pub IsHistory : List Stand → Type 0
 IsHistory [] = ⊥
 IsHistory (s ∷ ts) = IsLogged s.copy × RunsOn s ts
+
+-- each is of a copy with this mapping
+abbrev pub AreUnder : MappingData → List Stand → Type 0
+AreUnder m [] = Unit {0}
+AreUnder m (t ∷ ts) = (t.copy.copy.mapping ≡ m) × AreUnder m ts
 
 -- this is the last
 pub record EndsIn (t : Stand) (ts : List Stand) : Type 0 where

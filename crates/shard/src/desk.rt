@@ -8,7 +8,7 @@ ghost use Rattle.front.specs.declared.reply.Refusal.TheVariants.{NoMemory};
 ghost use Rattle.shard.specs.History.{EndsIn, IsDone, IsLooked, IsReplyAt, IsSeenAt, IsSeenOf, IsTold};
 
 use crate::answering::{count_of, search_of};
-use crate::history::{Begun, HistoryName, Kept, Reached};
+use crate::history::{Begun, HistoryName, Kept, Label, Reached};
 use crossbeam_channel::{Receiver, Sender, unbounded};
 use doc::Mapping;
 use engine::{Merged, Merging, Snapshot};
@@ -155,6 +155,7 @@ enum Order {
 #[derive(Drop)]
 pub struct SharedShard<D: LogDevice, N: HistoryName> {
     alloc: Global,
+    label: Label<N>,
     shard: Mutex<Kept<D, N>>,
     seen: Mutex<Option<Seen<D, N>>>,
     begun: Reached<D, N>,
@@ -167,14 +168,16 @@ pub struct SharedShard<D: LogDevice, N: HistoryName> {
 impl<D: LogDevice, N: HistoryName> SharedShard<D, N> {
     /// The index whose history has begun, and has this name.
     pub fn new(alloc: Global, begun: Begun<D>) -> Result<SharedShard<D, N>, AllocError>
-        requires { begun ≡ N.line }
+        requires { begun ≡ N.index }
     {
+        let label = begun.label::<N>(alloc)?;
+        let (to_merger, orders) = unbounded(alloc)?;
         let kept = Kept::of(begun);
         let seen = Seen::of(&kept);
         let begun = kept.reached();
-        let (to_merger, orders) = unbounded(alloc)?;
         Ok(SharedShard {
             alloc,
+            label,
             shard: Mutex::new(kept),
             seen: Mutex::new(seen),
             begun,
@@ -182,6 +185,20 @@ impl<D: LogDevice, N: HistoryName> SharedShard<D, N> {
             to_merger,
             orders,
         })
+    }
+
+    /// The name of the index.
+    pub fn index(&self) -> &str
+        ensures { result.now ≡ N.index.name }
+    {
+        self.label.name()
+    }
+
+    /// The mapping of the index.
+    pub fn mapping(&self) -> &Mapping
+        ensures { result.now ≡ N.index.mapping }
+    {
+        self.label.mapping()
     }
 
     /// What one knows of the history who was told nothing.
@@ -302,8 +319,6 @@ impl<D: LogDevice, N: HistoryName> SharedShard<D, N> {
 #[derive(Drop)]
 pub struct Desk<'a, R: Wait, D: LogDevice, N: HistoryName> {
     pub rt: &'a R,
-    pub name: &'a str,
-    pub mapping: &'a Mapping,
     pub shard: &'a SharedShard<D, N>,
     pub known: Reached<D, N>,
 }
@@ -311,18 +326,18 @@ pub struct Desk<'a, R: Wait, D: LogDevice, N: HistoryName> {
 impl<'a, R: Wait, D: LogDevice, N: HistoryName> Service for Desk<'a, R, D, N> {
     ghost use Rattle.shard.specs.History.{IsTold};
 
-    ghost name = { λ d. d.name.now };
+    ghost name = { λ _. N.index.name };
 
-    ghost fields = { λ d. d.mapping.now };
+    ghost fields = { λ _. N.index.mapping };
 
     ghost answers = { λ d c r e. IsTold d.known c r e.known };
 
     fn index(&self) -> &str {
-        self.name
+        self.shard.index()
     }
 
     fn mapping(&self) -> &Mapping {
-        self.mapping
+        self.shard.mapping()
     }
 
     fn call(&mut self, command: Command) -> Reply {

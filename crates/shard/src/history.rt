@@ -1,13 +1,14 @@
 //! The history of an index of one copy: what it was after each command. It exists in proofs alone, but for how long it is.
-ghost use Rattle.std.specs.Prelude.{◌≡◌, ◌≤◌, IsTrue, IfSome, length, map};
+ghost use Rattle.std.specs.Prelude.{◌≡◌, ◌≤◌, IfOk, IsTrue, IfSome, length, map, string_bytes};
 ghost use Rattle.std.specs.Arc.{arc_value};
 ghost use mathlib.Core.List.{IsPrefix};
 ghost use Rattle.front.specs.CommandView.{command_view};
 ghost use Rattle.front.specs.ReplyView.{reply_view};
-ghost use Rattle.shard.specs.History.{EndsIn, IsDone, IsHistory, IsNext, IsSeenOf};
+ghost use Rattle.shard.specs.History.{AreUnder, EndsIn, IsDone, IsHistory, IsNext, IsSeenOf};
 
 use crate::shard::Shard;
 use chronicle::{Chronicle, Mark, Writer};
+use doc::Mapping;
 use engine::{Merged, Merging, Snapshot};
 use front::{Command, Reply, Service};
 use std::alloc::{AllocError, Global};
@@ -17,18 +18,19 @@ use translog::LogDevice;
 
 /// Whose history it is. A call of a program picks it by `Brand`.
 pub trait HistoryName {
-    ghost use Rattle.chronicle.specs.Written.{Line};
+    ghost use Rattle.shard.specs.History.{Index};
 
-    ghost line: { Line };
+    ghost index: { Index };
 }
 
 impl HistoryName for Brand {
+    ghost use Rattle.std.specs.Prelude.{[], false};
     ghost use Rattle.chronicle.specs.Written.{line};
 
-    ghost line = { line (record { number = 0; log_name = 0; cells_name = 0 }) 0 };
+    ghost index = { record { line = line (record { number = 0; log_name = 0; cells_name = 0 }) 0; name = []; mapping = record { strict = false; fields = [] } } };
 }
 
-/// An index at the beginning of its history, which has no name yet. Contracts see its line.
+/// An index at the beginning of its history, which has no name yet. Contracts see which index it is.
 #[derive(Drop)]
 pub struct Begun<D: LogDevice> {
     shard: Shard<D>,
@@ -38,20 +40,23 @@ pub struct Begun<D: LogDevice> {
 }
 
 impl<D: LogDevice> Model for Begun<D> {
-    ghost use Rattle.std.specs.Prelude.{◌≡◌, [], ◌∷◌};
-    ghost use Rattle.chronicle.specs.Written.{Line};
+    ghost use Rattle.std.specs.Prelude.{◌≡◌, [], ◌∷◌, string_bytes};
     ghost use Rattle.replica.specs.Logged.{IsLogged};
+    ghost use Rattle.shard.specs.History.{Index};
 
-    ghost Value = { Line };
+    ghost Value = { Index };
 
-    ghost view = { λ b. b.writer.line };
+    ghost view = { λ b. record { line = b.writer.line; name = string_bytes b.shard.name; mapping = b.shard.copy.copy.mapping } };
 
     ghost invariant = { λ b. (b.chronicle ≡ b.writer.line.book) × (b.writer.entries ≡ b.shard ∷ []) × (b.mark ≡ b.writer) × IsLogged b.shard.copy };
 }
 
 impl<D: LogDevice> Begun<D> {
     /// The history of an index begins.
-    pub fn new(shard: Shard<D>) -> Begun<D> {
+    pub fn new(shard: Shard<D>) -> Begun<D>
+        ensures name { result.name ≡ string_bytes shard.name }
+        ensures mapping { result.mapping ≡ shard.copy.copy.mapping }
+    {
         let chronicle = Chronicle::new();
         let mut writer = chronicle.writer();
         shard.is_logged();
@@ -62,6 +67,51 @@ impl<D: LogDevice> Begun<D> {
             writer,
             mark,
         }
+    }
+
+    /// The name and the mapping of the index.
+    pub(crate) fn label<N: HistoryName>(&self, alloc: Global) -> Result<Label<N>, AllocError>
+        requires { self.now ≡ N.index }
+    {
+        let name = String::from_str(alloc, self.shard.index())?;
+        let mapping = self.shard.mapping().copy(alloc)?;
+        Ok(Label {
+            name,
+            mapping,
+            of: PhantomData,
+        })
+    }
+}
+
+/// The name and the mapping of an index, as its history's name has them. Contracts see the name.
+#[derive(Drop)]
+pub(crate) struct Label<N: HistoryName> {
+    name: String,
+    mapping: Mapping,
+    of: PhantomData<N>,
+}
+
+impl<N: HistoryName> Model for Label<N> {
+    ghost use Rattle.std.specs.Prelude.{◌≡◌, ℕ, List, string_bytes};
+
+    ghost Value = { List ℕ };
+
+    ghost view = { λ l. string_bytes l.name };
+
+    ghost invariant = { λ l. (string_bytes l.name ≡ N.index.name) × (l.mapping ≡ N.index.mapping) };
+}
+
+impl<N: HistoryName> Label<N> {
+    pub(crate) fn name(&self) -> &str
+        ensures { result.now ≡ N.index.name }
+    {
+        self.name.as_str()
+    }
+
+    pub(crate) fn mapping(&self) -> &Mapping
+        ensures { result.now ≡ N.index.mapping }
+    {
+        &self.mapping
     }
 }
 
@@ -75,13 +125,14 @@ pub struct Reached<D: LogDevice, N: HistoryName> {
 
 impl<D: LogDevice, N: HistoryName> Model for Reached<D, N> {
     ghost use Rattle.std.specs.Prelude.{◌≡◌, List, length, map, min};
-    ghost use Rattle.shard.specs.History.{Stand, IsHistory};
+    ghost use Rattle.shard.specs.History.{AreUnder, Stand, IsHistory};
 
     ghost Value = { List Stand };
 
     ghost view = { λ r. map (λ s. record { copy = s.copy; master = s.master }) r.mark.entries };
 
-    ghost invariant = { λ r. (r.mark.line ≡ N.line) × (r.count ≡ min (length r.mark.entries) 18446744073709551615) × IsHistory (map (λ s. record { copy = s.copy; master = s.master }) r.mark.entries) };
+    ghost invariant = { λ r. (r.mark.line ≡ N.index.line) × (r.count ≡ min (length r.mark.entries) 18446744073709551615) × IsHistory (map (λ s. record { copy = s.copy; master = s.master }) r.mark.entries)
+        × AreUnder N.index.mapping (map (λ s. record { copy = s.copy; master = s.master }) r.mark.entries) };
 }
 
 impl<D: LogDevice, N: HistoryName> Reached<D, N> {
@@ -98,7 +149,7 @@ impl<D: LogDevice, N: HistoryName> Reached<D, N> {
 
     /// One more place, which a mark reaches.
     fn behind(&self, mark: Mark<Shard<D>>) -> Reached<D, N>
-        requires line { mark.line ≡ N.line }
+        requires line { mark.line ≡ N.index.line }
         requires next { IsNext self.now (map (λ s. record { copy = s.copy; master = s.master }) mark.entries) }
         ensures is { result ≡ map (λ s. record { copy = s.copy; master = s.master }) mark.entries }
         ensures legal { IsHistory result }
@@ -116,6 +167,13 @@ impl<D: LogDevice, N: HistoryName> Reached<D, N> {
         ensures { length self.now ≤ length other.now → IsPrefix self.now other.now }
     {
         self.mark.agrees(&other.mark);
+    }
+
+    /// All that is known of the history is of copies under the mapping of the index.
+    pub fn is_under(&self)
+        ensures { AreUnder N.index.mapping self.now }
+    {
+        let _ = &self.mark;
     }
 
     /// Whether it is known that another one goes on from this.
@@ -144,13 +202,13 @@ impl<D: LogDevice, N: HistoryName> Model for Kept<D, N> {
 
     ghost view = { λ k. record { copy = k.shard.copy; master = k.shard.master } };
 
-    ghost invariant = { λ k. (k.writer.line ≡ N.line) × (k.chronicle ≡ N.line.book) × (k.last ≡ map (λ s. record { copy = s.copy; master = s.master }) k.writer.entries) × EndsIn (record { copy = k.shard.copy; master = k.shard.master }) k.last };
+    ghost invariant = { λ k. (k.writer.line ≡ N.index.line) × (k.chronicle ≡ N.index.line.book) × (k.last ≡ map (λ s. record { copy = s.copy; master = s.master }) k.writer.entries) × EndsIn (record { copy = k.shard.copy; master = k.shard.master }) k.last };
 }
 
 impl<D: LogDevice, N: HistoryName> Kept<D, N> {
     /// The index, whose history has this name from now on.
     pub(crate) fn of(begun: Begun<D>) -> Kept<D, N>
-        requires { begun ≡ N.line }
+        requires { begun ≡ N.index }
     {
         let Begun {
             shard,

@@ -23,12 +23,11 @@ use std::alloc::{AllocError, Global};
 use std::sync::Arc;
 use translog::{LogDevice, MemDevice};
 
-/// An index of a name and a mapping over its one copy, and the master that makes the copy its primary again after it was opened anew.
+/// An index of a name over its one copy, and the master that makes the copy its primary again after it was opened anew.
 #[derive(Drop)]
 pub struct Shard<D: LogDevice> {
     alloc: Global,
     name: String,
-    mapping: Mapping,
     master: Master<D>,
     copy: Copy<D>,
 }
@@ -37,7 +36,7 @@ impl Shard<MemDevice> {
     /// A new index in memory under the mapping that a JSON value is, or the mapping's fault. An index name has 1 to 255 bytes, no capital letter of
     /// ASCII, and is judged by the caller.
     pub fn new(alloc: Global, name: String, mapping: &Value) -> Result<Shard<MemDevice>, DocFault>
-        ensures gives { Gives fault_of (λ s. (s.mapping, s.copy.copy)) result (begun_under (view mapping.now)) }
+        ensures gives { Gives fault_of (λ s. s.copy.copy) result (begun_under (view mapping.now)) }
         ensures open { IfOk result (λ s. s.copy.closed ≡ false) }
         ensures name { IfOk result (λ s. string_bytes s.name ≡ string_bytes name) }
     {
@@ -48,42 +47,33 @@ impl Shard<MemDevice> {
         let Ok(master) = Master::begin(alloc, 1, MemDevice::new(Vec::new(alloc))) else {
             return Err(DocFault::NoMemory);
         };
-        match Shard::over(alloc, name, master, copy) {
-            Ok(shard) => Ok(shard),
-            Err(_) => Err(DocFault::NoMemory),
-        }
+        Ok(Shard::over(alloc, name, master, copy))
     }
 }
 
 impl<D: LogDevice> Shard<D> {
     /// The index of a copy and a master that are there.
-    pub fn over(
-        alloc: Global,
-        name: String,
-        master: Master<D>,
-        copy: Copy<D>,
-    ) -> Result<Shard<D>, AllocError>
-        ensures copy { IfOk result (λ s. s.copy ≡ copy) }
-        ensures mapping { IfOk result (λ s. s.mapping ≡ copy.copy.mapping) }
-        ensures name { IfOk result (λ s. string_bytes s.name ≡ string_bytes name) }
+    pub fn over(alloc: Global, name: String, master: Master<D>, copy: Copy<D>) -> Shard<D>
+        ensures copy { result.copy ≡ copy }
+        ensures master { result.master ≡ master }
+        ensures name { string_bytes result.name ≡ string_bytes name }
     {
-        let mapping = copy.mapping().copy(alloc)?;
-        Ok(Shard {
+        Shard {
             alloc,
             name,
-            mapping,
             master,
             copy,
-        })
+        }
     }
 
     /// Makes the copy ready for writes, and tells whether it is: open, and the primary.
+    #[tactic(auto, using(crate::proofs::Mappings::ready_under, crate::proofs::Mappings::unready_under))]
     pub fn lead(&mut self) -> Result<bool, AllocError>
         ensures ready { OnOk result (IsReady true self.old.copy self.new.copy self.old.master self.new.master) }
         ensures wanting { OnErr result (IsUnready self.old.copy self.new.copy self.old.master self.new.master) }
         ensures leads { IfOk result (λ b. b ≡ (not self.new.copy.closed && spec.is_primary self.new.copy.copy.role)) }
         ensures name { string_bytes self.new.name ≡ string_bytes self.old.name }
-        ensures mapping { self.new.mapping ≡ self.old.mapping }
+        ensures mapping { self.new.copy.copy.mapping ≡ self.old.copy.copy.mapping }
     {
         make_ready(self.alloc, &mut self.copy, &mut self.master, true)?;
         Ok(self.copy.snapshot().is_some() && is_primary(self.copy.role()))
@@ -124,7 +114,7 @@ impl<D: LogDevice> Service for Shard<D> {
 
     ghost name = { λ s. string_bytes s.name };
 
-    ghost fields = { λ s. s.mapping };
+    ghost fields = { λ s. s.copy.copy.mapping };
 
     ghost answers = { λ s c r t. IsServed s.copy s.master c r t.copy t.master };
 
@@ -133,9 +123,10 @@ impl<D: LogDevice> Service for Shard<D> {
     }
 
     fn mapping(&self) -> &Mapping {
-        &self.mapping
+        self.copy.mapping()
     }
 
+    #[tactic(auto, using(crate::proofs::Mappings::unready_under, crate::proofs::Mappings::asked_under))]
     fn call(&mut self, command: Command) -> Reply {
         let writes = is_write(&command);
         if make_ready(self.alloc, &mut self.copy, &mut self.master, writes).is_err() {

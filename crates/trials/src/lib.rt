@@ -24,6 +24,8 @@ mod pieces;
 #[cfg(test)]
 mod records;
 #[cfg(test)]
+mod streams;
+#[cfg(test)]
 mod syncs;
 #[cfg(test)]
 mod trackers;

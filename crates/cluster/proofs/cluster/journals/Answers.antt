@@ -9,9 +9,9 @@ use Rattle.cluster.proofs.cluster.journals.Goals as goal
 pub loop-left-preserved : goal.loop-left-preserved
 loop-left-preserved g c =
     let m = c.loop-left.invariant.3.0 in
-    let whole = c.in_ok-push-2.ensures.items ∙ ap (λ (js : List Journal). js ++ c.into_journal.result ∷ []) c.loop-left.invariant.3.1 ∙ ap (λ (j : Journal). m ∷ (c.loop-left.yielded ++ j ∷ [])) c.into_journal.ensures.same in (
+    let whole = c.in_ok-push-2.ensures.items ∙ ap (λ (js : List Journal). js ++ c.into_journal.result ∷ []) c.loop-left.invariant.3.2 ∙ ap (λ (j : Journal). m ∷ (c.loop-left.yielded ++ j ∷ [])) c.into_journal.ensures.same in (
       subst (λ (js : List Journal). All IsLegalJournal js) (sym c.in_ok-push-2.ensures.items) (All-push IsLegalJournal c.loop-left.journals.items c.into_journal.result c.loop-left.invariant.0 c.into_journal.ensures.legal),
       omega (arith, ap length c.in_ok-push-2.ensures.items, length_push c.loop-left.journals.items c.into_journal.result, length_push c.loop-left.yielded c.in-Some.left, c.loop-left.invariant.1),
       ap copies_in whole,
-      (m, whole),
+      (m, c.loop-left.invariant.3.1, whole),
     )

@@ -3,7 +3,7 @@ use Rattle.std.specs.Arc.{arc_value}
 use Rattle.left_right.specs.Sides.{view}
 use Rattle.engine.specs.Shown.{hits_view}
 use Rattle.query.specs.View.{query_view}
-use Rattle.published.specs.Entry.{listing_of}
+use Rattle.published.specs.Entry.{published_of}
 use Rattle.published.specs.Search.{FindsIn}
 use Rattle.published.proofs.Steps.{looks}
 use Rattle.published.proofs.Searches.{looks_found, looks_no_less, no_less}
@@ -15,7 +15,7 @@ enter_as-requires g c x = looks _ _ x
 pub returns-in-Ok-taken-clause-found : goal.returns-in-Ok-taken-clause-found
 returns-in-Ok-taken-clause-found g c =
     looks_found hits_view (query_view c.args.query.now) c.args.page (view c.args.reader.place) (view c.leave-reader.result.place) _ c.args.told.now c.in-Ok.ensures.1.0 (c.leave-reader.ensures.1 ∙ c.in-Ok.ensures.1.1) c.hits_of.result
-    (subst (λ e. IfOk c.hits_of.result (λ h. FindsIn (listing_of e) c.args.told.now (query_view c.args.query.now) c.args.page (hits_view h))) (c.deref.ensures ∙ c.in-Ok-taken.ensures ∙ ap (λ l. arc_value l.entry) c.get.ensures) c.hits_of.ensures.found)
+    (subst (λ e. IfOk c.hits_of.result (λ h. FindsIn (published_of e) c.args.told.now (query_view c.args.query.now) c.args.page (hits_view h))) (c.deref.ensures ∙ c.in-Ok-taken.ensures ∙ ap (λ l. arc_value l.entry) c.get.ensures) c.hits_of.ensures.found)
 
 pub returns-in-Ok-taken-clause-refused : goal.returns-in-Ok-taken-clause-refused
 returns-in-Ok-taken-clause-refused g c =

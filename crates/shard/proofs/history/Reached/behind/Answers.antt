@@ -1,6 +1,6 @@
 use Rattle.std.proofs.Common.{rules, ◌≡◌, ◌+◌, min, sym, subst, ◌∙◌}
-use Rattle.shard.specs.History.{IsHistory}
-use Rattle.shard.proofs.Histories.{next_counted, next_is_history}
+use Rattle.shard.specs.History.{AreUnder, IsHistory}
+use Rattle.shard.proofs.Histories.{next_counted, next_is_history, next_is_under}
 use Rattle.shard.proofs.history.Reached.behind.Goals as goal
 
 pub invariant_of-result : goal.invariant_of-result
@@ -11,6 +11,7 @@ invariant_of-result g c =
       counted
           ∙ next_counted c.args.mark.entries (λ s. record { copy = s.copy; master = s.master }) c.args.self.now c.self.inside.mark.entries c.self.inside.count (sym c.self.view_is) c.self.invariant.1 c.requires.next,
       next_is_history c.args.self.now _ h c.requires.next,
+      next_is_under _ c.args.self.now _ (subst (λ ts. AreUnder _ ts) c.self.view_is c.self.invariant.3) c.requires.next,
     )
 
 pub returns-clause-legal : goal.returns-clause-legal
