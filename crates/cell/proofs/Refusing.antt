@@ -5,7 +5,7 @@ use Rattle.replica.specs.declared.input.Input.{Input}
 use Rattle.replica.specs.Logged.{Logged, is_refresh}
 use Rattle.published.specs.Line.{Line}
 use Rattle.node.specs.declared.fault.NodeFault.{NodeFault}
-use Rattle.node.specs.declared.fault.NodeFault.TheVariants.{NoMemory, NoSeat, Copy as Refused, Stray}
+use Rattle.node.specs.declared.fault.NodeFault.TheVariants.{NoMemory, NoSeat, Copy as Refused, Stray, Forgotten}
 use Rattle.node.specs.Entry.{Receipt}
 use Rattle.node.specs.Passes.{PassData}
 use Rattle.node.specs.Held.{JournalData, IsCall, IsHeld}
@@ -24,6 +24,7 @@ denied_published : (h new : JournalData) (p q : PassData) (input : Input) (e : N
 denied_published h new p q input NoMemory l line held d is = same_published h new line d.0 is
 denied_published h new p q input NoSeat l line held d is = absurd d
 denied_published h new p q input (Stray place) l line held d is = same_published h new line d.0 is
+denied_published h new p q input (Forgotten place) l line held d is = same_published h new line d.0 is
 denied_published h new p q input (Refused e) l line held d is = called_published h new p q input d.0.0 l line held d.0.1 is
 
 -- what was published begins the records after a call too
@@ -46,6 +47,7 @@ pub refused : (old new : CellData) (p q : PassData) (input : Input) (e : NodeFau
 refused old new p q input NoMemory k = inl k
 refused old new p q input NoSeat k = absurd (k.denied)
 refused old new p q input (Stray place) k = k
+refused old new p q input (Forgotten place) k = k
 refused old new p q input (Refused e) k = k
 
 -- a call with its journal as it was before what it shows

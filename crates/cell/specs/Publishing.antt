@@ -9,7 +9,7 @@ use Rattle.published.specs.Listings.{GoesOn, StartsWith}
 use Rattle.published.specs.Showing.{cell_of}
 use Rattle.published.specs.declared.showing.Showing.{Showing}
 use Rattle.node.specs.declared.fault.NodeFault.{NodeFault}
-use Rattle.node.specs.declared.fault.NodeFault.TheVariants.{NoMemory, NoSeat, Copy as Refused, Stray}
+use Rattle.node.specs.declared.fault.NodeFault.TheVariants.{NoMemory, NoSeat, Copy as Refused, Stray, Forgotten}
 use Rattle.node.specs.Entry.{Receipt}
 use Rattle.node.specs.Passes.{PassData}
 use Rattle.node.specs.Held.{JournalData, IsCall}
@@ -57,6 +57,7 @@ abbrev pub IsRefusedCall : CellData → CellData → PassData → PassData → I
 IsRefusedCall old new p q input NoMemory = IsKept old new p q input NoMemory ⊎ IsUnshown old new p q input
 IsRefusedCall old new p q input NoSeat = ⊥
 IsRefusedCall old new p q input (Stray place) = IsKept old new p q input (Stray place)
+IsRefusedCall old new p q input (Forgotten place) = IsKept old new p q input (Forgotten place)
 IsRefusedCall old new p q input (Refused e) = IsKept old new p q input (Refused e)
 
 -- what a cell shows that has made no call

@@ -1,5 +1,5 @@
 //! A copy with its journal, and what it publishes.
-ghost use Rattle.std.specs.Prelude.{◌≡◌, ◌∷◌, [], length, true, false, IfOk, IfErr, IfSome, IsOk, OnOk, OnErr};
+ghost use Rattle.std.specs.Prelude.{◌≡◌, ◌∷◌, [], length, is_some, true, false, IfOk, IfErr, IfSome, IsOk, OnOk, OnErr};
 ghost use Rattle.journal.specs.Journal.{IsLegal, open_at};
 ghost use Rattle.journal.specs.declared.journal.Journal.TheVariants.{OfCopy};
 ghost use Rattle.replica.specs.Logged.{is_refresh};
@@ -255,9 +255,11 @@ impl<D: LogDevice> CopyCell<D> {
         self.publisher.searcher()
     }
 
-    /// The journal, for which the copy is given up. Searches show nothing any more, which waits for those that are just taking what is shown.
-    pub fn close<R: Wait>(self, rt: &R) -> Journal
-        ensures same { result ≡ OfCopy self.journal.opening self.journal.deeds }
+    /// The journal where memory has it, for which the copy is given up. Searches show nothing any more, which waits for those that are just taking
+    /// what is shown.
+    pub fn close<R: Wait>(self, rt: &R) -> Option<Journal>
+        ensures kept { is_some result ≡ self.journal.kept }
+        ensures same { IfSome result (λ j. j ≡ OfCopy self.journal.opening self.journal.deeds) }
         ensures legal { IsLegal (open_at self.journal.opening) 0 self.journal.deeds }
     {
         let CopyCell { held, publisher } = self;

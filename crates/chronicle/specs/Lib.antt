@@ -1,2 +1,4 @@
 pub mod Written
 pub mod Log
+pub mod Ledger
+pub mod Memory

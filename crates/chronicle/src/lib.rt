@@ -3,9 +3,11 @@
 
 mod chronicle;
 mod law;
+mod ledger;
 mod mark;
 mod writer;
 
 pub use chronicle::Chronicle;
+pub use ledger::Ledger;
 pub use mark::Mark;
 pub use writer::Writer;

@@ -17,8 +17,11 @@ use std::sync::{Mutex, Wait};
 use std::time::{Clock, Duration, Instant};
 use std::{io, thread};
 
-/// The longest wait between two looks whether the server has ended, in milliseconds.
-const TICK: u64 = 50;
+/// The longest wait between two looks whether the server has ended, and how much was written, in milliseconds.
+const TICK: u64 = 10;
+
+/// Once so many writes came the index is refreshed before its time: a write waits while a refresh builds what changed.
+const MANY: u64 = 512;
 
 /// How many connections are accepted before others are looked at.
 const MOST_ACCEPTED: u64 = 256;
@@ -341,7 +344,7 @@ impl<'w, W: Watcher, K: Drop> Clients<'w, W, K> {
         }
     }
 
-    /// Refreshes the index again and again until the last connection has ended.
+    /// Refreshes the index again and again until the last connection has ended: each time that its time is over, or many writes came.
     fn refresh_in_turn<C: Clock, S: Service>(&self, clock: &C, service: &mut S) {
         if self.limits.refresh == 0 {
             return;
@@ -354,23 +357,23 @@ impl<'w, W: Watcher, K: Drop> Clients<'w, W, K> {
             let tick = left.min(TICK);
             thread::sleep(clock, Duration::from_millis(tick));
             left -= tick;
-            if left == 0 {
+            if left == 0 || self.notes.written.load(Ordering::SeqCst) >= MANY {
                 self.refresh_once(service);
                 left = self.limits.refresh;
             }
         }
     }
 
-    /// Refreshes the index where something was written. What is refused is tried again the next time.
+    /// Refreshes the index where something was written. What is refused is tried again when its time is over.
     fn refresh_once<S: Service>(&self, service: &mut S) {
-        if !self.notes.written.swap(false, Ordering::SeqCst) {
+        if self.notes.written.swap(0, Ordering::SeqCst) == 0 {
             return;
         }
         self.notes.refreshing.store(true, Ordering::SeqCst);
         let reply = service.call(Command::Refresh);
         self.notes.refreshing.store(false, Ordering::SeqCst);
         if let Reply::Refused(_) = reply {
-            self.notes.written.store(true, Ordering::SeqCst);
+            self.notes.written.fetch_add(1, Ordering::SeqCst);
         }
     }
 }

@@ -39,7 +39,7 @@ pub struct Limits {
     pub bytes: u64,
     /// How long a connection is kept that asks nothing, in seconds.
     pub idle: u64,
-    /// After how many milliseconds the index is refreshed again, 0 for never.
+    /// After how many milliseconds the index is refreshed again, or sooner, where many writes came; 0 for never.
     pub refresh: u64,
     /// Whether requests are answered as the client libraries of Elasticsearch ask them.
     pub greets: bool,

@@ -7,13 +7,13 @@ use front::command::Command;
 use front::reply::Reply;
 use front::{Resumable, Service};
 use std::sync::MutexGuard;
-use std::sync::atomic::{AtomicBool, Ordering};
+use std::sync::atomic::{AtomicBool, AtomicU64, Ordering};
 
 /// What is noted of the commands of all threads.
 #[derive(Drop)]
 pub(crate) struct Notes {
-    /// Whether something was written since the last refresh.
-    pub(crate) written: AtomicBool,
+    /// How many writes came since the last refresh.
+    pub(crate) written: AtomicU64,
     /// Whether the index is being refreshed.
     pub(crate) refreshing: AtomicBool,
 }
@@ -21,7 +21,7 @@ pub(crate) struct Notes {
 impl Notes {
     pub(crate) fn new() -> Notes {
         Notes {
-            written: AtomicBool::new(false),
+            written: AtomicU64::new(0),
             refreshing: AtomicBool::new(false),
         }
     }
@@ -33,6 +33,15 @@ impl Notes {
             Command::Get(_) => self.refreshing.load(Ordering::SeqCst),
             Command::Write(_) | Command::Bulk(_) | Command::Refresh | Command::Promote(_) => true,
         }
+    }
+}
+
+/// How many writes a command asks for.
+fn writes_of(command: &Command) -> u64 {
+    match command {
+        Command::Write(_) => 1,
+        Command::Bulk(writes) => writes.len() as u64,
+        _ => 0,
     }
 }
 
@@ -75,11 +84,11 @@ impl<'a, S: Service> Service for Noting<'a, S> {
         if self.lead.is_some() && self.holds_up(&command) {
             self.lead = None;
         }
-        let writes = matches!(&command, Command::Write(_) | Command::Bulk(_));
+        let writes = writes_of(&command);
         let reply = self.service.call(command);
         // Behind the write, so that a refresh that takes the note back shows it.
-        if writes {
-            self.notes.written.store(true, Ordering::SeqCst);
+        if writes > 0 {
+            self.notes.written.fetch_add(writes, Ordering::SeqCst);
         }
         reply
     }

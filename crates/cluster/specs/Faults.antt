@@ -22,6 +22,7 @@ of_node node.NoMemory = NoMemory
 of_node node.NoSeat = NoSeat
 of_node (node.Copy f) = Copy f
 of_node (node.Stray place) = Stray place
+of_node (node.Forgotten place) = Stray place
 
 abbrev pub of_copy : CopyFault → ClusterFault
 of_copy copy.NoMemory = NoMemory

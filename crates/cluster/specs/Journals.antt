@@ -1,5 +1,5 @@
 -- Journals that are handed out.
-use Rattle.std.specs.Prelude.{◌≡◌, ◌<◌, ℕ, List, [], ◌∷◌, Some, All, Any}
+use Rattle.std.specs.Prelude.{◌≡◌, ◌<◌, ◌+◌, ℕ, List, [], ◌∷◌, length, Some, All, Any}
 use Rattle.journal.specs.declared.journal.Journal.{Journal}
 use Rattle.journal.specs.declared.journal.Journal.TheVariants.{OfMaster, OfCopy}
 use Rattle.journal.specs.Lawful.{IsLawful}
@@ -50,3 +50,13 @@ pub record HasReceipt (r : Receipt) (j : Journal) : Type 0 where
 -- the receipt stands in one of the journals
 pub record StandsIn (js : List Journal) (r : Receipt) : Type 0 where
   pub one : Any (HasReceipt r) js
+
+-- what is handed out where a cluster of so many copies ends: the master's journal first, then those of the copies in the order of their ids, each legal
+-- and of one caller, in which these receipts stand
+pub record AreHandedOut (copies : ℕ) (receipts : List Receipt) (js : List Journal) : Type 0 where
+  pub legal : All IsLegalJournal js
+  pub all : length js ≡ copies + 1
+  pub master : BeginsWithMaster js
+  pub order : RiseFrom 0 (copies_in js)
+  pub gathered : All IsOfOneCaller (copies_in js)
+  pub stand : All (StandsIn (copies_in js)) receipts

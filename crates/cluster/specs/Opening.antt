@@ -1,9 +1,11 @@
 -- What devices hold when a cluster is opened.
-use Rattle.std.specs.Prelude.{◌≡◌, ℕ, max, nat_le, ◌==◌, ◌&&◌, ◌||◌, Bool, false, if◌then◌else◌, List, [], ◌∷◌, Option, Some, None, Ok}
+use Rattle.std.specs.Prelude.{◌≡◌, ℕ, max, nat_le, ◌==◌, ◌&&◌, ◌||◌, Bool, true, false, if◌then◌else◌, List, [], ◌∷◌, Option, Some, None, Ok}
 use Rattle.doc.specs.Mapping.{MappingData}
 use Rattle.master.specs.declared.entry.Entry.TheVariants.{Begin}
 use Rattle.master.specs.Entry.{entry_of}
 use Rattle.master.specs.Log.{header}
+use Rattle.cluster.specs.declared.opening.Journals.{Journals}
+use Rattle.cluster.specs.declared.opening.Journals.TheVariants.{Kept, Unkept}
 use Rattle.cluster.specs.declared.opening.Opened.{Opened}
 use Rattle.node.specs.Held.{JournalData}
 use Rattle.op.specs.declared.record.Record.{Record}
@@ -49,8 +51,14 @@ is_with copy n (o ∷ os) = ((o.copy == copy) && (o.next == n)) || is_with copy 
 abbrev pub leader_of : ℕ → List Opened → Option ℕ
 leader_of primary os = if is_with primary (most_of os) os then Some primary else first_with (most_of os) os
 
--- a copy that a log held, whose journal begins with the log's records
-pub record IsKept (id : ℕ) (birth : Birth) (mapping : MappingData) (bytes : List ℕ) (j : JournalData) : Type 0 where
+-- whether memory has the journals
+abbrev pub keeps : Journals → Bool
+keeps Kept = true
+keeps Unkept = false
+
+-- a copy that a log held, whose journal begins with the log's records, and which memory has or hasn't
+pub record IsKept (id : ℕ) (birth : Birth) (mapping : MappingData) (bytes : List ℕ) (kept_is : Bool) (j : JournalData) : Type 0 where
+  pub has : j.kept ≡ kept_is
   pub records : List Record
   pub read : kept bytes ≡ Ok records
   pub opening : j.opening ≡ opened id birth mapping records

@@ -1,7 +1,8 @@
 //! Starting the threads of a cluster, and ending them.
-ghost use Rattle.std.specs.Prelude.{◌≡◌, ◌+◌, ◌≤◌, false, vec_len, All, IsOk, IfOk, OnOk};
+ghost use Rattle.std.specs.Prelude.{◌≡◌, ◌+◌, ◌≤◌, false, is_some, length, vec_len, All, IsOk, IfOk, IfSome, OnOk};
 ghost use Rattle.master.specs.declared.state.Request.TheVariants.{Allocate};
-ghost use Rattle.cluster.specs.Journals.{copies_in, BeginsWithMaster, IsLegalJournal, IsMasters, IsOfOneCaller, RiseFrom, StandsIn};
+ghost use Rattle.cluster.specs.Journals.{copies_in, AreHandedOut, BeginsWithMaster, IsLegalJournal, IsMasters};
+ghost use Rattle.cluster.specs.Opening.{keeps};
 ghost use Rattle.cluster.specs.Ruled.{IsDecided};
 
 use crate::bench::{Bench, Start, start_both};
@@ -10,10 +11,10 @@ use crate::client::Client;
 use crate::devices::Devices;
 use crate::fault::{ClusterFault, OpenFault, ShortLog, Unopened, of_master_log};
 use crate::gate::Gate;
-use crate::left::{Left, stray_in};
+use crate::left::{Journaled, Left, all_kept, stray_in};
 use crate::merging::Merger;
 use crate::opening::{
-    Opened, beginning, birth_of, joining_copy, kept_copy, lacking, leader_of, new_copy,
+    Journals, Opened, beginning, birth_of, joining_copy, kept_copy, lacking, leader_of, new_copy,
 };
 use crate::post::{Post, Route};
 use crate::ready::Ready;
@@ -39,6 +40,7 @@ struct Setting<V, G> {
     mapping: Mapping,
     devices: V,
     gate: G,
+    journals: Journals,
 }
 
 /// The master and its copies, each copy on a thread of its own. End it by `close`.
@@ -47,6 +49,7 @@ pub struct Cluster<D: LogDevice, V: Devices<D>, G: Gate> {
     mapping: Mapping,
     devices: V,
     gate: Arc<G, Global>,
+    journals: Journals,
     client: Client<D>,
     threads: Vec<JoinHandle<Left>>,
     /// The threads that build merges, one for each of the others.
@@ -68,6 +71,7 @@ impl<D: LogDevice + Send + 'static, V: Devices<D>, G: Gate + Send + Sync + 'stat
         copies: u8,
         devices: V,
         gate: G,
+        journals: Journals,
     ) -> Result<Cluster<D, V, G>, ClusterFault>
         requires { (1 ≤ copies) × (copies ≤ 5) }
         ensures { IfOk result (λ c. vec_len c.threads ≡ copies) }
@@ -77,6 +81,7 @@ impl<D: LogDevice + Send + 'static, V: Devices<D>, G: Gate + Send + Sync + 'stat
             mapping,
             devices,
             gate,
+            journals,
         };
         let device = match setting.devices.device(0) {
             Ok(device) => device,
@@ -97,6 +102,7 @@ impl<D: LogDevice + Send + 'static, V: Devices<D>, G: Gate + Send + Sync + 'stat
         copies: u8,
         devices: V,
         gate: G,
+        journals: Journals,
     ) -> Result<Cluster<D, V, G>, ClusterFault>
         requires { (1 ≤ copies) × (copies ≤ 5) }
     {
@@ -105,6 +111,7 @@ impl<D: LogDevice + Send + 'static, V: Devices<D>, G: Gate + Send + Sync + 'stat
             mapping,
             devices,
             gate,
+            journals,
         };
         let device = master_device(&mut setting.devices)?;
         match beginning(alloc, device) {
@@ -126,7 +133,13 @@ impl<D: LogDevice + Send + 'static, V: Devices<D>, G: Gate + Send + Sync + 'stat
     {
         let mut setting = setting;
         let alloc = setting.alloc;
-        match new_copies(alloc, copies, &setting.mapping, &mut setting.devices) {
+        match new_copies(
+            alloc,
+            setting.journals,
+            copies,
+            &setting.mapping,
+            &mut setting.devices,
+        ) {
             Ok(ready) => Cluster::begin_over(rt, setting, ready, new_master(alloc, copies, device)),
             Err(fault) => {
                 drop(setting);
@@ -199,6 +212,7 @@ impl<D: LogDevice + Send + 'static, V: Devices<D>, G: Gate + Send + Sync + 'stat
             mapping,
             devices,
             gate,
+            journals,
         } = setting;
         let shared = Arc::new(
             alloc,
@@ -212,6 +226,7 @@ impl<D: LogDevice + Send + 'static, V: Devices<D>, G: Gate + Send + Sync + 'stat
             mapping,
             devices,
             gate: Arc::new(alloc, gate)?,
+            journals,
             client: Client { alloc, shared },
             threads: Vec::new(alloc),
             mergers: Vec::new(alloc),
@@ -329,7 +344,8 @@ impl<D: LogDevice + Send + 'static, V: Devices<D>, G: Gate + Send + Sync + 'stat
             Ok(None) => return Err(OpenFault::Missing),
             Err(fault) => return Err(OpenFault::Copy(CopyFault::from(fault))),
         };
-        match kept_copy(self.client.alloc, id, birth, &self.mapping, device) {
+        let alloc = self.client.alloc;
+        match kept_copy(alloc, self.journals, id, birth, &self.mapping, device) {
             Ok(ready) => Ok(ready),
             Err(fault) => Err(OpenFault::Copy(fault)),
         }
@@ -362,7 +378,7 @@ impl<D: LogDevice + Send + 'static, V: Devices<D>, G: Gate + Send + Sync + 'stat
             return Err(ClusterFault::Master(MasterFault::Full));
         };
         let device = device_of(&mut self.devices, next)?;
-        let ready = joining_copy(alloc, next, &self.mapping, device)?;
+        let ready = joining_copy(alloc, self.journals, next, &self.mapping, device)?;
         match self.start_of(rt, next) {
             Ok(start) => self.join(rt, next, start, ready),
             Err(fault) => {
@@ -502,22 +518,19 @@ impl<D: LogDevice + Send + 'static, V: Devices<D>, G: Gate + Send + Sync + 'stat
         }
     }
 
-    /// Ends all threads, and hands out the journals, which are legal: the master's first, then those of the copies in the order of their ids. Each
+    /// Ends all threads, and hands out the journals, where they are kept: the master's first, then those of the copies in the order of their ids. Each
     /// entry of a copy has its receipt in the pass of the copy's worker, and the receipts that callers kept and hand in stand there too, else
     /// `Stray` names the place of the first that doesn't.
     pub fn close<R: Threads + Wait>(
         self,
         rt: &R,
         receipts: &[Receipt],
-    ) -> Result<Vec<Journal>, ClusterFault>
-        ensures legal { IfOk result (λ js. All IsLegalJournal js.items) }
-        ensures all { IfOk result (λ js. vec_len js ≡ vec_len self.threads + 1) }
-        ensures master { IfOk result (λ js. BeginsWithMaster js.items) }
-        ensures order { IfOk result (λ js. RiseFrom 0 (copies_in js.items)) }
-        ensures gathered { IfOk result (λ js. All IsOfOneCaller (copies_in js.items)) }
-        ensures receipts { IfOk result (λ js. All (StandsIn (copies_in js.items)) receipts.now) }
+    ) -> Result<Option<Vec<Journal>>, ClusterFault>
+        ensures kept { IfOk result (λ o. is_some o ≡ keeps self.journals) }
+        ensures journals { IfOk result (λ o. IfSome o (λ js. AreHandedOut (vec_len self.threads) receipts.now js.items)) }
     {
         let Cluster {
+            journals,
             client,
             threads,
             mergers,
@@ -527,16 +540,59 @@ impl<D: LogDevice + Send + 'static, V: Devices<D>, G: Gate + Send + Sync + 'stat
         stop(rt, &*shared);
         let lefts = joined(rt, alloc, threads)?;
         end_mergers(rt, mergers);
-        if let Some(place) = stray_in(&lefts, receipts) {
+        let Some(shared) = Arc::into_inner(shared) else {
             drop(lefts);
-            drop(shared);
-            return Err(ClusterFault::Stray(place));
-        }
-        match Arc::into_inner(shared) {
-            Some(shared) => journals(alloc, shared.master.into_inner(), lefts),
-            None => Err(ClusterFault::Running),
+            return Err(ClusterFault::Running);
+        };
+        match journals {
+            Journals::Kept => {
+                match handed_out(alloc, shared.master.into_inner(), lefts, receipts) {
+                    Ok(journals) => Ok(Some(journals)),
+                    Err(fault) => Err(fault),
+                }
+            }
+            Journals::Unkept => {
+                drop(lefts);
+                drop(shared);
+                Ok(None)
+            }
         }
     }
+}
+
+/// The journals of the master and of the copies, which workers leave.
+fn handed_out<D: LogDevice>(
+    alloc: Global,
+    master: Ruled<D>,
+    lefts: Vec<Left>,
+    receipts: &[Receipt],
+) -> Result<Vec<Journal>, ClusterFault>
+    ensures { IfOk result (λ js. AreHandedOut (vec_len lefts) receipts.now js.items) }
+{
+    match all_kept(alloc, lefts) {
+        Ok(Some(lefts)) => looked_at(alloc, master, lefts, receipts),
+        _ => {
+            drop(master);
+            Err(ClusterFault::NoMemory)
+        }
+    }
+}
+
+/// The same, once each receipt is seen to stand.
+fn looked_at<D: LogDevice>(
+    alloc: Global,
+    master: Ruled<D>,
+    lefts: Vec<Journaled>,
+    receipts: &[Receipt],
+) -> Result<Vec<Journal>, ClusterFault>
+    ensures { IfOk result (λ js. AreHandedOut (vec_len lefts) receipts.now js.items) }
+{
+    if let Some(place) = stray_in(&lefts, receipts) {
+        drop(lefts);
+        drop(master);
+        return Err(ClusterFault::Stray(place));
+    }
+    journals(alloc, master, lefts)
 }
 
 fn journal_of<D: LogDevice>(master: Ruled<D>) -> Journal
@@ -572,10 +628,10 @@ fn end_mergers<R: Threads>(rt: &R, mergers: Vec<JoinHandle<()>>) {
 fn journals<D: LogDevice>(
     alloc: Global,
     master: Ruled<D>,
-    lefts: Vec<Left>,
+    lefts: Vec<Journaled>,
 ) -> Result<Vec<Journal>, ClusterFault>
     ensures legal { IfOk result (λ js. All IsLegalJournal js.items) }
-    ensures all { IfOk result (λ js. vec_len js ≡ vec_len lefts + 1) }
+    ensures all { IfOk result (λ js. length js.items ≡ vec_len lefts + 1) }
     ensures copies { IfOk result (λ js. copies_in js.items ≡ lefts.items) }
     ensures master { IfOk result (λ js. BeginsWithMaster js.items) }
 {
@@ -666,6 +722,7 @@ fn kept_master<D: LogDevice>(alloc: Global, device: D) -> Result<Master<D>, Clus
 /// The copies of a new index, each over its device.
 fn new_copies<D: LogDevice, V: Devices<D>>(
     alloc: Global,
+    journals: Journals,
     copies: u8,
     mapping: &Mapping,
     devices: &mut V,
@@ -677,7 +734,7 @@ fn new_copies<D: LogDevice, V: Devices<D>>(
     for before in 0..count {
         let id = before + 1;
         let device = device_of(devices, id)?;
-        all.push(new_copy(alloc, id, count, mapping, device)?)?;
+        all.push(new_copy(alloc, journals, id, count, mapping, device)?)?;
     }
     Ok(all)
 }

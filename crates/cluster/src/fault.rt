@@ -156,7 +156,7 @@ impl From<NodeFault> for ClusterFault {
             NodeFault::NoMemory => ClusterFault::NoMemory,
             NodeFault::NoSeat => ClusterFault::NoSeat,
             NodeFault::Copy(fault) => ClusterFault::Copy(fault),
-            NodeFault::Stray(place) => ClusterFault::Stray(place),
+            NodeFault::Stray(place) | NodeFault::Forgotten(place) => ClusterFault::Stray(place),
         }
     }
 }

@@ -1,24 +1,33 @@
 //! What a worker leaves.
-ghost use Rattle.std.specs.Prelude.{◌≡◌, All, IfNone, IsTrue};
+ghost use Rattle.std.specs.Prelude.{◌≡◌, All, IfOk, IfSome, IfNone, IsTrue, vec_len};
+ghost use Rattle.journal.specs.Lawful.{IsLawful};
 ghost use Rattle.cluster.specs.Journals.{node_of, HasReceipt, IsLegalJournal, IsOfOneCaller, RiseFrom, StandsIn};
 
 use cell::CopyCell;
 use journal::Journal;
 use node::{Held, Pass, Receipt, gathered, stands_in};
+use std::alloc::{AllocError, Global};
 use std::array;
 use std::marker::Model;
 use std::sync::Wait;
 use translog::LogDevice;
 
+/// What a worker leaves: the journal of its copy with its pass, where memory has them.
+#[derive(Drop)]
+pub(crate) enum Left {
+    Kept(Journaled),
+    Unkept,
+}
+
 /// The journal of a worker's copy, which is legal, and the worker's pass.
 #[derive(Drop)]
-pub(crate) struct Left {
+pub(crate) struct Journaled {
     node: u32,
     journal: Journal,
     pass: Pass,
 }
 
-impl Model for Left {
+impl Model for Journaled {
     ghost use Rattle.std.specs.Prelude.{◌≡◌};
     ghost use Rattle.journal.specs.Lawful.{IsLawful};
     ghost use Rattle.journal.specs.declared.journal.Journal.{Journal as JournalData};
@@ -33,23 +42,54 @@ impl Model for Left {
 
 impl Left {
     /// What is left of a copy that was served. It waits for searches that are just taking what is shown.
+    #[tactic(auto, using(crate::proofs::Handed::of_closed))]
     pub(crate) fn served<R: Wait, D: LogDevice>(rt: &R, cell: CopyCell<D>, pass: Pass) -> Left {
-        Left {
-            node: cell.held().node(),
-            journal: cell.close(rt),
-            pass,
-        }
+        let node = cell.held().node();
+        Left::of(node, cell.close(rt), pass)
     }
 
     /// What is left of one that wasn't.
+    #[tactic(auto, using(crate::proofs::Handed::of_closed))]
     pub(crate) fn unserved<D: LogDevice>(held: Held<D>, pass: Pass) -> Left {
-        Left {
-            node: held.node(),
-            journal: held.into_journal(),
-            pass,
-        }
+        let node = held.node();
+        Left::of(node, held.into_journal(), pass)
     }
 
+    fn of(node: u32, journal: Option<Journal>, pass: Pass) -> Left
+        requires { IfSome journal (λ j. (node ≡ node_of j) × IsLawful j) }
+    {
+        match journal {
+            Some(journal) => Left::Kept(Journaled {
+                node,
+                journal,
+                pass,
+            }),
+            None => {
+                drop(pass);
+                Left::Unkept
+            }
+        }
+    }
+}
+
+/// What workers leave that have journals; nothing where one has none.
+pub(crate) fn all_kept(
+    alloc: Global,
+    lefts: Vec<Left>,
+) -> Result<Option<Vec<Journaled>>, AllocError>
+    ensures { IfOk result (λ o. IfSome o (λ all. vec_len all ≡ vec_len lefts)) }
+{
+    let mut all = Vec::new(alloc);
+    for left in lefts {
+        match left {
+            Left::Kept(journaled) => all.push(journaled)?,
+            Left::Unkept => return Ok(None),
+        }
+    }
+    Ok(Some(all))
+}
+
+impl Journaled {
     /// The place of the worker's first receipt that doesn't stand in the journal, or of the first entry that isn't the worker's, or bears another
     /// number than the copy's.
     #[tactic(auto, using(crate::proofs::Handed::of_one_caller))]
@@ -82,7 +122,7 @@ impl Left {
         ensures same { result ≡ self }
         ensures legal { IsLegalJournal result }
     {
-        let Left {
+        let Journaled {
             node: _,
             journal,
             pass: _pass,
@@ -117,7 +157,7 @@ fn first_unseen(receipts: &[Receipt]) -> u64 {
 
 /// The place of the first receipt that stands in no journal: of those that workers kept, and then of some others. Where the journals aren't in the order
 /// of the ids of their copies, it is that of a first entry.
-pub(crate) fn stray_in(lefts: &[Left], receipts: &[Receipt]) -> Option<u64>
+pub(crate) fn stray_in(lefts: &[Journaled], receipts: &[Receipt]) -> Option<u64>
     ensures order { IfNone result (RiseFrom 0 lefts.now) }
     ensures workers { IfNone result (All IsOfOneCaller lefts.now) }
     ensures others { IfNone result (All (StandsIn lefts.now) receipts.now) }
@@ -132,7 +172,7 @@ pub(crate) fn stray_in(lefts: &[Left], receipts: &[Receipt]) -> Option<u64>
 }
 
 /// Whether the ids of the copies rise.
-fn are_in_order(lefts: &[Left]) -> bool
+fn are_in_order(lefts: &[Journaled]) -> bool
     ensures { IsTrue result → RiseFrom 0 lefts.now }
 {
     let mut last = 0;
@@ -146,7 +186,7 @@ fn are_in_order(lefts: &[Left]) -> bool
     true
 }
 
-fn stray_of_workers(lefts: &[Left]) -> Option<u64>
+fn stray_of_workers(lefts: &[Journaled]) -> Option<u64>
     ensures { IfNone result (All IsOfOneCaller lefts.now) }
 {
     for left in lefts {
@@ -157,7 +197,7 @@ fn stray_of_workers(lefts: &[Left]) -> Option<u64>
     None
 }
 
-fn stray_among(lefts: &[Left], receipts: &[Receipt]) -> Option<u64>
+fn stray_among(lefts: &[Journaled], receipts: &[Receipt]) -> Option<u64>
     ensures { IfNone result (All (StandsIn lefts.now) receipts.now) }
 {
     for receipt in receipts {
@@ -169,7 +209,7 @@ fn stray_among(lefts: &[Left], receipts: &[Receipt]) -> Option<u64>
 }
 
 /// The place of a receipt that stands in none of the journals.
-fn stray_at(lefts: &[Left], receipt: &Receipt) -> Option<u64>
+fn stray_at(lefts: &[Journaled], receipt: &Receipt) -> Option<u64>
     ensures { IfNone result (StandsIn lefts.now receipt.now) }
 {
     for left in lefts {

@@ -1,9 +1,10 @@
 //! What the devices of a cluster hold when it is opened: the log of the master, and those of copies.
-ghost use Rattle.std.specs.Prelude.{◌≡◌, ◌≤◌, [], map, IfOk};
+ghost use Rattle.std.specs.Prelude.{◌≡◌, ◌≤◌, [], length, true, false, map, IfOk};
 ghost use Rattle.journal.specs.declared.opening.Opening.{Opening as Begins};
 ghost use Rattle.replica.specs.Copy.{begun, opened};
 ghost use Rattle.replica.specs.declared.role.Birth.TheVariants.{Added};
-ghost use Rattle.cluster.specs.Opening.{birth_of, first_with, is_with, leader_of, most_of, BeganWith, IsFirst, IsKept};
+ghost use Rattle.cluster.specs.Opening.{birth_of, first_with, is_with, keeps, leader_of, most_of, BeganWith, IsFirst, IsKept};
+ghost use Rattle.node.specs.Held.{journal};
 
 use crate::ready::Ready;
 use doc::Mapping;
@@ -121,22 +122,53 @@ pub(crate) fn lacking(primary: u32, opened: &[Opened]) -> Option<u64> {
     None
 }
 
+/// What memory has of the journals of the copies: all, so that they are handed out where a cluster ends, or nothing that grows.
+#[derive(Clone, Copy, Debug, Drop, PartialEq, Eq)]
+pub enum Journals {
+    Kept,
+    Unkept,
+}
+
+/// A copy that is to be served, with a journal that begins as it does.
+fn ready_of<D: LogDevice>(
+    alloc: Global,
+    journals: Journals,
+    opening: Opening,
+    copy: Copy<D>,
+) -> Ready<D>
+    requires copy { copy.copy ≡ opening }
+    requires open { copy.closed ≡ false }
+    requires whole { opening.point ≡ length opening.records }
+    ensures { result.held ≡ journal (keeps journals) opening [] }
+{
+    match journals {
+        Journals::Kept => Ready {
+            held: Held::new(alloc, opening, copy),
+        },
+        Journals::Unkept => {
+            drop(opening);
+            Ready {
+                held: Held::unkept(copy),
+            }
+        }
+    }
+}
+
 /// A copy of a new index of so many, over a device without records.
 pub(crate) fn new_copy<D: LogDevice>(
     alloc: Global,
+    journals: Journals,
     id: u32,
     copies: u32,
     mapping: &Mapping,
     device: D,
 ) -> Result<Ready<D>, CopyFault>
     requires { 1 ≤ copies }
-    ensures { IfOk result (λ r. r.held ≡ record { opening = begun id copies mapping.now; deeds = [] }) }
+    ensures { IfOk result (λ r. r.held ≡ journal (keeps journals) (begun id copies mapping.now) []) }
 {
     let opening = Opening::begun(id, copies, mapping.copy(alloc)?);
     match Copy::begin(alloc, id, copies, mapping.copy(alloc)?, device) {
-        Ok(copy) => Ok(Ready {
-            held: Held::new(alloc, opening, copy),
-        }),
+        Ok(copy) => Ok(ready_of(alloc, journals, opening, copy)),
         Err(refused) => Err(refused.into_fault()),
     }
 }
@@ -144,19 +176,18 @@ pub(crate) fn new_copy<D: LogDevice>(
 /// A copy that joins an index, over a device without records.
 pub(crate) fn joining_copy<D: LogDevice>(
     alloc: Global,
+    journals: Journals,
     id: u32,
     mapping: &Mapping,
     device: D,
 ) -> Result<Ready<D>, CopyFault>
-    ensures { IfOk result (λ r. r.held ≡ record { opening = opened id Added mapping.now []; deeds = [] }) }
+    ensures { IfOk result (λ r. r.held ≡ journal (keeps journals) (opened id Added mapping.now []) []) }
 {
     let opening = Opening::opened(id, Birth::Added, mapping.copy(alloc)?, Vec::new(alloc));
     match Copy::open(alloc, id, Birth::Added, mapping.copy(alloc)?, device) {
         Ok(copy) => {
             if copy.point() == 0 {
-                Ok(Ready {
-                    held: Held::new(alloc, opening, copy),
-                })
+                Ok(ready_of(alloc, journals, opening, copy))
             } else {
                 Err(CopyFault::Mismatch)
             }
@@ -168,12 +199,29 @@ pub(crate) fn joining_copy<D: LogDevice>(
 /// The copy that a device holds; its journal begins with the records that it holds. One that joined the index has some.
 pub(crate) fn kept_copy<D: LogDevice>(
     alloc: Global,
+    journals: Journals,
     id: u32,
     birth: Birth,
     mapping: &Mapping,
     device: D,
 ) -> Result<Ready<D>, CopyFault>
-    ensures { IfOk result (λ r. IsKept id birth mapping.now (D.bytes device) r.held) }
+    ensures { IfOk result (λ r. IsKept id birth mapping.now (D.bytes device) (keeps journals) r.held) }
+{
+    match journals {
+        Journals::Kept => journaled_copy(alloc, id, birth, mapping, device),
+        Journals::Unkept => unjournaled_copy(alloc, id, birth, mapping, device),
+    }
+}
+
+/// One whose journal is kept, for which the records are read once more.
+fn journaled_copy<D: LogDevice>(
+    alloc: Global,
+    id: u32,
+    birth: Birth,
+    mapping: &Mapping,
+    device: D,
+) -> Result<Ready<D>, CopyFault>
+    ensures { IfOk result (λ r. IsKept id birth mapping.now (D.bytes device) true r.held) }
 {
     let mut log = Translog::over(device);
     let (records, _torn) = log.read(alloc)?;
@@ -185,6 +233,30 @@ pub(crate) fn kept_copy<D: LogDevice>(
         Ok(copy) => Ok(Ready {
             held: Held::new(alloc, opening, copy),
         }),
+        Err(refused) => Err(refused.into_fault()),
+    }
+}
+
+/// One whose journal isn't.
+fn unjournaled_copy<D: LogDevice>(
+    alloc: Global,
+    id: u32,
+    birth: Birth,
+    mapping: &Mapping,
+    device: D,
+) -> Result<Ready<D>, CopyFault>
+    ensures { IfOk result (λ r. IsKept id birth mapping.now (D.bytes device) false r.held) }
+{
+    match Copy::open(alloc, id, birth, mapping.copy(alloc)?, device) {
+        Ok(copy) => {
+            if birth == Birth::Added && copy.point() == 0 {
+                Err(CopyFault::Mismatch)
+            } else {
+                Ok(Ready {
+                    held: Held::unkept(copy),
+                })
+            }
+        }
         Err(refused) => Err(refused.into_fault()),
     }
 }

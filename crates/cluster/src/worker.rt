@@ -118,6 +118,7 @@ impl<D: LogDevice, G: Gate> Worker<D, G> {
 
     /// One call of the copy: its entry, also where the copy refuses.
     fn made<R: Wait>(&mut self, rt: &R, input: Input) -> Result<Receipt, NodeFault> {
+        self.forget();
         match self.cell.call(rt, self.alloc, &mut self.pass, input) {
             Ok(receipt) => Ok(receipt),
             Err(NodeFault::Copy(fault)) => match self.pass.receipts().last() {
@@ -125,6 +126,14 @@ impl<D: LogDevice, G: Gate> Worker<D, G> {
                 None => Err(NodeFault::Copy(fault)),
             },
             Err(fault) => Err(fault),
+        }
+    }
+
+    /// Lets go of the receipts of earlier calls, where nobody asks for them when the cluster ends.
+    fn forget(&mut self) {
+        if !self.cell.held().is_kept() {
+            let before = std::mem::replace(&mut self.pass, Pass::new(self.alloc, self.number));
+            drop(before);
         }
     }
 

@@ -1,17 +1,19 @@
 -- What a call leaves.
-use Rattle.std.proofs.Common.{◌≡◌, ℕ, suc, List, [], ◌∷◌, ◌++◌, length, refl, sym, ap, subst, ◌∙◌, Result, Ok, Err, IfErr}
+use Rattle.std.proofs.Common.{◌≡◌, ℕ, suc, Bool, false, List, [], ◌∷◌, ◌++◌, length, refl, sym, ap, subst, ◌∙◌, Result, Ok, Err, IfErr}
 use Rattle.std.specs.Prelude.{Some, slice_get}
 use Rattle.replica.specs.declared.input.Input.{Input}
+use Rattle.replica.specs.Copy.{Copy}
 use Rattle.replica.specs.Logged.{Logged, IsLogged}
 use Rattle.journal.specs.declared.journal.Deed.{Deed}
 use Rattle.journal.specs.Journal.{Standing, IsLegal, IsLegalAt, after, next, open_at}
 use Rattle.node.specs.declared.fault.NodeFault.{NodeFault}
-use Rattle.node.specs.declared.fault.NodeFault.TheVariants.{NoMemory, NoSeat, Copy as Refused, Stray}
+use Rattle.node.specs.declared.fault.NodeFault.TheVariants.{NoMemory, NoSeat, Copy as Refused, Stray, Forgotten}
 use Rattle.node.specs.Entry.{Receipt, IsEntryAt}
 use Rattle.node.specs.declared.telling.Entered.{Entered}
 use Rattle.node.specs.declared.telling.Told.{Told}
 use Rattle.node.specs.Passes.{PassData}
-use Rattle.node.specs.Held.{JournalData, IsHeld, IsRefusal, IsLastOf}
+use Rattle.chronicle.specs.Ledger.{LedgerData, recorded}
+use Rattle.node.specs.Held.{JournalData, journal, IsHeld, IsRefusal, IsLastOf}
 use Rattle.node.specs.Stands.{IsDenied, LastStands}
 use Rattle.node.specs.Telling.{IsEntered, IsTelling, receipt, given_of}
 use Rattle.node.specs.Replay.{IsIdle, IsReplayed, IsStep}
@@ -29,6 +31,19 @@ legal_snoc s place (e ∷ deeds) d h at = (h.0, legal_snoc (next s place e) (suc
 replayed_snoc : (s : Standing) (place : ℕ) (deeds : List Deed) (d : Deed) (new : Logged) → ((at : ℕ) → IsReplayed (next (after s place deeds) at d) new) → IsReplayed (after s place (deeds ++ d ∷ [])) new
 replayed_snoc s place [] d new h = h place
 replayed_snoc s place (e ∷ deeds) d new h = replayed_snoc (next s place e) (suc place) deeds d new h
+
+-- ---- the ledger of a journal
+
+pub ready : (r : LedgerData Deed) (kept : Bool) (entries : List Deed) (opening : Copy) → r.kept ≡ kept → r.entries ≡ entries → journal kept opening entries ≡ journal r.kept opening r.entries
+ready r kept entries opening k e = ap (λ (b : Bool). journal b opening entries) (sym k) ∙ ap (λ (es : List Deed). journal r.kept opening es) (sym e)
+
+-- with one entry more
+pub grown : (r q : LedgerData Deed) (kept : Bool) (entries : List Deed) (opening : Copy) (d : Deed) → r.kept ≡ kept → r.entries ≡ entries → q ≡ recorded r.kept false (r.entries ++ d ∷ [])
+    → journal q.kept opening q.entries ≡ record (journal kept opening entries) { deeds = entries ++ d ∷ [] }
+grown r q kept entries opening d k e more =
+    ap (λ (l : LedgerData Deed). journal l.kept opening l.entries) more ∙ ap (λ (b : Bool). journal b opening (r.entries ++ d ∷ [])) k ∙ ap (λ (es : List Deed). journal kept opening (es ++ d ∷ [])) e
+
+-- ---- a step
 
 -- a step is one entry more
 pub held_step : (h : JournalData) (d : Deed) (old new : Logged) → IsHeld h old → IsLogged old → IsStep old new d.input d.answer
@@ -96,4 +111,5 @@ denied old new p q asked (Ok x) stands h = tt
 denied old new p q asked (Err NoMemory) stands h = h
 denied old new p q asked (Err NoSeat) stands h = absurd h
 denied old new p q asked (Err (Stray place)) stands h = absurd h
+denied old new p q asked (Err (Forgotten place)) stands h = absurd h
 denied old new p q asked (Err (Refused e)) stands h = (h, stands)

@@ -1,20 +1,29 @@
 -- A copy with its journal.
-use Rattle.std.specs.Prelude.{◌≡◌, List, [], ◌∷◌, ◌++◌, length, Err}
+use Rattle.std.specs.Prelude.{◌≡◌, Bool, false, List, [], ◌∷◌, ◌++◌, length, Err}
 use Rattle.replica.specs.declared.input.Input.{Input}
-use Rattle.replica.specs.Copy.{Copy}
+use Rattle.replica.specs.Copy.{Copy, begun}
 use Rattle.replica.specs.Logged.{Logged}
 use Rattle.journal.specs.declared.journal.Deed.{Deed}
 use Rattle.journal.specs.Journal.{IsLegal, IsLegalAt, after, open_at}
 use Rattle.node.specs.declared.fault.NodeFault.{NodeFault}
-use Rattle.node.specs.declared.fault.NodeFault.TheVariants.{NoMemory, NoSeat, Copy as Refused, Stray}
+use Rattle.node.specs.declared.fault.NodeFault.TheVariants.{NoMemory, NoSeat, Copy as Refused, Stray, Forgotten}
 use Rattle.node.specs.Entry.{Receipt}
 use Rattle.node.specs.Passes.{PassData}
 use Rattle.node.specs.Replay.{IsReplayed}
 
--- the journal of a copy: what the copy was at the beginning, and its calls since
+-- the journal of a copy: whether memory has it, what the copy was at the beginning, and its calls since
 pub record JournalData : Type 0 where
+  pub kept : Bool
   pub opening : Copy
   pub deeds : List Deed
+
+-- the first of some copies (a held copy has noted one, as it was at the beginning)
+abbrev pub opening_of : List Logged → Copy
+opening_of [] = begun 0 0 (record { strict = false; fields = [] })
+opening_of (l ∷ ls) = l.copy
+
+abbrev pub journal : Bool → Copy → List Deed → JournalData
+journal kept opening deeds = record { kept = kept; opening = opening; deeds = deeds }
 
 -- the journal is legal, and the copy is what it says
 pub record IsHeld (h : JournalData) (l : Logged) : Type 0 where
@@ -36,6 +45,7 @@ abbrev pub IsRefusal : JournalData → JournalData → PassData → PassData →
 IsRefusal old new p q input NoMemory = (new ≡ old) × (q ≡ p)
 IsRefusal old new p q input NoSeat = ⊥
 IsRefusal old new p q input (Stray place) = ⊥
+IsRefusal old new p q input (Forgotten place) = ⊥
 IsRefusal old new p q input (Refused e) = (r : Receipt) × IsCall old new p q input r × (r.deed.answer ≡ Err e)
 
 -- the receipt is the last of a legal journal

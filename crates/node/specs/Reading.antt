@@ -9,7 +9,7 @@ use Rattle.replica.specs.Copy.{Copy, operations}
 use Rattle.replica.specs.Step.{get_answer}
 use Rattle.journal.specs.Journal.{IsLegal, Standing, after, open_at}
 use Rattle.node.specs.declared.fault.NodeFault.{NodeFault}
-use Rattle.node.specs.declared.fault.NodeFault.TheVariants.{NoMemory, NoSeat, Copy as Refused, Stray}
+use Rattle.node.specs.declared.fault.NodeFault.TheVariants.{NoMemory, NoSeat, Copy as Refused, Stray, Forgotten}
 use Rattle.node.specs.Held.{JournalData}
 
 -- what a copy has of an id, of all its records
@@ -66,4 +66,5 @@ abbrev pub IsUngot : JournalData → NodeFault → Type 0
 IsUngot h NoMemory = Unit {0}
 IsUngot h NoSeat = ⊥
 IsUngot h (Stray place) = ⊥
+IsUngot h (Forgotten place) = ⊥
 IsUngot h (Refused e) = IsUnreadable h e

@@ -15,6 +15,8 @@ pub enum NodeFault {
     Copy(CopyFault),
     #[error("the receipt of place {0} isn't of this journal")]
     Stray(u64),
+    #[error("the journal isn't kept, and has forgotten its entry of place {0}")]
+    Forgotten(u64),
 }
 
 impl From<AllocError> for NodeFault {

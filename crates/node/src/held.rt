@@ -1,13 +1,13 @@
 //! A copy with its journal.
-ghost use Rattle.std.specs.Prelude.{◌≡◌, [], true, false, length, Some, slice_get, IfOk, IfErr, IfSome, IfNone, IsOk, OnErr};
+ghost use Rattle.std.specs.Prelude.{◌≡◌, [], ◌∷◌, true, false, length, is_some, Some, slice_get, IfOk, IfErr, IfSome, IfNone, IsOk, OnErr};
 ghost use Rattle.journal.specs.Journal.{IsLegal, open_at};
 ghost use Rattle.journal.specs.declared.journal.Journal.TheVariants.{OfCopy};
 ghost use Rattle.translog.specs.declared.fault.LogFault.TheVariants.{Device};
 ghost use Rattle.replica.specs.declared.fault.CopyFault.TheVariants.{Log};
 ghost use Rattle.node.specs.declared.fault.NodeFault.TheVariants.{Copy as Refused};
 ghost use Rattle.node.specs.Reading.{IsGotFrom, IsUngot};
-ghost use Rattle.node.specs.Stands.{IsDenied, IsStray, LastStands};
-ghost use Rattle.node.specs.Held.{IsCall, IsHeld, IsLastOf, IsRefusal};
+ghost use Rattle.node.specs.Stands.{IsBarred, IsDenied, LastStands};
+ghost use Rattle.node.specs.Held.{journal, IsCall, IsHeld, IsLastOf, IsRefusal};
 ghost use Rattle.node.specs.Telling.{receipt, IsEntered};
 
 use crate::both::both;
@@ -17,9 +17,10 @@ use crate::on_disk::OnDisk;
 use crate::pass::Pass;
 use crate::reading::read;
 use crate::receipt::Receipt;
-use crate::standing::stands_at;
+use crate::standing::equal_deed;
 use crate::syncing::synced;
 use crate::telling::{Entered, Inputs, Told, tell};
+use chronicle::{Chronicle, Ledger, Mark};
 use doc::DocId;
 use engine::Merged;
 use journal::{Deed, Deeds, Journal, Opening};
@@ -28,39 +29,71 @@ use std::alloc::{AllocError, Global};
 use std::marker::Model;
 use translog::LogDevice;
 
-/// A copy with its journal. Contracts see the journal, which is legal.
+/// What a copy is, for clauses alone.
+fn noted<D: LogDevice>(copy: &Copy<D>) -> Mark<Copy<D>>
+    ensures { result.entries ≡ copy.now ∷ [] }
+{
+    let chronicle = Chronicle::new();
+    let mut writer = chronicle.writer();
+    writer.append(&chronicle, copy)
+}
+
+/// A copy with its journal. Contracts see the journal, which is legal; memory has it where it is to be kept.
 #[derive(Drop)]
 pub struct Held<D: LogDevice> {
     node: u32,
-    opening: Opening,
-    deeds: Vec<Deed>,
+    first: Mark<Copy<D>>,
+    opening: Option<Opening>,
+    deeds: Ledger<Deed>,
     copy: Copy<D>,
 }
 
 impl<D: LogDevice> Model for Held<D> {
-    ghost use Rattle.std.specs.Prelude.{◌≡◌};
-    ghost use Rattle.node.specs.Held.{JournalData, IsHeld};
+    ghost use Rattle.std.specs.Prelude.{◌≡◌, is_some, IfSome};
+    ghost use Rattle.node.specs.Held.{JournalData, journal, opening_of, IsHeld};
 
     ghost Value = { JournalData };
 
-    ghost view = { λ h. record { opening = h.opening; deeds = h.deeds.items } };
+    ghost view = { λ h. journal h.deeds.kept (opening_of h.first.entries) h.deeds.entries };
 
-    ghost invariant = { λ h. (h.node ≡ h.opening.id) × IsHeld (record { opening = h.opening; deeds = h.deeds.items }) h.copy };
+    ghost invariant = { λ h. (h.node ≡ (opening_of h.first.entries).id) × IsHeld (journal h.deeds.kept (opening_of h.first.entries) h.deeds.entries) h.copy × (is_some h.opening ≡ h.deeds.kept) × IfSome h.opening (λ o. o ≡ (opening_of h.first.entries)) };
 }
 
 impl<D: LogDevice> Held<D> {
-    /// A copy that has made no step since its opening.
+    /// A copy that has made no step since its opening, whose journal memory is to have.
     pub fn new(alloc: Global, opening: Opening, copy: Copy<D>) -> Held<D>
         requires copy { copy.copy ≡ opening }
         requires open { copy.closed ≡ false }
-        ensures { result ≡ record { opening = opening; deeds = [] } }
+        ensures { result ≡ journal true opening [] }
     {
         Held {
             node: copy.id(),
-            opening,
-            deeds: Vec::new(alloc),
+            first: noted(&copy),
+            opening: Some(opening),
+            deeds: Ledger::kept(alloc),
             copy,
         }
+    }
+
+    /// A copy whose journal begins with what the copy is, and which memory isn't to have.
+    pub fn unkept(copy: Copy<D>) -> Held<D>
+        requires open { copy.closed ≡ false }
+        ensures { result ≡ journal false copy.copy [] }
+    {
+        Held {
+            node: copy.id(),
+            first: noted(&copy),
+            opening: None,
+            deeds: Ledger::unkept(),
+            copy,
+        }
+    }
+
+    /// Whether memory has the journal.
+    pub fn is_kept(&self) -> bool
+        ensures { result ≡ self.now.kept }
+    {
+        self.deeds.is_kept()
     }
 
     /// The copy is what its journal says.
@@ -78,7 +111,8 @@ impl<D: LogDevice> Held<D> {
     }
 
     /// One call of the copy, which is one entry of its journal and a receipt of the pass, also where the copy refuses.
-    /// A pass whose last receipt isn't in the journal at its place is refused.
+    /// A pass whose last receipt isn't in the journal at its place is refused; so is one whose last receipt can't be looked at, as the journal isn't
+    /// kept, and it isn't that of the last entry.
     pub fn call(
         &mut self,
         alloc: Global,
@@ -90,29 +124,26 @@ impl<D: LogDevice> Held<D> {
         ensures err { IfErr result (λ e. IsDenied self.old self.new pass.old pass.new input e) }
         ensures last { IfOk result (IsLastOf self.new) }
     {
-        if let Some(place) = self.stray_of(pass) {
+        if let Some(fault) = self.barring(pass) {
             drop(input);
-            return Err(NodeFault::Stray(place));
+            return Err(fault);
         }
         self.add(alloc, pass, input)
     }
 
-    /// The place of the pass's last receipt, where that doesn't stand there.
-    fn stray_of(&self, pass: &Pass) -> Option<u64>
-        ensures stray { IfSome result (IsStray self.now pass.now) }
+    /// Why a pass may make no call: its last receipt doesn't stand, or that can't be looked at.
+    fn barring(&self, pass: &Pass) -> Option<NodeFault>
+        ensures barred { IfSome result (IsBarred self.now pass.now) }
         ensures stands { IfNone result (LastStands self.now pass.now) }
     {
-        match pass.receipts.last() {
-            Some(receipt) => {
-                if receipt.node() == self.node
-                    && stands_at(&self.deeds, receipt.place(), receipt.deed())
-                {
-                    None
-                } else {
-                    Some(receipt.place())
-                }
-            }
-            None => None,
+        let Some(receipt) = pass.receipts.last() else {
+            return None;
+        };
+        let place = receipt.place();
+        match self.deeds.at(place) {
+            Some(deed) if receipt.node() == self.node && equal_deed(deed, receipt.deed()) => None,
+            None if !self.deeds.is_kept() => Some(NodeFault::Forgotten(place)),
+            _ => Some(NodeFault::Stray(place)),
         }
     }
 
@@ -137,12 +168,12 @@ impl<D: LogDevice> Held<D> {
         ensures ok { IfOk result (IsEntered self.old self.new pass input) }
         ensures err { OnErr result (self.new ≡ self.old) }
     {
-        let (input, _) = both(input, self.deeds.reserve(1))?;
+        let (input, _) = both(input, self.deeds.reserve())?;
         let inputs = Inputs::of(alloc, input)?;
-        let place = self.deeds.len() as u64;
+        let place = self.deeds.len();
         self.copy.is_logged();
         let Told { own, kept, given } = tell(&mut self.copy, alloc, pass, inputs)?;
-        self.deeds.push_reserved(own);
+        self.deeds.push(own);
         Ok(Entered { place, kept, given })
     }
 
@@ -164,7 +195,7 @@ impl<D: LogDevice> Held<D> {
             return Err(NodeFault::Copy(CopyFault::Closed));
         }
         let asked = id.copy(alloc)?;
-        let place = self.deeds.len() as u64;
+        let place = self.deeds.len();
         let answer = read(&mut self.copy, alloc, asked)?;
         Ok(Got {
             node: self.node,
@@ -182,7 +213,7 @@ impl<D: LogDevice> Held<D> {
         ensures refused { IfErr result (λ e. e ≡ Refused (Log Device)) }
         ensures in_memory { D.in_memory ≡ true → IsOk result }
     {
-        let entries = self.deeds.len() as u64;
+        let entries = self.deeds.len();
         let log = synced(&mut self.copy)?;
         Ok(OnDisk::of(log, entries))
     }
@@ -201,18 +232,30 @@ impl<D: LogDevice> Held<D> {
         self.copy.swap_merged(alloc, merged)
     }
 
-    /// The journal, for which the copy is given up.
-    pub fn into_journal(self) -> Journal
-        ensures same { result ≡ OfCopy self.opening self.deeds }
+    /// The journal where memory has it, for which the copy is given up.
+    pub fn into_journal(self) -> Option<Journal>
+        ensures kept { is_some result ≡ self.kept }
+        ensures same { IfSome result (λ j. j ≡ OfCopy self.opening self.deeds) }
         ensures legal { IsLegal (open_at self.opening) 0 self.deeds }
     {
         let Held {
             node: _,
+            first: _first,
             opening,
             deeds,
             copy,
         } = self;
         drop(copy);
-        Journal::OfCopy(opening, Deeds::from_vec(deeds))
+        let deeds = deeds.into_entries();
+        match (opening, deeds) {
+            (Some(opening), Some(deeds)) => {
+                Some(Journal::OfCopy(opening, Deeds::from_vec(deeds)))
+            }
+            (opening, deeds) => {
+                drop(opening);
+                drop(deeds);
+                None
+            }
+        }
     }
 }

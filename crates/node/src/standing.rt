@@ -16,7 +16,7 @@ fn equal_answer(answer: &Result<Output, CopyFault>, other: &Result<Output, CopyF
 }
 
 /// Whether two entries are the same.
-fn equal_deed(deed: &Deed, other: &Deed) -> bool
+pub(crate) fn equal_deed(deed: &Deed, other: &Deed) -> bool
     ensures { IsTrue result ↔ (deed.now ≡ other.now) }
 {
     deed.pass == other.pass

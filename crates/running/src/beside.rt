@@ -3,7 +3,7 @@
 use crate::judging::ended;
 use crate::writing::{put, told};
 use anyhow::Result;
-use cluster::{Client, Cluster, Gate, InMemory};
+use cluster::{Client, Cluster, Gate, InMemory, Journals};
 use doc::Mapping;
 use node::Receipt;
 use std::alloc::Global;
@@ -81,7 +81,16 @@ fn run_one<R: Threads + Wait + Print + Clock + Copy + Send + Sync + Drop + 'stat
     let gave_up = Arc::new(alloc, AtomicBool::new(false))?;
     let gate = Turns::new(*rt, held, first, Arc::try_clone(&gave_up)?);
     let devices = InMemory { alloc };
-    let cluster = Cluster::start(rt, alloc, mapping.copy(alloc)?, 3, devices, gate).map_err(told)?;
+    let cluster = Cluster::start(
+        rt,
+        alloc,
+        mapping.copy(alloc)?,
+        3,
+        devices,
+        gate,
+        Journals::Kept,
+    )
+    .map_err(told)?;
     let mut receipts = Vec::new(alloc);
     let done = write_all(rt, alloc, cluster.client(), &mut receipts);
     let verdict = ended(rt, alloc, mapping, cluster, receipts)?;

@@ -5,7 +5,7 @@ use crate::judging::ended;
 use crate::shaky::OneShaky;
 use crate::writing::{found, told};
 use anyhow::Result;
-use cluster::{Client, Cluster, Open};
+use cluster::{Client, Cluster, Journals, Open};
 use doc::Mapping;
 use node::Receipt;
 use std::alloc::Global;
@@ -37,7 +37,16 @@ fn run_one<R: Threads + Wait + Print + Copy + Send + Sync + Drop + 'static>(
         bad,
         has_failed: Arc::new(alloc, AtomicBool::new(false))?,
     };
-    let cluster = Cluster::start(rt, alloc, mapping.copy(alloc)?, 3, devices, Open).map_err(told)?;
+    let cluster = Cluster::start(
+        rt,
+        alloc,
+        mapping.copy(alloc)?,
+        3,
+        devices,
+        Open,
+        Journals::Kept,
+    )
+    .map_err(told)?;
     let mut receipts = Vec::new(alloc);
     let done = work(rt, alloc, cluster.client(), &mut receipts);
     let verdict = ended(rt, alloc, mapping, cluster, receipts)?;

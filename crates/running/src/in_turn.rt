@@ -5,7 +5,7 @@ use crate::judging::ended;
 use crate::shaky::{OneShaky, Shaky};
 use crate::writing::{found, told};
 use anyhow::{Result, bail};
-use cluster::{Cluster, ClusterFault, Open};
+use cluster::{Cluster, ClusterFault, Journals, Open};
 use doc::Mapping;
 use node::Receipt;
 use std::alloc::Global;
@@ -90,6 +90,7 @@ fn fails_at<R: Threads + Wait + Copy + Send + Sync + Drop + 'static>(
         3,
         devices,
         Open,
+        Journals::Kept,
     );
     match started {
         Ok(cluster) => run_over(rt, alloc, mapping, cluster)?,

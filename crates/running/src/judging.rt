@@ -44,7 +44,10 @@ where
 {
     let closed = cluster.close(rt, &receipts);
     drop(receipts);
-    verdict_of(alloc, mapping, closed.map_err(told)?)
+    match closed.map_err(told)? {
+        Some(journals) => verdict_of(alloc, mapping, journals),
+        None => bail!("no journals were kept"),
+    }
 }
 
 /// What an audit of the journals says, which are written and read first.

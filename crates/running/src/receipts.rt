@@ -2,7 +2,7 @@
 
 use crate::writing::{put, told};
 use anyhow::{Result, bail};
-use cluster::{Client, Cluster, ClusterFault, InMemory, Open};
+use cluster::{Client, Cluster, ClusterFault, InMemory, Journals, Open};
 use doc::Mapping;
 use journal::Journal;
 use node::Receipt;
@@ -10,6 +10,9 @@ use std::alloc::Global;
 use std::sync::Wait;
 use std::thread::Threads;
 use translog::LogDevice;
+
+/// The journals of a cluster, or why there are none.
+type Closed = Result<Option<Vec<Journal>>, ClusterFault>;
 
 /// How many documents are written.
 const WRITES: u64 = 5;
@@ -21,10 +24,18 @@ fn written<R: Threads + Wait + Copy + Send + Drop + 'static>(
     mapping: &Mapping,
     writer: usize,
     others: Vec<Receipt>,
-) -> Result<(Vec<Receipt>, Result<Vec<Journal>, ClusterFault>)> {
+) -> Result<(Vec<Receipt>, Closed)> {
     let mut receipts = others;
     let devices = InMemory { alloc };
-    let cluster = match Cluster::start(rt, alloc, mapping.copy(alloc)?, 2, devices, Open) {
+    let cluster = match Cluster::start(
+        rt,
+        alloc,
+        mapping.copy(alloc)?,
+        2,
+        devices,
+        Open,
+        Journals::Kept,
+    ) {
         Ok(cluster) => cluster,
         Err(fault) => {
             drop(receipts);
@@ -57,7 +68,7 @@ fn write_all<R: Wait, D: LogDevice>(
 }
 
 /// The fault that the end of a cluster gives.
-fn fault_of(alloc: Global, closed: &Result<Vec<Journal>, ClusterFault>) -> Result<String> {
+fn fault_of(alloc: Global, closed: &Closed) -> Result<String> {
     match closed {
         Ok(_) => bail!("a receipt of another cluster is let through"),
         Err(fault) => Ok(format!(in alloc; "{fault}")?),

@@ -6,7 +6,7 @@ use crate::listening::listen_to_group;
 use crate::mapping::fields_of;
 use crate::opening::{Counted, OpeningLine};
 use crate::settings::Settings;
-use cluster::{Cluster, Devices, InMemory, Open, Unopened};
+use cluster::{Cluster, Devices, InMemory, Journals, Open, Unopened};
 use doc::Mapping;
 use folder::{KeptFolder, MappingFile, judge, keep_journals, open_folder};
 use journal::Journal;
@@ -75,13 +75,22 @@ where
     let alloc = rt.alloc();
     let copied = fields.copy(alloc)?;
     let copies = settings.copies.max(1).min(5) as u8;
-    match Cluster::start(rt, alloc, copied, copies, InMemory { alloc }, Open) {
+    match Cluster::start(
+        rt,
+        alloc,
+        copied,
+        copies,
+        InMemory { alloc },
+        Open,
+        kept_by(settings),
+    ) {
         Ok(cluster) => {
             let served = serve_cluster(rt, settings, fields, &cluster, output, errors);
             match journals_of(rt, cluster, served) {
-                Ok(journals) => tell_journals(
+                Ok(Some(journals)) => tell_journals(
                     rt, settings, mapping, fields, journals, output, errors,
                 ),
+                Ok(None) => Ok(()),
                 Err(fault) => Err(fault),
             }
         }
@@ -89,12 +98,21 @@ where
     }
 }
 
-/// Ends a cluster that has served, and gives its journals; or why it served no more.
+/// What memory is to have of the journals: they are for an audit alone.
+fn kept_by(settings: Settings<'_>) -> Journals {
+    if settings.audit {
+        Journals::Kept
+    } else {
+        Journals::Unkept
+    }
+}
+
+/// Ends a cluster that has served, and gives its journals, where they are kept; or why it served no more.
 fn journals_of<R, D, V>(
     rt: &R,
     cluster: Cluster<D, V, Open>,
     served: Result<(), ServeFault>,
-) -> Result<Vec<Journal>, ServeFault>
+) -> Result<Option<Vec<Journal>>, ServeFault>
 where
     R: Threads + Wait + Copy + Send + Drop + 'static,
     D: LogDevice + Send + 'static,
@@ -110,7 +128,7 @@ where
     }
 }
 
-/// Keeps journals where that is wanted, and audits them where that is.
+/// Keeps journals where that is wanted, and audits them.
 fn tell_journals<R, O, E>(
     rt: &R,
     settings: Settings<'_>,
@@ -160,9 +178,6 @@ fn audited<O: Write, E: Write>(
     output: &mut O,
     errors: &mut E,
 ) -> Result<(), ServeFault> {
-    if !settings.audit {
-        return Ok(());
-    }
     judge(
         alloc,
         fields,
@@ -276,7 +291,7 @@ where
         Ok(devices) => {
             let cluster = line.shown_while(rt, errors, || {
                 let copies = settings.copies.max(1).min(5) as u8;
-                Cluster::open(rt, alloc, copied, copies, devices, Open)
+                Cluster::open(rt, alloc, copied, copies, devices, Open, Journals::Unkept)
             });
             cluster.map_err(ServeFault::from)
         }

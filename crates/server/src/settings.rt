@@ -23,7 +23,7 @@ pub struct Settings<'a> {
     pub audit: bool,
     /// The folder that the journals are written to before they are audited.
     pub journals: Option<&'a str>,
-    /// After how many milliseconds the index is refreshed again; 0 for never.
+    /// After how many milliseconds the index is refreshed again, or sooner, where many writes came; 0 for never.
     pub refresh: u64,
     /// How many threads answer requests.
     pub threads: u64,
