@@ -38,9 +38,6 @@ def copies():
     with tempfile.TemporaryDirectory() as top:
         journals_kept(Path(top, "journals"))
         journals_over_a_promotion(Path(top, "others"))
-    with tempfile.TemporaryDirectory() as folder:
-        complains("an audit of a folder", ran("--port", free_port(), "--copies", "2", "--connections", "1", "--audit", "--data", f"{folder}/d"), 1, "--data")
-        check("and no folder is made", "" if not os.path.exists(f"{folder}/d") else "it is there")
     complains("an audit without an end", ran("--port", free_port(), "--copies", "2", "--audit"), 1, "--connections")
 
 

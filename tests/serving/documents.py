@@ -58,7 +58,7 @@ def refreshed():
             got = bodies(server.ask(PUT, b"GET /books/_count HTTP/1.1\r\n\r\n", pause=1))
             check(f"a refresh by time goes on until the last connection ends, {words[1]} copies", "" if got[1].get("count") == 1 else repr(got))
     for copies in (1, 3):
-        for writes, found in ((500, 0), (600, 600)):
+        for writes, found in ((2_000, 0), (2_100, 2_100)):
             with Server("--copies", copies, "--refresh-ms", 60_000) as server:
                 lines = b"".join(b'{"index":{"_id":"%d"}}\n{}\n' % it for it in range(writes))
                 server.ask(b"POST /books/_bulk HTTP/1.1\r\ncontent-length: %d\r\n\r\n%s" % (len(lines), lines))

@@ -21,7 +21,7 @@ use std::{io, thread};
 const TICK: u64 = 10;
 
 /// Once so many writes came the index is refreshed before its time: a write waits while a refresh builds what changed.
-const MANY: u64 = 512;
+const MANY: u64 = 2_048;
 
 /// How many connections are accepted before others are looked at.
 const MOST_ACCEPTED: u64 = 256;

@@ -15,10 +15,10 @@ pub enum ServeFault {
     TooLarge,
     NotJson(serde_json::Error),
     Mapping(DocFault),
-    AuditInFolder,
     EndlessAudit,
     JournalsAlone,
     SyncInMemory,
+    AuditOfKept,
     Data(DataFault),
     Copies(ClusterFault),
     Port(u16, io::Error),
@@ -40,10 +40,6 @@ impl Display for ServeFault {
             ServeFault::TooLarge => write!(f, "the mapping file has more than 1,048,576 bytes"),
             ServeFault::NotJson(error) => write!(f, "the mapping file isn't JSON: {error}"),
             ServeFault::Mapping(fault) => write!(f, "the mapping file is no mapping: {fault}"),
-            ServeFault::AuditInFolder => write!(
-                f,
-                "--audit is of a new index in memory: leave out --data, or --audit"
-            ),
             ServeFault::EndlessAudit => write!(
                 f,
                 "--audit is of a run that ends: give --connections too"
@@ -54,6 +50,10 @@ impl Display for ServeFault {
             ServeFault::SyncInMemory => write!(
                 f,
                 "--sync is of an index in a folder: give --data too, or leave out --sync"
+            ),
+            ServeFault::AuditOfKept => write!(
+                f,
+                "--audit is of a new index, and the folder of --data has one: give another folder, or leave out --audit"
             ),
             ServeFault::Data(fault) => write!(f, "the data folder: {fault}"),
             ServeFault::Copies(fault) => write!(f, "the copies: {fault}"),

@@ -10,7 +10,8 @@ use cluster::{Cluster, Devices, InMemory, Journals, Open, Unopened};
 use doc::Mapping;
 use folder::{KeptFolder, MappingFile, judge, keep_journals, open_folder};
 use journal::Journal;
-use std::alloc::Global;
+use std::alloc::{AllocError, Global};
+use std::fs;
 use std::fs::File;
 use std::io::Write;
 use std::net::{Net, TcpListener, TcpStream};
@@ -214,6 +215,9 @@ where
     O: Write,
     E: Write + Send,
 {
+    if settings.audit && has_index(rt, rt.alloc(), folder)? {
+        return Err(ServeFault::AuditOfKept);
+    }
     match open_folder(rt, folder, mapping) {
         Ok(
             KeptFolder {
@@ -221,7 +225,7 @@ where
                 lock,
             },
         ) => {
-            let ended = serve_folder(rt, settings, folder, &fields, output, errors);
+            let ended = serve_folder(rt, settings, folder, mapping, &fields, output, errors);
             drop(fields);
             drop(lock);
             ended
@@ -234,6 +238,7 @@ fn serve_folder<R, O, E>(
     rt: &R,
     settings: Settings<'_>,
     folder: &str,
+    mapping: Option<&MappingFile>,
     fields: &Mapping,
     output: &mut O,
     errors: &mut E,
@@ -256,10 +261,22 @@ where
     match opened(rt, settings, folder, fields, errors) {
         Ok(mut cluster) => {
             let served = serve_opened(rt, settings, fields, &mut cluster, output, errors);
-            journals_of(rt, cluster, served).map(drop)
+            match journals_of(rt, cluster, served) {
+                Ok(Some(journals)) => tell_journals(
+                    rt, settings, mapping, fields, journals, output, errors,
+                ),
+                Ok(None) => Ok(()),
+                Err(fault) => Err(fault),
+            }
         }
         Err(fault) => Err(fault),
     }
+}
+
+/// Whether a folder has an index: its mapping is the first that is written.
+fn has_index<R: Files>(rt: &R, alloc: Global, folder: &str) -> Result<bool, AllocError> {
+    let path = format!(in alloc; "{folder}/mapping.json")?;
+    Ok(fs::metadata(rt, path.as_str()).is_ok())
 }
 
 /// The copies of a folder, and shows meanwhile how far their opening is.
@@ -291,7 +308,7 @@ where
         Ok(devices) => {
             let cluster = line.shown_while(rt, errors, || {
                 let copies = settings.copies.max(1).min(5) as u8;
-                Cluster::open(rt, alloc, copied, copies, devices, Open, Journals::Unkept)
+                Cluster::open(rt, alloc, copied, copies, devices, Open, kept_by(settings))
             });
             cluster.map_err(ServeFault::from)
         }

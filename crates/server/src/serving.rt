@@ -75,7 +75,7 @@ where
     let Some(folder) = settings.data else {
         return serve_memory(rt, settings, mapping, output, errors);
     };
-    if settings.copies == 1 && settings.when_synced() == Syncing::Each {
+    if settings.copies == 1 && settings.when_synced() == Syncing::Each && !settings.audit {
         match open_alone(rt, settings, folder, mapping, errors) {
             Ok(kept) => return serve_kept(rt, settings, kept, output, errors),
             Err(DataFault::SeveralCopies) => {}

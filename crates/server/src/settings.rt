@@ -59,9 +59,6 @@ impl<'a> Settings<'a> {
 
 /// Whether the settings go together.
 pub(crate) fn check(settings: Settings<'_>) -> Result<(), ServeFault> {
-    if settings.audit && settings.data.is_some() {
-        return Err(ServeFault::AuditInFolder);
-    }
     if settings.audit && settings.connections.is_none() {
         return Err(ServeFault::EndlessAudit);
     }

@@ -170,7 +170,7 @@ fn with_ends<'a>(alloc: Global, command: Command<'a>) -> Result<Command<'a>, All
         alloc,
         command,
         "refresh-ms",
-        "After how many milliseconds the index is refreshed again, or sooner, behind 512 writes; up to 3600000; 0 for never, 1000 where none is given",
+        "After how many milliseconds the index is refreshed again, or sooner, behind 2048 writes; up to 3600000; 0 for never, 1000 where none is given",
         0,
         3_600_000,
     )
