@@ -13,6 +13,7 @@ ghost use Rattle.published.specs.Told.{IsOf};
 ghost use Rattle.node.specs.Reading.{standing, IsGotFrom, IsUngot};
 ghost use Rattle.node.specs.Stands.{LastStands};
 
+use chronicle::RegistryName;
 use doc::DocId;
 use engine::Merged;
 use journal::Journal;
@@ -26,12 +27,12 @@ use translog::LogDevice;
 
 /// A copy with its journal, and the publisher of what it shows. Contracts see the journal and the line of what was published, which is always a
 /// beginning of the copy's records. It is not `Drop`: end it by `close`.
-pub struct CopyCell<D: LogDevice> {
-    held: Held<D>,
+pub struct CopyCell<D: LogDevice, J: RegistryName> {
+    held: Held<D, J>,
     publisher: Publisher,
 }
 
-impl<D: LogDevice> Model for CopyCell<D> {
+impl<D: LogDevice, J: RegistryName> Model for CopyCell<D, J> {
     ghost use Rattle.cell.specs.Publishing.{CellData, IsPublished};
 
     ghost Value = { CellData };
@@ -60,7 +61,9 @@ fn showing_of<D: LogDevice>(copy: &Copy<D>) -> Result<Option<Showing>, AllocErro
 }
 
 /// The same of a copy with its journal.
-fn showing_in<D: LogDevice>(held: &Held<D>) -> Result<Option<Showing>, AllocError>
+fn showing_in<D: LogDevice, J: RegistryName>(
+    held: &Held<D, J>,
+) -> Result<Option<Showing>, AllocError>
     requires { (standing held.now).copy.point ≡ length (standing held.now).copy.records }
     ensures { IfOk result (λ o. IfSome o (IsShownBy (standing held.now).copy)) }
 {
@@ -74,10 +77,14 @@ fn is_refresh(input: &Input) -> bool
     matches!(input, Input::Refresh | Input::Restart)
 }
 
-impl<D: LogDevice> CopyCell<D> {
+impl<D: LogDevice, J: RegistryName> CopyCell<D, J> {
     /// A copy that shows all of its records. Where memory is wanting, or the copy is closed, it is given back.
     #[tactic(auto, using(crate::proofs::Growing::begun_published, crate::proofs::Growing::begun_all))]
-    pub fn begin<R: Wait>(rt: &R, alloc: Global, held: Held<D>) -> Result<CopyCell<D>, Held<D>>
+    pub fn begin<R: Wait>(
+        rt: &R,
+        alloc: Global,
+        held: Held<D, J>,
+    ) -> Result<CopyCell<D, J>, Held<D, J>>
         requires { (standing held).copy.point ≡ length (standing held).copy.records }
         ensures begun { IfOk result (IsBegun held) }
         ensures refused { IfErr result (λ h. h ≡ held) }
@@ -92,7 +99,7 @@ impl<D: LogDevice> CopyCell<D> {
     }
 
     /// The copy with its journal.
-    pub fn held(&self) -> &Held<D>
+    pub fn held(&self) -> &Held<D, J>
         ensures { result.now ≡ self.now.journal }
     {
         &self.held
@@ -100,7 +107,7 @@ impl<D: LogDevice> CopyCell<D> {
 
     /// What the copy has of an id, of all its records, as `Held::get` tells it; it makes no entry.
     #[tactic(auto, using(crate::proofs::Refusing::same_published))]
-    pub fn get(&mut self, alloc: Global, id: DocId) -> Result<Got, NodeFault>
+    pub fn get(&mut self, alloc: Global, id: DocId) -> Result<Got<J>, NodeFault>
         ensures got { IfOk result (IsGotFrom self.old.journal id) }
         ensures same { self.new ≡ self.old }
         ensures refused { IfErr result (IsUngot self.old.journal) }
@@ -133,9 +140,9 @@ impl<D: LogDevice> CopyCell<D> {
         &mut self,
         rt: &R,
         alloc: Global,
-        pass: &mut Pass,
+        pass: &mut Pass<J>,
         input: Input,
-    ) -> Result<Receipt, NodeFault>
+    ) -> Result<Receipt<J>, NodeFault>
         ensures ok { IfOk result (λ r. IsCall self.old.journal self.new.journal pass.old pass.new input r × IsOk r.deed.answer) }
         ensures stood { IfOk result (λ r. LastStands self.old.journal pass.old) }
         ensures shown { IfOk result (λ r. IsShownAfter input self.old self.new) }
@@ -144,15 +151,26 @@ impl<D: LogDevice> CopyCell<D> {
     {
         let shows = is_refresh(&input);
         let receipt = self.step(alloc, pass, input)?;
-        if shows {
-            self.show(rt, alloc)?;
+        if !shows {
+            return Ok(receipt);
         }
-        Ok(receipt)
+        match self.show(rt, alloc) {
+            Ok(()) => Ok(receipt),
+            Err(refused) => {
+                drop(receipt);
+                Err(NodeFault::from(refused))
+            }
+        }
     }
 
     /// The call, before anything is shown.
     #[tactic(auto, using(crate::proofs::Refusing::step_published, crate::proofs::Refusing::stepped, crate::proofs::Refusing::kept))]
-    fn step(&mut self, alloc: Global, pass: &mut Pass, input: Input) -> Result<Receipt, NodeFault>
+    fn step(
+        &mut self,
+        alloc: Global,
+        pass: &mut Pass<J>,
+        input: Input,
+    ) -> Result<Receipt<J>, NodeFault>
         ensures ok { IfOk result (λ r. IsCall self.old.journal self.new.journal pass.old pass.new input r × IsOk r.deed.answer) }
         ensures stood { IfOk result (λ r. LastStands self.old.journal pass.old) }
         ensures stepped { IfOk result (λ r. IsStepped input self.old self.new) }
@@ -193,9 +211,9 @@ impl<D: LogDevice> CopyCell<D> {
         &mut self,
         rt: &R,
         alloc: Global,
-        pass: &mut Pass,
+        pass: &mut Pass<J>,
         write: Write,
-    ) -> Result<(Receipt, Note<N>), NodeFault>
+    ) -> Result<(Receipt<J>, Note<N>), NodeFault>
         requires { IsOf N.named N.cell self.old.line.shown }
         ensures ok { IfOk result (λ r. IsWriteRefreshed self.old self.new pass.old pass.new write r.0 r.1) }
         ensures err { IfErr result (IsUnrefreshed self.old self.new pass.old pass.new write) }
@@ -218,7 +236,7 @@ impl<D: LogDevice> CopyCell<D> {
         &mut self,
         rt: &R,
         alloc: Global,
-        pass: &mut Pass,
+        pass: &mut Pass<J>,
     ) -> Result<Note<N>, NodeFault>
         requires { IsOf N.named N.cell self.old.line.shown }
         ensures ok { IfOk result (IsRefreshed self.old self.new pass.old pass.new) }

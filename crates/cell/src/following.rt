@@ -7,6 +7,7 @@ ghost use Rattle.published.specs.Told.{IsOf};
 ghost use Rattle.cell.specs.Publishing.{IsAllShown};
 
 use crate::cell::CopyCell;
+use chronicle::RegistryName;
 use engine::Hits;
 use node::{NodeFault, Pass};
 use published::Name;
@@ -19,11 +20,11 @@ use translog::LogDevice;
 
 /// A searcher that was given out before a write finds what the write's note tells of.
 #[tactic(auto, using(crate::proofs::Refreshing::note_found))]
-fn found_behind<N: Name, R: Wait, D: LogDevice>(
+fn found_behind<N: Name, R: Wait, D: LogDevice, J: RegistryName>(
     rt: &R,
     alloc: Global,
-    cell: &mut CopyCell<D>,
-    pass: &mut Pass,
+    cell: &mut CopyCell<D, J>,
+    pass: &mut Pass<J>,
     write: Write,
     query: &Query,
     page: Page,
@@ -47,11 +48,11 @@ fn found_behind<N: Name, R: Wait, D: LogDevice>(
 
 /// A write, and a search by a searcher that was given out before it, and has learned the write's note: it finds what the query means among all
 /// records of the copy, with the write's.
-pub fn write_is_found<R: Wait, D: LogDevice>(
+pub fn write_is_found<R: Wait, D: LogDevice, J: RegistryName>(
     rt: &R,
     alloc: Global,
-    cell: &mut CopyCell<D>,
-    pass: &mut Pass,
+    cell: &mut CopyCell<D, J>,
+    pass: &mut Pass<J>,
     write: Write,
     query: &Query,
     page: Page,
@@ -59,5 +60,5 @@ pub fn write_is_found<R: Wait, D: LogDevice>(
     ensures found { IfOk result (λ h. FindsAfter cell.new.line.shown (query_view query.now) page (hits_view h)) }
     ensures whole { OnOk result (IsAllShown cell.new) }
 {
-    found_behind::<Brand, R, D>(rt, alloc, cell, pass, write, query, page)
+    found_behind::<Brand, R, D, J>(rt, alloc, cell, pass, write, query, page)
 }

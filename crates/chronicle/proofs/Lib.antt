@@ -2,3 +2,4 @@ pub mod Lines
 pub mod Cells
 pub mod Steps
 pub mod Memories
+pub mod Registries

@@ -1,5 +1,6 @@
 -- What memory has of a ledger.
-use Rattle.std.specs.Prelude.{◌≡◌, ℕ, ◌<◌, ◌+◌, Bool, true, false, List, [], length, Some, None, slice_get, vec_len, vec_capacity}
+use Rattle.std.specs.Prelude.{◌≡◌, ℕ, ◌<◌, ◌+◌, Bool, true, false, List, [], length, Option, Some, None, slice_get, vec_len, vec_capacity}
+use Rattle.chronicle.specs.Written.{Written}
 use Rattle.chronicle.specs.declared.ledger.Memory.{Memory}
 use Rattle.chronicle.specs.declared.ledger.Memory.TheVariants.{All, Last}
 
@@ -19,3 +20,8 @@ module _ {E : Type 0} where
   abbrev pub HasRoom : Memory E → Type 0
   HasRoom (All all) = vec_len all < vec_capacity all
   HasRoom (Last last) = Unit {0}
+
+  -- the mark of all that was written; none where nothing was
+  abbrev pub IsMarked : Written E → Option (Written E) → Type 0
+  IsMarked w None = w.entries ≡ []
+  IsMarked w (Some mark) = mark ≡ w

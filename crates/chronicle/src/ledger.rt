@@ -1,9 +1,12 @@
 //! Entries that clauses know, and that memory has where they are wanted.
-ghost use Rattle.std.specs.Prelude.{◌≡◌, ◌+◌, List, [], ◌∷◌, ◌++◌, length, true, false, Some, None, slice_get, OnOk, IfSome, IfNone};
+ghost use Rattle.std.specs.Prelude.{◌≡◌, ℕ, ◌+◌, ◌≤◌, List, [], ◌∷◌, ◌++◌, length, true, false, Some, None, slice_get, OnOk, IfSome, IfNone};
+ghost use mathlib.Core.List.{IsPrefix};
 ghost use Rattle.chronicle.specs.Ledger.{recorded};
+ghost use Rattle.chronicle.specs.Written.{written, Stands};
 ghost use Rattle.chronicle.specs.Memory.{is_all, HasRoom, IsOf};
 
 use crate::chronicle::Chronicle;
+use crate::mark::Mark;
 use crate::writer::Writer;
 use std::alloc::{AllocError, Global};
 use std::marker::Model;
@@ -34,6 +37,7 @@ impl<E: Drop> Memory<E> {
 pub struct Ledger<E> {
     chronicle: Chronicle<E>,
     writer: Writer<E>,
+    last: Option<Mark<E>>,
     count: u64,
     ready: bool,
     memory: Memory<E>,
@@ -42,41 +46,42 @@ pub struct Ledger<E> {
 impl<E> Model for Ledger<E> {
     ghost use Rattle.std.specs.Prelude.{◌≡◌, ◌<◌, length, true};
     ghost use Rattle.chronicle.specs.Ledger.{LedgerData, ledger_coded, recorded};
-    ghost use Rattle.chronicle.specs.Memory.{is_all, HasRoom, IsOf};
+    ghost use Rattle.chronicle.specs.Memory.{is_all, HasRoom, IsMarked, IsOf};
 
     ghost Value = { LedgerData E };
 
     ghost coded = { ledger_coded E.code };
 
-    ghost view = { λ l. recorded (is_all l.memory) l.ready l.writer.entries };
+    ghost view = { λ l. recorded l.writer.line (is_all l.memory) l.ready l.writer.entries };
 
-    ghost invariant = { λ l. (l.writer.line.book ≡ l.chronicle) × (l.count ≡ length l.writer.entries) × IsOf l.writer.entries l.memory × (l.ready ≡ true → (l.count < 18446744073709551615) × HasRoom l.memory) };
+    ghost invariant = { λ l. (l.writer.line.book ≡ l.chronicle) × IsMarked l.writer l.last × (l.count ≡ length l.writer.entries) × IsOf l.writer.entries l.memory × (l.ready ≡ true → (l.count < 18446744073709551615) × HasRoom l.memory) };
 }
 
 impl<E: Drop> Ledger<E> {
     /// One without entries, which memory is to have.
     pub fn kept(alloc: Global) -> Ledger<E>
-        ensures { result ≡ recorded true false [] }
+        ensures { result ≡ recorded result.line true false [] }
     {
         Ledger::begin(Memory::All(Vec::new(alloc)))
     }
 
     /// One without entries, of which memory is to have the last.
     pub fn unkept() -> Ledger<E>
-        ensures { result ≡ recorded false false [] }
+        ensures { result ≡ recorded result.line false false [] }
     {
         Ledger::begin(Memory::Last(None))
     }
 
     fn begin(memory: Memory<E>) -> Ledger<E>
         requires { IsOf [] memory }
-        ensures { result ≡ recorded (is_all memory) false [] }
+        ensures { result ≡ recorded result.line (is_all memory) false [] }
     {
         let chronicle = Chronicle::new();
         let writer = chronicle.writer();
         Ledger {
             chronicle,
             writer,
+            last: None,
             count: 0,
             ready: false,
             memory,
@@ -114,6 +119,7 @@ impl<E: Drop> Ledger<E> {
 
     /// Makes room for one entry more.
     pub fn reserve(&mut self) -> Result<(), AllocError>
+        ensures line { self.new.line ≡ self.old.line }
         ensures kept { self.new.kept ≡ self.old.kept }
         ensures same { self.new.entries ≡ self.old.entries }
         ensures ready { OnOk result (self.new.ready ≡ true) }
@@ -128,16 +134,38 @@ impl<E: Drop> Ledger<E> {
         Ok(())
     }
 
-    /// Adds an entry, for which there is room.
-    pub fn push(&mut self, entry: E)
+    /// Adds an entry, for which there is room, and gives the mark of all entries up to it.
+    pub fn push(&mut self, entry: E) -> Mark<E>
         requires ready { self.old.ready ≡ true }
-        ensures { self.new ≡ recorded self.old.kept false (self.old.entries ++ entry ∷ []) }
+        ensures added { self.new ≡ recorded self.old.line self.old.kept false (self.old.entries ++ entry ∷ []) }
+        ensures mark { result ≡ written self.new.line self.new.entries }
     {
         let mark = self.writer.append(&self.chronicle, &entry);
-        drop(mark);
+        self.last = Some(mark.again());
         self.count += 1;
         self.ready = false;
         self.memory.add(entry);
+        mark
+    }
+
+    /// The mark of all entries; none where there is none.
+    pub fn mark(&self) -> Option<Mark<E>>
+        ensures some { IfSome result (λ m. m ≡ written self.now.line self.now.entries) }
+        ensures none { IfNone result (self.now.entries ≡ []) }
+    {
+        match &self.last {
+            Some(mark) => Some(mark.again()),
+            None => None,
+        }
+    }
+
+    /// A mark of this line says the same as it of each place that both reach.
+    pub fn agrees(&self, mark: &Mark<E>)
+        requires line { mark.now.line ≡ self.now.line }
+        ensures begins { length mark.now.entries ≤ length self.now.entries → IsPrefix mark.now.entries self.now.entries }
+        ensures same { (place : ℕ) (one two : E) → Stands (written self.now.line self.now.entries) place one → Stands mark.now place two → one ≡ two }
+    {
+        self.writer.agrees(mark);
     }
 
     /// The entries, where memory has all of them.
@@ -148,6 +176,7 @@ impl<E: Drop> Ledger<E> {
         let Ledger {
             chronicle: _chronicle,
             writer: _writer,
+            last: _last,
             count: _,
             ready: _,
             memory,

@@ -1,13 +1,22 @@
-//! One list that several writers append to, each by a right that nobody else has, with tokens of what stands where.
+//! One list that several writers append to, each by a right that nobody else has, with tokens of what stands where; and ledgers that are registered under numbers.
 #![tactic(auto)]
 
 mod chronicle;
 mod law;
 mod ledger;
 mod mark;
+mod name;
+mod prefix;
+mod registered;
+mod registry;
+mod seat;
 mod writer;
 
 pub use chronicle::Chronicle;
 pub use ledger::Ledger;
 pub use mark::Mark;
+pub use name::RegistryName;
+pub use prefix::Prefix;
+pub use registered::Registered;
+pub use registry::{Numbered, Registry, Unnamed};
 pub use writer::Writer;

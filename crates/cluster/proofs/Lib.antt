@@ -1,4 +1,7 @@
 pub mod Bulks
+pub mod Queues
+pub mod Kept
+pub mod Confirming
 pub mod Handed
 pub mod Refreshes
 pub mod Rulings

@@ -11,8 +11,8 @@ use Rattle.replica.specs.declared.output.Output.{Output}
 use Rattle.replica.specs.declared.output.Written.{Written}
 use Rattle.node.specs.Entry.{Receipt, IsEntry}
 use Rattle.cluster.specs.declared.confirmed.ConfirmedBulk.{ConfirmedBulk}
-use Rattle.cluster.specs.declared.fault.ClusterFault.{ClusterFault}
-use Rattle.cluster.specs.declared.fault.ClusterFault.TheVariants.{NoPrimary, Lost, Unconfirmed, NoMemory, NoSeat, Copy, Master, Stray, Running, Unopened}
+use Rattle.cluster.specs.declared.fault.WriteFault.{WriteFault}
+use Rattle.cluster.specs.declared.fault.WriteFault.TheVariants.{NoPrimary, Lost, Unconfirmed, Cluster}
 use Rattle.cluster.specs.Confirmed.{Acknowledges, is_no_primary, IsBehind}
 
 -- what became of the writes of a bulk
@@ -62,13 +62,13 @@ pub record AreBulkSettledAt (bulk : Receipt) (entries : List Receipt) (places : 
   pub acknowledged : AreSettledAt entries items places
 
 -- the bulk with this entry
-pub record IsSettledBulk (bulk : Receipt) (c : ConfirmedBulk) : Type 0 where
+pub record IsSettledBulk {J : Type 0} (bulk : Receipt) (c : ConfirmedBulk J) : Type 0 where
   pub is : c.bulk ≡ bulk
   pub settled : AreBulkSettledAt c.bulk c.acknowledgements.items c.places.items
   pub behind : All (IsBehind c.bulk) c.acknowledgements.items
 
--- a bulk with an entry of its own in a legal journal of its copy, and for each of its writes that was kept one of that copy that acknowledges it
-pub record IsBulkConfirmed (writes : List Write) (c : ConfirmedBulk) : Type 0 where
+-- a bulk with an entry of its own in the journal of its copy, and for each of its writes that was kept one behind it that acknowledges it
+pub record IsBulkConfirmed {J : Type 0} (writes : List Write) (c : ConfirmedBulk J) : Type 0 where
   pub asked : c.bulk.deed.input ≡ Bulk writes
   pub stands : IsEntry c.bulk
   pub settled : AreBulkSettledAt c.bulk c.acknowledgements.items c.places.items
@@ -87,14 +87,8 @@ pub record IsBulkLost (writes : List Write) (r : Receipt) : Type 0 where
   pub kept : HasKept r
 
 -- what a refused bulk shows: that no copy is the primary, or that something of it was kept, and where an entry ended the wait for it, that this stands behind
-abbrev pub IsBulkRefused : List Write → ClusterFault → Type 0
+abbrev pub IsBulkRefused : {J : Type 0} → List Write → WriteFault J → Type 0
 IsBulkRefused writes (NoPrimary r) = (r.deed.input ≡ Bulk writes) × IsEntry r × (is_no_primary r.deed.answer ≡ true)
 IsBulkRefused writes (Lost r last) = IsBulkLost writes r × IsBehind r last
 IsBulkRefused writes (Unconfirmed r) = IsBulkLost writes r
-IsBulkRefused writes NoMemory = Unit {0}
-IsBulkRefused writes NoSeat = Unit {0}
-IsBulkRefused writes (Copy f) = Unit {0}
-IsBulkRefused writes (Master f) = Unit {0}
-IsBulkRefused writes Running = Unit {0}
-IsBulkRefused writes (Stray place) = Unit {0}
-IsBulkRefused writes (Unopened tried) = Unit {0}
+IsBulkRefused writes (Cluster f) = Unit {0}

@@ -1,5 +1,6 @@
 -- Receipts that answer what was asked.
 use Rattle.std.specs.Prelude.{◌≡◌, ◌≤◌, ℕ, Bool, true, false, List, slice_get, Option, Some, None, Result, Ok, Err}
+use mathlib.Core.List.{IsPrefix}
 use Rattle.op.specs.declared.operation.Op.{Op}
 use Rattle.replica.specs.declared.fault.CopyFault.{CopyFault}
 use Rattle.replica.specs.declared.fault.CopyFault.TheVariants.{NotPrimary, VersionConflict, WindowFull, OldTerm, NotSynced, BeyondWindow, Mismatch, Closed, Log, NoMemory as OutOfMemory, WrongAddress, Exhausted}
@@ -12,8 +13,8 @@ use Rattle.replica.specs.declared.output.Output.{Output}
 use Rattle.replica.specs.declared.output.Written.{Written}
 use Rattle.node.specs.Entry.{Receipt, IsEntry}
 use Rattle.cluster.specs.declared.confirmed.Confirmed.{Confirmed}
-use Rattle.cluster.specs.declared.fault.ClusterFault.{ClusterFault}
-use Rattle.cluster.specs.declared.fault.ClusterFault.TheVariants.{NoPrimary, Lost, Unconfirmed, NoMemory, NoSeat, Copy, Master, Stray, Running, Unopened}
+use Rattle.cluster.specs.declared.fault.WriteFault.{WriteFault}
+use Rattle.cluster.specs.declared.fault.WriteFault.TheVariants.{NoPrimary, Lost, Unconfirmed, Cluster}
 
 -- the entry is of this node, and was asked this
 pub record IsAnswerTo (node : ℕ) (asked : Input) (r : Receipt) : Type 0 where
@@ -52,14 +53,15 @@ AcknowledgedBy (Err e) w = ⊥
 abbrev pub Acknowledges : Receipt → Written → Type 0
 Acknowledges r w = AcknowledgedBy r.deed.answer w
 
--- the second is of a legal journal of the same copy, at the place of the first or behind it
+-- the second is of the same journal, at the place of the first or behind it
 pub record IsBehind (first second : Receipt) : Type 0 where
   pub stands : IsEntry second
   pub copy : second.node ≡ first.node
   pub behind : first.place ≤ second.place
+  pub one : IsPrefix first.deeds second.deeds
 
--- a write with an entry of its own in a legal journal of its copy, and one of that copy that acknowledges it
-pub record IsConfirmed (write : Write) (c : Confirmed) : Type 0 where
+-- a write with an entry of its own in the journal of its copy, and one behind it that acknowledges it
+pub record IsConfirmed {J : Type 0} (write : Write) (c : Confirmed J) : Type 0 where
   pub written : Written
   pub asked : c.write.deed.input ≡ Client write
   pub stands : IsEntry c.write
@@ -68,7 +70,7 @@ pub record IsConfirmed (write : Write) (c : Confirmed) : Type 0 where
   pub behind : IsBehind c.write c.acknowledgement
 
 -- what the wait for an acknowledgement of a kept write gives
-pub record IsAcknowledgedWrite (receipt : Receipt) (written : Written) (c : Confirmed) : Type 0 where
+pub record IsAcknowledgedWrite {J : Type 0} (receipt : Receipt) (written : Written) (c : Confirmed J) : Type 0 where
   pub is : c.write ≡ receipt
   pub acknowledged : Acknowledges c.acknowledgement written
   pub behind : IsBehind c.write c.acknowledgement
@@ -89,44 +91,19 @@ is_no_primary (Err OutOfMemory) = false
 is_no_primary (Err WrongAddress) = false
 is_no_primary (Err Exhausted) = false
 
--- the refusal holds no entry
-abbrev pub IsBare : ClusterFault → Type 0
-IsBare (NoPrimary r) = ⊥
-IsBare (Lost r last) = ⊥
-IsBare (Unconfirmed r) = ⊥
-IsBare NoMemory = Unit {0}
-IsBare NoSeat = Unit {0}
-IsBare (Copy f) = Unit {0}
-IsBare (Master f) = Unit {0}
-IsBare Running = Unit {0}
-IsBare (Stray place) = Unit {0}
-IsBare (Unopened tried) = Unit {0}
-
 -- the refusal that an entry shows: that its copy isn't the primary, or another one, which holds no entry
-abbrev pub IsRefusalBy : Receipt → ClusterFault → Type 0
+abbrev pub IsRefusalBy : {J : Type 0} → Receipt → WriteFault J → Type 0
 IsRefusalBy receipt (NoPrimary r) = (r ≡ receipt) × (is_no_primary receipt.deed.answer ≡ true)
 IsRefusalBy receipt (Lost r last) = ⊥
 IsRefusalBy receipt (Unconfirmed r) = ⊥
-IsRefusalBy receipt NoMemory = Unit {0}
-IsRefusalBy receipt NoSeat = Unit {0}
-IsRefusalBy receipt (Copy f) = Unit {0}
-IsRefusalBy receipt (Master f) = Unit {0}
-IsRefusalBy receipt Running = Unit {0}
-IsRefusalBy receipt (Stray place) = Unit {0}
-IsRefusalBy receipt (Unopened tried) = Unit {0}
+IsRefusalBy receipt (Cluster f) = Unit {0}
 
--- a write that its copy kept wasn't acknowledged: the refusal holds its entry, and where another one ended that, it is of the same copy and stands behind; or it holds none
-abbrev pub IsEndOf : Receipt → ClusterFault → Type 0
+-- a write that its copy kept wasn't acknowledged: the refusal holds its entry, and where another one ended that, it is of the same journal and stands behind; or it holds none
+abbrev pub IsEndOf : {J : Type 0} → Receipt → WriteFault J → Type 0
 IsEndOf receipt (NoPrimary r) = ⊥
 IsEndOf receipt (Lost r last) = (r ≡ receipt) × IsBehind receipt last
 IsEndOf receipt (Unconfirmed r) = r ≡ receipt
-IsEndOf receipt NoMemory = Unit {0}
-IsEndOf receipt NoSeat = Unit {0}
-IsEndOf receipt (Copy f) = Unit {0}
-IsEndOf receipt (Master f) = Unit {0}
-IsEndOf receipt Running = Unit {0}
-IsEndOf receipt (Stray place) = Unit {0}
-IsEndOf receipt (Unopened tried) = Unit {0}
+IsEndOf receipt (Cluster f) = Unit {0}
 
 -- a write that its copy kept, and is perhaps lost
 pub record IsLost (write : Write) (r : Receipt) : Type 0 where
@@ -135,14 +112,8 @@ pub record IsLost (write : Write) (r : Receipt) : Type 0 where
   pub kept : (w : Written) × (wrote r.deed.answer ≡ Some w)
 
 -- what a refused write shows: that no copy is the primary, or that the write was kept, and where an entry ended the wait for it, that this stands behind
-abbrev pub IsWriteRefused : Write → ClusterFault → Type 0
+abbrev pub IsWriteRefused : {J : Type 0} → Write → WriteFault J → Type 0
 IsWriteRefused write (NoPrimary r) = (r.deed.input ≡ Client write) × IsEntry r × (is_no_primary r.deed.answer ≡ true)
 IsWriteRefused write (Lost r last) = IsLost write r × IsBehind r last
 IsWriteRefused write (Unconfirmed r) = IsLost write r
-IsWriteRefused write NoMemory = Unit {0}
-IsWriteRefused write NoSeat = Unit {0}
-IsWriteRefused write (Copy f) = Unit {0}
-IsWriteRefused write (Master f) = Unit {0}
-IsWriteRefused write Running = Unit {0}
-IsWriteRefused write (Stray place) = Unit {0}
-IsWriteRefused write (Unopened tried) = Unit {0}
+IsWriteRefused write (Cluster f) = Unit {0}

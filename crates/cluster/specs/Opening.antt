@@ -7,11 +7,10 @@ use Rattle.master.specs.Log.{header}
 use Rattle.cluster.specs.declared.opening.Journals.{Journals}
 use Rattle.cluster.specs.declared.opening.Journals.TheVariants.{Kept, Unkept}
 use Rattle.cluster.specs.declared.opening.Opened.{Opened}
-use Rattle.node.specs.Held.{JournalData}
 use Rattle.op.specs.declared.record.Record.{Record}
 use Rattle.replica.specs.declared.role.Birth.{Birth}
 use Rattle.replica.specs.declared.role.Birth.TheVariants.{First, Added}
-use Rattle.replica.specs.Copy.{opened}
+use Rattle.replica.specs.Copy.{Copy, opened}
 use Rattle.translog.specs.Frames.{contents_in}
 use Rattle.translog.specs.Kept.{kept}
 
@@ -56,10 +55,17 @@ abbrev pub keeps : Journals → Bool
 keeps Kept = true
 keeps Unkept = false
 
--- a copy that a log held, whose journal begins with the log's records, and which memory has or hasn't
-pub record IsKept (id : ℕ) (birth : Birth) (mapping : MappingData) (bytes : List ℕ) (kept_is : Bool) (j : JournalData) : Type 0 where
-  pub has : j.kept ≡ kept_is
+-- a copy that is to be served, and whether memory is to have its journal, which begins as it does
+pub record ReadyData : Type 0 where
+  pub kept : Bool
+  pub copy : Copy
+
+abbrev pub ready : Bool → Copy → ReadyData
+ready kept copy = record { kept = kept; copy = copy }
+
+-- a copy that a log held has the log's records
+pub record IsKept (id : ℕ) (birth : Birth) (mapping : MappingData) (bytes : List ℕ) (has : Bool) (r : ReadyData) : Type 0 where
+  pub kept_is : r.kept ≡ has
   pub records : List Record
   pub read : kept bytes ≡ Ok records
-  pub opening : j.opening ≡ opened id birth mapping records
-  pub deeds : j.deeds ≡ []
+  pub copy_is : r.copy ≡ opened id birth mapping records

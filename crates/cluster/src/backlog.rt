@@ -2,30 +2,21 @@
 ghost use Rattle.std.specs.Prelude.{◌≡◌, [], ◌∷◌, ◌++◌, List, IfErr, IfNone, IfSome, OnOk, OnErr};
 
 use crate::post::Post;
+use chronicle::RegistryName;
 use std::alloc::Global;
 use std::collections::VecDeque;
-use std::marker::Model;
 
 /// The posts that are held back, oldest first: a write or a bulk for which the window has no room, and what came from callers behind it.
 #[derive(Drop)]
-pub(crate) struct Backlog {
-    posts: VecDeque<Post>,
+pub(crate) struct Backlog<J: RegistryName> {
+    posts: VecDeque<Post<J>>,
     /// How many of the oldest are to wait no longer.
     freed: usize,
 }
 
-impl Model for Backlog {
-    ghost use Rattle.std.specs.Prelude.{List};
-    ghost use Rattle.cluster.specs.declared.post.Post.{Post};
-
-    ghost Value = { List Post };
-
-    ghost view = { λ b. b.posts.items };
-}
-
-impl Backlog {
-    pub(crate) fn new(alloc: Global) -> Backlog
-        ensures { result ≡ [] }
+impl<J: RegistryName> Backlog<J> {
+    pub(crate) fn new(alloc: Global) -> Backlog<J>
+        ensures { result.posts.items ≡ [] }
     {
         Backlog {
             posts: VecDeque::new(alloc),
@@ -43,7 +34,7 @@ impl Backlog {
     }
 
     /// The oldest.
-    pub(crate) fn first(&self) -> Option<&Post> {
+    pub(crate) fn first(&self) -> Option<&Post<J>> {
         self.posts.front()
     }
 
@@ -54,16 +45,16 @@ impl Backlog {
 
     /// Those that wait by now are to wait no longer.
     pub(crate) fn free(&mut self)
-        ensures { self.new ≡ self.old }
+        ensures { self.new.posts.items ≡ self.old.posts.items }
     {
         self.freed = self.posts.len();
     }
 
     /// Puts a post behind the others. Where there is no memory for that it is handed back.
-    pub(crate) fn push(&mut self, post: Post) -> Result<(), Post>
-        ensures ok { OnOk result (self.new ≡ self.old ++ post ∷ []) }
+    pub(crate) fn push(&mut self, post: Post<J>) -> Result<(), Post<J>>
+        ensures ok { OnOk result (self.new.posts.items ≡ self.old.posts.items ++ post ∷ []) }
         ensures err { IfErr result (λ p. p ≡ post) }
-        ensures same { OnErr result (self.new ≡ self.old) }
+        ensures same { OnErr result (self.new.posts.items ≡ self.old.posts.items) }
     {
         match self.posts.push_back(post) {
             Ok(()) => Ok(()),
@@ -72,9 +63,9 @@ impl Backlog {
     }
 
     /// The oldest post, which is taken out.
-    pub(crate) fn next(&mut self) -> Option<Post>
-        ensures some { IfSome result (λ p. self.old ≡ p ∷ self.new) }
-        ensures none { IfNone result ((self.old ≡ []) × (self.new ≡ [])) }
+    pub(crate) fn next(&mut self) -> Option<Post<J>>
+        ensures some { IfSome result (λ p. self.old.posts.items ≡ p ∷ self.new.posts.items) }
+        ensures none { IfNone result ((self.old.posts.items ≡ []) × (self.new.posts.items ≡ [])) }
     {
         self.freed = self.freed.saturating_sub(1);
         self.posts.pop_front()

@@ -6,8 +6,9 @@ use crate::gate::Gate;
 use crate::left::Left;
 use crate::merging::Merger;
 use crate::post::Post;
-use crate::ready::Ready;
+use crate::ready::Journaling;
 use crate::worker::{Tools, Worker};
+use chronicle::RegistryName;
 use crossbeam_channel::{Receiver, Sender};
 use engine::Merging;
 use std::alloc::{AllocError, Global};
@@ -20,43 +21,43 @@ use translog::LogDevice;
 const STACK: usize = 2 << 20;
 
 /// What a thread is started with.
-pub(crate) trait Work: Drop {
-    fn run(self) -> Left;
+pub(crate) trait Work<J: RegistryName>: Drop {
+    fn run(self) -> Left<J>;
 }
 
 /// What the threads of a copy are started with, beside the copy.
 #[derive(Drop)]
-pub(crate) struct Start<D: LogDevice, G: Gate> {
+pub(crate) struct Start<D: LogDevice, G: Gate, J: RegistryName> {
     pub(crate) alloc: Global,
-    pub(crate) tools: Tools<D, G>,
-    pub(crate) inbox: Receiver<Post, Global>,
+    pub(crate) tools: Tools<D, G, J>,
+    pub(crate) inbox: Receiver<Post<J>, Global>,
     pub(crate) merges: Receiver<Merging, Global>,
-    pub(crate) worker: Sender<Post, Global>,
+    pub(crate) worker: Sender<Post<J>, Global>,
 }
 
 /// A copy that is to be served, and where it is told whether it is.
 #[derive(Drop)]
-pub(crate) struct Bench<R: Wait + Drop, D: LogDevice, G: Gate> {
+pub(crate) struct Bench<R: Wait + Drop, D: LogDevice, G: Gate, J: RegistryName> {
     pub(crate) rt: R,
     pub(crate) alloc: Global,
     pub(crate) begun: Sender<bool, Global>,
-    pub(crate) tools: Tools<D, G>,
-    pub(crate) inbox: Receiver<Post, Global>,
-    pub(crate) ready: Ready<D>,
+    pub(crate) tools: Tools<D, G, J>,
+    pub(crate) inbox: Receiver<Post<J>, Global>,
+    pub(crate) copy: Journaling<D, J>,
 }
 
-impl<R: Wait + Drop, D: LogDevice, G: Gate> Work for Bench<R, D, G> {
+impl<R: Wait + Drop, D: LogDevice, G: Gate, J: RegistryName> Work<J> for Bench<R, D, G, J> {
     /// Takes posts in order until it is told to stop. Without memory for what searches are to see the copy isn't served.
-    fn run(self) -> Left {
+    fn run(self) -> Left<J> {
         let Bench {
             rt,
             alloc,
             begun,
             tools,
             inbox,
-            ready,
+            copy,
         } = self;
-        match ready.begin(&rt, alloc) {
+        match copy.begin(&rt, alloc) {
             Ok(cell) => {
                 sent(&rt, &begun, true);
                 serve(&rt, &inbox, Worker::new(alloc, tools, cell))
@@ -70,11 +71,11 @@ impl<R: Wait + Drop, D: LogDevice, G: Gate> Work for Bench<R, D, G> {
 }
 
 /// Serves a copy until its worker is told to stop.
-fn serve<R: Wait, D: LogDevice, G: Gate>(
+fn serve<R: Wait, D: LogDevice, G: Gate, J: RegistryName>(
     rt: &R,
-    inbox: &Receiver<Post, Global>,
-    worker: Worker<D, G>,
-) -> Left {
+    inbox: &Receiver<Post<J>, Global>,
+    worker: Worker<D, G, J>,
+) -> Left<J> {
     let mut worker = worker;
     for _ in rt.forever() {
         let Some(post) = worker.next(rt, inbox) else {
@@ -89,11 +90,16 @@ fn serve<R: Wait, D: LogDevice, G: Gate>(
 }
 
 /// Starts a thread that builds merges and a worker, and keeps each with others. Nothing here depends on what they are to do, so this is proved once for all.
-pub(crate) fn start_both<R: Threads, S: Wait + Drop + Send + 'static, W: Work + Send + 'static>(
+pub(crate) fn start_both<
+    R: Threads,
+    S: Wait + Drop + Send + 'static,
+    W: Work<J> + Send + 'static,
+    J: RegistryName + Send + 'static,
+>(
     rt: &R,
     mergers: &mut Vec<JoinHandle<()>>,
-    merger: Merger<S>,
-    threads: &mut Vec<JoinHandle<Left>>,
+    merger: Merger<S, J>,
+    threads: &mut Vec<JoinHandle<Left<J>>>,
     work: W,
 ) -> Result<(), AllocError>
     ensures { OnOk result (vec_len threads.new ≡ vec_len threads.old + 1) }
@@ -108,9 +114,9 @@ pub(crate) fn start_both<R: Threads, S: Wait + Drop + Send + 'static, W: Work + 
 }
 
 /// Starts a thread, and keeps it with others.
-fn start_beside<R: Threads, W: Work + Send + 'static>(
+fn start_beside<R: Threads, W: Work<J> + Send + 'static, J: RegistryName + Send + 'static>(
     rt: &R,
-    threads: &mut Vec<JoinHandle<Left>>,
+    threads: &mut Vec<JoinHandle<Left<J>>>,
     work: W,
 ) -> Result<(), AllocError>
     ensures { OnOk result (vec_len threads.new ≡ vec_len threads.old + 1) }
@@ -124,10 +130,10 @@ fn start_beside<R: Threads, W: Work + Send + 'static>(
 }
 
 /// Starts a thread that builds merges, and keeps it with others.
-fn start_merger<R: Threads, S: Wait + Drop + Send + 'static>(
+fn start_merger<R: Threads, S: Wait + Drop + Send + 'static, J: RegistryName + Send + 'static>(
     rt: &R,
     threads: &mut Vec<JoinHandle<()>>,
-    merger: Merger<S>,
+    merger: Merger<S, J>,
 ) -> Result<(), AllocError> {
     threads.reserve(1)?;
     match thread::Builder::new()
@@ -143,7 +149,10 @@ fn start_merger<R: Threads, S: Wait + Drop + Send + 'static>(
 }
 
 /// Starts a thread.
-fn started<R: Threads, W: Work + Send + 'static>(rt: &R, work: W) -> Option<JoinHandle<Left>> {
+fn started<R: Threads, W: Work<J> + Send + 'static, J: RegistryName + Send + 'static>(
+    rt: &R,
+    work: W,
+) -> Option<JoinHandle<Left<J>>> {
     thread::Builder::new()
         .stack_size(STACK)
         .spawn(rt, move || work.run())

@@ -1,14 +1,15 @@
 //! Bulks that callers ask for.
 ghost use Rattle.std.specs.Prelude.{◌≡◌, true, All, IsTrue, IfOk, IfErr, IfSome, Some};
 ghost use Rattle.cluster.specs.Bulks.{bulked, has_kept, AreBulkSettledAt, AreSettledAt, HasKept, IsAcknowledgedAt, IsBulkConfirmed, IsBulkRefused, IsSettledAt, IsSettledBulk};
-ghost use Rattle.cluster.specs.Confirmed.{IsBare, IsBehind, IsEndOf};
+ghost use Rattle.cluster.specs.Confirmed.{IsBehind, IsEndOf};
 
 use crate::checks::{acknowledges, are_behind, is_of_bulk, items_in};
 use crate::client::{Client, lost_by, received, refusal_of};
 use crate::confirmed::ConfirmedBulk;
 use crate::durable::Durable;
-use crate::fault::ClusterFault;
+use crate::fault::{ClusterFault, WriteFault};
 use crate::post::{BulkEnding, Post};
+use chronicle::RegistryName;
 use crossbeam_channel::{Receiver, bounded};
 use node::Receipt;
 use replica::{Item, Writes, Written};
@@ -18,16 +19,16 @@ use translog::LogDevice;
 
 /// A bulk that its copy has answered, and where it is told how it ended.
 #[derive(Drop)]
-struct BegunBulk {
-    receipt: Receipt,
-    endings: Receiver<BulkEnding, Global>,
+struct BegunBulk<J: RegistryName> {
+    receipt: Receipt<J>,
+    endings: Receiver<BulkEnding<J>, Global>,
 }
 
-impl<D: LogDevice> Client<D> {
+impl<D: LogDevice, J: RegistryName> Client<D, J> {
     /// Has the primary do the writes of a bulk with one step, and waits until every member has those that were kept. A bulk for which the window of the
     /// primary has no room waits for it, and what comes to that copy from callers behind it. Where there is no primary since the master could make
     /// none, its fault says why.
-    pub fn bulk<R: Wait>(&self, rt: &R, writes: Writes) -> Result<ConfirmedBulk, ClusterFault>
+    pub fn bulk<R: Wait>(&self, rt: &R, writes: Writes) -> Result<ConfirmedBulk<J>, WriteFault<J>>
         ensures confirmed { IfOk result (IsBulkConfirmed writes) }
         ensures refused { IfErr result (IsBulkRefused writes) }
     {
@@ -41,14 +42,14 @@ impl<D: LogDevice> Client<D> {
     }
 
     /// A bulk's refusal; in place of one for want of a primary the master's fault, where it could make none.
-    fn or_unled_bulk<R: Wait>(&self, rt: &R, writes: &Writes, fault: ClusterFault) -> ClusterFault
+    fn or_unled_bulk<R: Wait>(&self, rt: &R, writes: &Writes, fault: WriteFault<J>) -> WriteFault<J>
         requires { IsBulkRefused writes.now fault }
         ensures { IsBulkRefused writes.now result }
     {
-        if let ClusterFault::NoPrimary(_) = &fault {
+        if let WriteFault::NoPrimary(_) = &fault {
             if let Some(why) = self.shared.unled(rt) {
                 drop(fault);
-                return ClusterFault::from(why);
+                return WriteFault::Cluster(ClusterFault::from(why));
             }
         }
         fault
@@ -60,9 +61,7 @@ impl<D: LogDevice> Client<D> {
         rt: &R,
         copy: u32,
         writes: Writes,
-    ) -> Result<BegunBulk, ClusterFault>
-        ensures { IfErr result IsBare }
-    {
+    ) -> Result<BegunBulk<J>, ClusterFault> {
         let (first, answers) = bounded(self.alloc, 1)?;
         let (second, endings) = bounded(self.alloc, 1)?;
         self.send(rt, copy, Post::Bulk(writes, first, second))?;
@@ -72,29 +71,29 @@ impl<D: LogDevice> Client<D> {
 }
 
 /// Waits until the writes of a bulk that were kept are acknowledged, or its copy leads no more.
-fn confirmed<R: Wait>(
+fn confirmed<R: Wait, J: RegistryName>(
     rt: &R,
     alloc: Global,
-    begun: BegunBulk,
+    begun: BegunBulk<J>,
     copy: u32,
     writes: &Writes,
-) -> Result<ConfirmedBulk, ClusterFault>
+) -> Result<ConfirmedBulk<J>, WriteFault<J>>
     ensures confirmed { IfOk result (IsBulkConfirmed writes.now) }
     ensures refused { IfErr result (IsBulkRefused writes.now) }
 {
     let BegunBulk { receipt, endings } = begun;
     if !is_of_bulk(&receipt, copy, writes) {
-        return Err(ClusterFault::Stray(receipt.place()));
+        return Err(WriteFault::Cluster(ClusterFault::Stray(receipt.place())));
     }
     match is_kept_in(&receipt) {
         Some(true) => ended(rt, alloc, receipt, &endings),
-        Some(false) => settled(alloc, receipt, Vec::new(alloc)),
+        Some(false) => Ok(settled(alloc, receipt, Vec::new(alloc))?),
         None => Err(refusal_of(receipt)),
     }
 }
 
 /// Whether something was kept of the bulk of a receipt.
-fn is_kept_in(receipt: &Receipt) -> Option<bool>
+fn is_kept_in<J: RegistryName>(receipt: &Receipt<J>) -> Option<bool>
     ensures { IfSome result (λ b. IsTrue b → HasKept receipt.now) }
 {
     match items_in(receipt) {
@@ -116,30 +115,30 @@ fn has_kept(items: &[Item]) -> bool
 }
 
 /// How a bulk ended of which something was kept.
-fn ended<R: Wait>(
+fn ended<R: Wait, J: RegistryName>(
     rt: &R,
     alloc: Global,
-    receipt: Receipt,
-    endings: &Receiver<BulkEnding, Global>,
-) -> Result<ConfirmedBulk, ClusterFault>
+    receipt: Receipt<J>,
+    endings: &Receiver<BulkEnding<J>, Global>,
+) -> Result<ConfirmedBulk<J>, WriteFault<J>>
     ensures kept { IfOk result (IsSettledBulk receipt) }
     ensures lost { IfErr result (IsEndOf receipt) }
 {
     match endings.recv(rt) {
-        Ok(BulkEnding::Acknowledged(entries)) => settled(alloc, receipt, entries),
+        Ok(BulkEnding::Acknowledged(entries)) => Ok(settled(alloc, receipt, entries)?),
         Ok(BulkEnding::Lost(entry)) => Err(lost_by(receipt, entry.into_inner())),
-        Err(_) => Err(ClusterFault::Unconfirmed(receipt)),
+        Err(_) => Err(WriteFault::Unconfirmed(receipt)),
     }
 }
 
 /// A bulk whose writes these entries acknowledge.
-fn settled(
+#[tactic(auto, using(crate::proofs::Bulks::settled_bulk))]
+fn settled<J: RegistryName>(
     alloc: Global,
-    receipt: Receipt,
-    entries: Vec<Durable<Receipt>>,
-) -> Result<ConfirmedBulk, ClusterFault>
+    receipt: Receipt<J>,
+    entries: Vec<Durable<Receipt<J>>>,
+) -> Result<ConfirmedBulk<J>, ClusterFault>
     ensures settled { IfOk result (IsSettledBulk receipt) }
-    ensures bare { IfErr result IsBare }
 {
     let acknowledgements = receipts_of(alloc, entries)?;
     match places_in(alloc, &receipt, &acknowledgements)? {
@@ -153,7 +152,10 @@ fn settled(
 }
 
 /// The entries alone.
-fn receipts_of(alloc: Global, entries: Vec<Durable<Receipt>>) -> Result<Vec<Receipt>, AllocError> {
+fn receipts_of<J: RegistryName>(
+    alloc: Global,
+    entries: Vec<Durable<Receipt<J>>>,
+) -> Result<Vec<Receipt<J>>, AllocError> {
     let mut receipts = Vec::with_capacity(alloc, entries.len())?;
     for entry in entries {
         receipts.push(entry.into_inner())?;
@@ -162,10 +164,11 @@ fn receipts_of(alloc: Global, entries: Vec<Durable<Receipt>>) -> Result<Vec<Rece
 }
 
 /// For each item of a bulk's entry the place of an entry, which acknowledges the write where it was kept; nothing where one has none.
-fn places_in(
+#[tactic(auto, using(crate::proofs::Bulks::held_anyway))]
+fn places_in<J: RegistryName>(
     alloc: Global,
-    receipt: &Receipt,
-    entries: &[Receipt],
+    receipt: &Receipt<J>,
+    entries: &[Receipt<J>],
 ) -> Result<Option<Vec<usize>>, AllocError>
     ensures settled { IfOk result (λ o. IfSome o (λ ps. AreBulkSettledAt receipt.now entries.now ps.items)) }
     ensures behind { IfOk result (λ o. IfSome o (λ ps. All (IsBehind receipt.now) entries.now)) }
@@ -179,10 +182,10 @@ fn places_in(
     }
 }
 
-fn places_of(
+fn places_of<J: RegistryName>(
     alloc: Global,
     items: &[Item],
-    entries: &[Receipt],
+    entries: &[Receipt<J>],
 ) -> Result<Option<Vec<usize>>, AllocError>
     ensures { IfOk result (λ o. IfSome o (λ ps. AreSettledAt entries.now items.now ps.items)) }
 {
@@ -199,7 +202,7 @@ fn places_of(
 }
 
 /// The place of an entry that acknowledges the write of an item, from a place on; where the write was refused that place.
-fn place_of(item: &Item, entries: &[Receipt], from: usize) -> Option<usize>
+fn place_of<J: RegistryName>(item: &Item, entries: &[Receipt<J>], from: usize) -> Option<usize>
     ensures { IfSome result (IsSettledAt entries.now item.now) }
 {
     match item {
@@ -209,7 +212,11 @@ fn place_of(item: &Item, entries: &[Receipt], from: usize) -> Option<usize>
 }
 
 /// The place of an entry that acknowledges a write: this one, the next, or the first.
-fn place_from(written: Written, entries: &[Receipt], from: usize) -> Option<usize>
+fn place_from<J: RegistryName>(
+    written: Written,
+    entries: &[Receipt<J>],
+    from: usize,
+) -> Option<usize>
     ensures { IfSome result (λ p. IsAcknowledgedAt entries.now p written) }
 {
     if is_acknowledged_at(written, entries, from) {
@@ -222,7 +229,7 @@ fn place_from(written: Written, entries: &[Receipt], from: usize) -> Option<usiz
     first_place(written, entries)
 }
 
-fn first_place(written: Written, entries: &[Receipt]) -> Option<usize>
+fn first_place<J: RegistryName>(written: Written, entries: &[Receipt<J>]) -> Option<usize>
     ensures { IfSome result (λ p. IsAcknowledgedAt entries.now p written) }
 {
     for place in 0..entries.len() {
@@ -234,7 +241,11 @@ fn first_place(written: Written, entries: &[Receipt]) -> Option<usize>
 }
 
 /// Whether the entry at a place acknowledges a write.
-fn is_acknowledged_at(written: Written, entries: &[Receipt], place: usize) -> bool
+fn is_acknowledged_at<J: RegistryName>(
+    written: Written,
+    entries: &[Receipt<J>],
+    place: usize,
+) -> bool
     ensures { IsTrue result → IsAcknowledgedAt entries.now place written }
 {
     match entries.get(place) {

@@ -6,12 +6,13 @@ ghost use Rattle.cluster.specs.Confirmed as spec;
 ghost use Rattle.cluster.specs.Confirmed.{Acknowledges, IsAcknowledged, IsAnswerTo, IsBehind, wrote};
 ghost use Rattle.node.specs.Entry.{IsEntry};
 
+use chronicle::RegistryName;
 use node::Receipt;
 use op::Op;
 use replica::{Answer, CopyFault, Input, Item, Output, Write, Writes, Written};
 
 /// Whether the receipt is of this node and this input.
-pub(crate) fn is_answer_to(receipt: &Receipt, node: u32, asked: &Input) -> bool
+pub(crate) fn is_answer_to<J: RegistryName>(receipt: &Receipt<J>, node: u32, asked: &Input) -> bool
     ensures is { IsTrue result ↔ IsAnswerTo node asked.now receipt.now }
     ensures stands { IsEntry receipt.now }
 {
@@ -19,7 +20,7 @@ pub(crate) fn is_answer_to(receipt: &Receipt, node: u32, asked: &Input) -> bool
 }
 
 /// Whether it is of this node and this write.
-pub(crate) fn is_of_write(receipt: &Receipt, node: u32, write: &Write) -> bool
+pub(crate) fn is_of_write<J: RegistryName>(receipt: &Receipt<J>, node: u32, write: &Write) -> bool
     ensures is { IsTrue result ↔ IsAnswerTo node (Client write.now) receipt.now }
     ensures stands { IsEntry receipt.now }
 {
@@ -30,7 +31,7 @@ pub(crate) fn is_of_write(receipt: &Receipt, node: u32, write: &Write) -> bool
 }
 
 /// Whether it is of this node and this bulk.
-pub(crate) fn is_of_bulk(receipt: &Receipt, node: u32, writes: &Writes) -> bool
+pub(crate) fn is_of_bulk<J: RegistryName>(receipt: &Receipt<J>, node: u32, writes: &Writes) -> bool
     ensures is { IsTrue result ↔ IsAnswerTo node (Bulk writes.now) receipt.now }
     ensures stands { IsEntry receipt.now }
 {
@@ -41,7 +42,7 @@ pub(crate) fn is_of_bulk(receipt: &Receipt, node: u32, writes: &Writes) -> bool
 }
 
 /// What became of the writes of a receipt's bulk.
-pub(crate) fn items_in(receipt: &Receipt) -> Option<&[Item]>
+pub(crate) fn items_in<J: RegistryName>(receipt: &Receipt<J>) -> Option<&[Item]>
     ensures some { IfSome result (λ items. bulked receipt.now.deed.answer ≡ Some items.now) }
     ensures none { IfNone result (bulked receipt.now.deed.answer ≡ None) }
 {
@@ -57,7 +58,7 @@ pub(crate) fn items_in(receipt: &Receipt) -> Option<&[Item]>
 }
 
 /// What the write of a receipt was kept as.
-pub(crate) fn written_in(receipt: &Receipt) -> Option<Written>
+pub(crate) fn written_in<J: RegistryName>(receipt: &Receipt<J>) -> Option<Written>
     ensures { IfSome result (λ w. wrote receipt.now.deed.answer ≡ Some w) }
 {
     match &receipt.deed().answer {
@@ -84,7 +85,7 @@ pub(crate) fn has_write(operations: &[Op], seq: u64, term: u64) -> bool
 }
 
 /// Whether the entry of a receipt acknowledges a write.
-pub(crate) fn acknowledges(receipt: &Receipt, written: Written) -> bool
+pub(crate) fn acknowledges<J: RegistryName>(receipt: &Receipt<J>, written: Written) -> bool
     ensures { IsTrue result → Acknowledges receipt.now written }
 {
     match &receipt.deed().answer {
@@ -93,16 +94,20 @@ pub(crate) fn acknowledges(receipt: &Receipt, written: Written) -> bool
     }
 }
 
-/// Whether the second is of the same copy, at the place of the first or behind it.
-pub(crate) fn is_behind(first: &Receipt, second: &Receipt) -> bool
+/// Whether the second is of the same journal, at the place of the first or behind it.
+pub(crate) fn is_behind<J: RegistryName>(first: &Receipt<J>, second: &Receipt<J>) -> bool
     ensures { IsTrue result → IsBehind first.now second.now }
 {
+    if second.node() != first.node() {
+        return false;
+    }
+    first.agrees(second);
     let _entry = second.deed();
-    second.node() == first.node() && first.place() <= second.place()
+    first.place() <= second.place()
 }
 
 /// Whether each of some is so.
-pub(crate) fn are_behind(first: &Receipt, others: &[Receipt]) -> bool
+pub(crate) fn are_behind<J: RegistryName>(first: &Receipt<J>, others: &[Receipt<J>]) -> bool
     ensures { IsTrue result → All (IsBehind first.now) others.now }
 {
     for other in others {
@@ -114,7 +119,7 @@ pub(crate) fn are_behind(first: &Receipt, others: &[Receipt]) -> bool
 }
 
 /// Why the copy refused, where it did.
-pub(crate) fn refusal_in(receipt: &Receipt) -> Option<CopyFault>
+pub(crate) fn refusal_in<J: RegistryName>(receipt: &Receipt<J>) -> Option<CopyFault>
     ensures { IfNone result (IsOk receipt.now.deed.answer) }
 {
     match &receipt.deed().answer {
@@ -124,7 +129,7 @@ pub(crate) fn refusal_in(receipt: &Receipt) -> Option<CopyFault>
 }
 
 /// Whether the copy answered that it isn't the primary, or is closed.
-pub(crate) fn is_no_primary(receipt: &Receipt) -> bool
+pub(crate) fn is_no_primary<J: RegistryName>(receipt: &Receipt<J>) -> bool
     ensures { result ≡ spec.is_no_primary receipt.now.deed.answer }
 {
     matches!(
@@ -134,7 +139,7 @@ pub(crate) fn is_no_primary(receipt: &Receipt) -> bool
 }
 
 /// Whether the log of the copy failed, now or before.
-pub(crate) fn is_shut(receipt: &Receipt) -> bool {
+pub(crate) fn is_shut<J: RegistryName>(receipt: &Receipt<J>) -> bool {
     matches!(
         &receipt.deed().answer,
         Err(CopyFault::Log(_)) | Err(CopyFault::Closed)

@@ -3,38 +3,39 @@ ghost use Rattle.std.specs.Prelude.{◌≡◌, ◌+◌, false, IsOk, IsTrue, IfO
 ghost use Rattle.master.specs.declared.state.Request.TheVariants.{Promote};
 ghost use Rattle.master.specs.declared.state.State.{State as MasterState};
 ghost use Rattle.node.specs.Entry.{IsEntry};
-ghost use Rattle.node.specs.Reading.{IsGotAt};
+ghost use Rattle.node.specs.Reading.{IsGot};
 ghost use Rattle.cluster.specs.Refreshed.{AreRefreshed, AreSoFar, HasRefresh};
 ghost use Rattle.cluster.specs.Ruled.{IsDecided, IsKnown};
-ghost use Rattle.cluster.specs.Confirmed.{IsAcknowledgedWrite, IsAnswerTo, IsBare, IsConfirmed, IsEndOf, IsRefusalBy, IsWriteRefused};
+ghost use Rattle.cluster.specs.Confirmed.{IsAcknowledgedWrite, IsAnswerTo, IsConfirmed, IsEndOf, IsRefusalBy, IsWriteRefused};
 
 use crate::checks::{
     acknowledges, is_answer_to, is_behind, is_no_primary, is_of_write, refusal_in, written_in,
 };
 use crate::confirmed::Confirmed;
-use crate::fault::ClusterFault;
+use crate::fault::{ClusterFault, WriteFault};
 use crate::post::{Answered, Ending, Post};
 use crate::shared::Shared;
+use chronicle::RegistryName;
 use crossbeam_channel::{Receiver, bounded};
 use doc::DocId;
 use master::{Decision, MasterFault, Request, State};
 use node::{Got, Receipt};
 use published::{Searcher, Unnamed};
-use replica::{Answer, Input, Write, Written};
+use replica::{Input, Write, Written};
 use std::alloc::Global;
 use std::sync::{Arc, Wait};
 use translog::LogDevice;
 
 /// Asks the copies of a cluster, from any thread. A cluster gives it out, and ends what it asks.
 #[derive(Drop)]
-pub struct Client<D: LogDevice> {
+pub struct Client<D: LogDevice, J: RegistryName> {
     pub(crate) alloc: Global,
-    pub(crate) shared: Arc<Shared<D>, Global>,
+    pub(crate) shared: Arc<Shared<D, J>, Global>,
 }
 
-impl<D: LogDevice> Client<D> {
+impl<D: LogDevice, J: RegistryName> Client<D, J> {
     /// Has the primary do a write, and waits until every member has it. Where there is no primary since the master could make none, its fault says why.
-    pub fn write<R: Wait>(&self, rt: &R, write: Write) -> Result<Confirmed, ClusterFault>
+    pub fn write<R: Wait>(&self, rt: &R, write: Write) -> Result<Confirmed<J>, WriteFault<J>>
         ensures confirmed { IfOk result (IsConfirmed write) }
         ensures refused { IfErr result (IsWriteRefused write) }
     {
@@ -48,23 +49,21 @@ impl<D: LogDevice> Client<D> {
     }
 
     /// A write's refusal; in place of one for want of a primary the master's fault, where it could make none.
-    fn or_unled<R: Wait>(&self, rt: &R, write: &Write, fault: ClusterFault) -> ClusterFault
+    fn or_unled<R: Wait>(&self, rt: &R, write: &Write, fault: WriteFault<J>) -> WriteFault<J>
         requires { IsWriteRefused write.now fault }
         ensures { IsWriteRefused write.now result }
     {
-        if let ClusterFault::NoPrimary(_) = &fault {
+        if let WriteFault::NoPrimary(_) = &fault {
             if let Some(why) = self.shared.unled(rt) {
                 drop(fault);
-                return ClusterFault::from(why);
+                return WriteFault::Cluster(ClusterFault::from(why));
             }
         }
         fault
     }
 
     /// Hands a write to a copy, and waits for its entry.
-    fn begin<R: Wait>(&self, rt: &R, copy: u32, write: Write) -> Result<Begun, ClusterFault>
-        ensures { IfErr result IsBare }
-    {
+    fn begin<R: Wait>(&self, rt: &R, copy: u32, write: Write) -> Result<Begun<J>, ClusterFault> {
         let (first, answers) = bounded(self.alloc, 1)?;
         let (second, endings) = bounded(self.alloc, 1)?;
         self.send(rt, copy, Post::Write(write, first, second))?;
@@ -73,21 +72,21 @@ impl<D: LogDevice> Client<D> {
     }
 
     /// What a copy has of an id, of all its records. It waits for those that asked before, and leaves no entry.
-    pub fn get<R: Wait>(&self, rt: &R, copy: u32, id: DocId) -> Result<Answer, ClusterFault>
-        ensures { IfOk result (IsGotAt copy id) }
+    pub fn get<R: Wait>(&self, rt: &R, copy: u32, id: DocId) -> Result<Got<J>, ClusterFault>
+        ensures { IfOk result (λ g. IsGot g × (g.node ≡ copy) × (g.id ≡ id)) }
     {
         let asked = id.copy(self.alloc)?;
         let (to, answers) = bounded(self.alloc, 1)?;
         self.send(rt, copy, Post::Get(asked, to))?;
         match answers.recv(rt) {
-            Ok(Ok(got)) => answer_in(got.into_inner(), copy, &id),
+            Ok(Ok(got)) => got_of(got.into_inner(), copy, &id),
             Ok(Err(fault)) => Err(ClusterFault::from(fault)),
             Err(_) => Err(ClusterFault::NoMemory),
         }
     }
 
     /// Has a copy do a get or a refresh, and waits for its entry.
-    pub fn call<R: Wait>(&self, rt: &R, copy: u32, input: Input) -> Result<Receipt, ClusterFault>
+    pub fn call<R: Wait>(&self, rt: &R, copy: u32, input: Input) -> Result<Receipt<J>, ClusterFault>
         ensures { IfOk result (λ r. IsAnswerTo copy input r × IsEntry r × IsOk r.deed.answer) }
     {
         let asked = input.copy(self.alloc)?;
@@ -96,18 +95,19 @@ impl<D: LogDevice> Client<D> {
     }
 
     /// Hands an input to a copy, and waits for its entry.
-    fn entry<R: Wait>(&self, rt: &R, copy: u32, input: Input) -> Result<Receipt, ClusterFault>
-        ensures { IfErr result IsBare }
-    {
+    fn entry<R: Wait>(&self, rt: &R, copy: u32, input: Input) -> Result<Receipt<J>, ClusterFault> {
         let (to, answers) = bounded(self.alloc, 1)?;
         self.send(rt, copy, Post::Ask(input, to))?;
         received(rt, &answers)
     }
 
     /// Hands a post to the worker of a copy.
-    pub(crate) fn send<R: Wait>(&self, rt: &R, copy: u32, post: Post) -> Result<(), ClusterFault>
-        ensures { IfErr result IsBare }
-    {
+    pub(crate) fn send<R: Wait>(
+        &self,
+        rt: &R,
+        copy: u32,
+        post: Post<J>,
+    ) -> Result<(), ClusterFault> {
         if self.shared.hand(rt, copy, post) {
             Ok(())
         } else {
@@ -198,9 +198,9 @@ impl<D: LogDevice> Client<D> {
 
 /// A write that its copy has answered, and where it is told how the write ended.
 #[derive(Drop)]
-struct Begun {
-    receipt: Receipt,
-    endings: Receiver<Ending, Global>,
+struct Begun<J: RegistryName> {
+    receipt: Receipt<J>,
+    endings: Receiver<Ending<J>, Global>,
 }
 
 /// A copy that refused is passed over, as not refreshed; want of memory is told.
@@ -215,12 +215,10 @@ fn passed_over(fault: ClusterFault) -> Result<bool, ClusterFault>
 }
 
 /// The entry that a worker answers with.
-pub(crate) fn received<R: Wait>(
+pub(crate) fn received<R: Wait, J: RegistryName>(
     rt: &R,
-    answers: &Receiver<Answered, Global>,
-) -> Result<Receipt, ClusterFault>
-    ensures { IfErr result IsBare }
-{
+    answers: &Receiver<Answered<J>, Global>,
+) -> Result<Receipt<J>, ClusterFault> {
     match answers.recv(rt) {
         Ok(Ok(entry)) => Ok(entry.into_inner()),
         Ok(Err(fault)) => Err(ClusterFault::from(fault)),
@@ -229,7 +227,11 @@ pub(crate) fn received<R: Wait>(
 }
 
 /// The entry, where it is the one that was asked for, and not a refusal.
-fn answered(receipt: Receipt, copy: u32, input: &Input) -> Result<Receipt, ClusterFault>
+fn answered<J: RegistryName>(
+    receipt: Receipt<J>,
+    copy: u32,
+    input: &Input,
+) -> Result<Receipt<J>, ClusterFault>
     ensures { IfOk result (λ r. IsAnswerTo copy input.now r × IsEntry r × IsOk r.deed.answer) }
 {
     if !is_answer_to(&receipt, copy, input) {
@@ -242,53 +244,58 @@ fn answered(receipt: Receipt, copy: u32, input: &Input) -> Result<Receipt, Clust
 }
 
 /// What was read, where it is of this copy and this id.
-fn answer_in(got: Got, copy: u32, id: &DocId) -> Result<Answer, ClusterFault>
-    ensures { IfOk result (IsGotAt copy id.now) }
+fn got_of<J: RegistryName>(got: Got<J>, copy: u32, id: &DocId) -> Result<Got<J>, ClusterFault>
+    ensures { IfOk result (λ g. IsGot g × (g.node ≡ copy) × (g.id ≡ id.now)) }
 {
     if got.node() != copy || !got.id().is(id) {
         return Err(ClusterFault::Stray(got.place()));
     }
-    Ok(got.into_answer())
+    Ok(got)
 }
 
 /// Waits until a write is confirmed, or its copy leads no more.
-fn confirmed<R: Wait>(
+#[tactic(auto, using(crate::proofs::Confirming::confirmed_end, crate::proofs::Confirming::refused_end))]
+fn confirmed<R: Wait, J: RegistryName>(
     rt: &R,
-    begun: Begun,
+    begun: Begun<J>,
     copy: u32,
     write: &Write,
-) -> Result<Confirmed, ClusterFault>
+) -> Result<Confirmed<J>, WriteFault<J>>
     ensures confirmed { IfOk result (IsConfirmed write.now) }
     ensures refused { IfErr result (IsWriteRefused write.now) }
 {
     let Begun { receipt, endings } = begun;
     if !is_of_write(&receipt, copy, write) {
-        return Err(ClusterFault::Stray(receipt.place()));
+        return Err(WriteFault::Cluster(ClusterFault::Stray(receipt.place())));
     }
     let Some(written) = written_in(&receipt) else {
         return Err(refusal_of(receipt));
     };
     match endings.recv(rt) {
         Ok(ending) => ended(receipt, written, ending),
-        Err(_) => Err(ClusterFault::Unconfirmed(receipt)),
+        Err(_) => Err(WriteFault::Unconfirmed(receipt)),
     }
 }
 
 /// Why a write or a bulk that its copy answered isn't kept.
-pub(crate) fn refusal_of(receipt: Receipt) -> ClusterFault
+pub(crate) fn refusal_of<J: RegistryName>(receipt: Receipt<J>) -> WriteFault<J>
     ensures { IsRefusalBy receipt result }
 {
     if is_no_primary(&receipt) {
-        return ClusterFault::NoPrimary(receipt);
+        return WriteFault::NoPrimary(receipt);
     }
     match refusal_in(&receipt) {
-        Some(fault) => ClusterFault::Copy(fault),
-        None => ClusterFault::Stray(receipt.place()),
+        Some(fault) => WriteFault::Cluster(ClusterFault::Copy(fault)),
+        None => WriteFault::Cluster(ClusterFault::Stray(receipt.place())),
     }
 }
 
 /// How a write that was kept ended.
-fn ended(receipt: Receipt, written: Written, ending: Ending) -> Result<Confirmed, ClusterFault>
+fn ended<J: RegistryName>(
+    receipt: Receipt<J>,
+    written: Written,
+    ending: Ending<J>,
+) -> Result<Confirmed<J>, WriteFault<J>>
     ensures kept { IfOk result (IsAcknowledgedWrite receipt written) }
     ensures lost { IfErr result (IsEndOf receipt) }
 {
@@ -301,7 +308,7 @@ fn ended(receipt: Receipt, written: Written, ending: Ending) -> Result<Confirmed
                     acknowledgement: last,
                 })
             } else {
-                Err(ClusterFault::Stray(last.place()))
+                Err(WriteFault::Cluster(ClusterFault::Stray(last.place())))
             }
         }
         Ending::Lost(entry) => Err(lost_by(receipt, entry.into_inner())),
@@ -309,12 +316,12 @@ fn ended(receipt: Receipt, written: Written, ending: Ending) -> Result<Confirmed
 }
 
 /// What was kept and is perhaps lost, by the entry that ended the wait for it.
-pub(crate) fn lost_by(receipt: Receipt, last: Receipt) -> ClusterFault
+pub(crate) fn lost_by<J: RegistryName>(receipt: Receipt<J>, last: Receipt<J>) -> WriteFault<J>
     ensures { IsEndOf receipt result }
 {
     if is_behind(&receipt, &last) {
-        ClusterFault::Lost(receipt, last)
+        WriteFault::Lost(receipt, last)
     } else {
-        ClusterFault::Stray(last.place())
+        WriteFault::Cluster(ClusterFault::Stray(last.place()))
     }
 }

@@ -21,10 +21,11 @@ use crate::ready::Ready;
 use crate::ruled::Ruled;
 use crate::shared::Shared;
 use crate::worker::Tools;
+use chronicle::{Registry, RegistryName};
 use crossbeam_channel::{Receiver, Sender, bounded, unbounded};
 use doc::Mapping;
 use engine::Merging;
-use journal::Journal;
+use journal::{Deed, Journal};
 use master::{Decision, Master, MasterFault, Request};
 use node::{Pass, Receipt};
 use replica::{Birth, CopyFault};
@@ -35,35 +36,40 @@ use translog::LogDevice;
 
 /// What a cluster is made of, beside its nodes.
 #[derive(Drop)]
-struct Setting<V, G> {
+struct Setting<V, G, J: RegistryName> {
     alloc: Global,
     mapping: Mapping,
     devices: V,
     gate: G,
     journals: Journals,
+    registry: Registry<Deed, J>,
 }
 
 /// The master and its copies, each copy on a thread of its own. End it by `close`.
 #[derive(Drop)]
-pub struct Cluster<D: LogDevice, V: Devices<D>, G: Gate> {
+pub struct Cluster<D: LogDevice, V: Devices<D>, G: Gate, J: RegistryName> {
     mapping: Mapping,
     devices: V,
     gate: Arc<G, Global>,
     journals: Journals,
-    client: Client<D>,
-    threads: Vec<JoinHandle<Left>>,
+    registry: Registry<Deed, J>,
+    client: Client<D, J>,
+    threads: Vec<JoinHandle<Left<J>>>,
     /// The threads that build merges, one for each of the others.
     mergers: Vec<JoinHandle<()>>,
     unopened: Vec<Unopened>,
     short_log: Option<ShortLog>,
 }
 
-impl<D: LogDevice + Send + 'static, V: Devices<D>, G: Gate + Send + Sync + 'static> Cluster<
-    D,
-    V,
-    G,
-> {
-    /// Starts a new index of one copy to five, over devices that hold nothing: copy 1 is the primary of term 1.
+impl<D, V, G, J> Cluster<D, V, G, J>
+where
+    D: LogDevice + Send + 'static,
+    V: Devices<D>,
+    G: Gate + Send + Sync + 'static,
+    J: RegistryName + Send + Sync + 'static,
+{
+    /// Starts a new index of one copy to five, over devices that hold nothing: copy 1 is the primary of term 1. The journals of its copies are those of
+    /// the registry, and of no other cluster.
     pub fn start<R: Threads + Wait + Copy + Send + Drop + 'static>(
         rt: &R,
         alloc: Global,
@@ -72,9 +78,11 @@ impl<D: LogDevice + Send + 'static, V: Devices<D>, G: Gate + Send + Sync + 'stat
         devices: V,
         gate: G,
         journals: Journals,
-    ) -> Result<Cluster<D, V, G>, ClusterFault>
+        registry: Registry<Deed, J>,
+    ) -> Result<Cluster<D, V, G, J>, ClusterFault>
         requires { (1 ≤ copies) × (copies ≤ 5) }
-        ensures { IfOk result (λ c. vec_len c.threads ≡ copies) }
+        ensures threads { IfOk result (λ c. vec_len c.threads ≡ copies) }
+        ensures journals { IfOk result (λ c. c.journals ≡ journals) }
     {
         let mut setting = Setting {
             alloc,
@@ -82,6 +90,7 @@ impl<D: LogDevice + Send + 'static, V: Devices<D>, G: Gate + Send + Sync + 'stat
             devices,
             gate,
             journals,
+            registry,
         };
         let device = match setting.devices.device(0) {
             Ok(device) => device,
@@ -103,8 +112,10 @@ impl<D: LogDevice + Send + 'static, V: Devices<D>, G: Gate + Send + Sync + 'stat
         devices: V,
         gate: G,
         journals: Journals,
-    ) -> Result<Cluster<D, V, G>, ClusterFault>
+        registry: Registry<Deed, J>,
+    ) -> Result<Cluster<D, V, G, J>, ClusterFault>
         requires { (1 ≤ copies) × (copies ≤ 5) }
+        ensures { IfOk result (λ c. c.journals ≡ journals) }
     {
         let mut setting = Setting {
             alloc,
@@ -112,6 +123,7 @@ impl<D: LogDevice + Send + 'static, V: Devices<D>, G: Gate + Send + Sync + 'stat
             devices,
             gate,
             journals,
+            registry,
         };
         let device = master_device(&mut setting.devices)?;
         match beginning(alloc, device) {
@@ -124,12 +136,13 @@ impl<D: LogDevice + Send + 'static, V: Devices<D>, G: Gate + Send + Sync + 'stat
     /// The copies come first: where the master's log has a frame, each copy has its log.
     fn begin<R: Threads + Wait + Copy + Send + Drop + 'static>(
         rt: &R,
-        setting: Setting<V, G>,
+        setting: Setting<V, G, J>,
         copies: u8,
         device: D,
-    ) -> Result<Cluster<D, V, G>, ClusterFault>
+    ) -> Result<Cluster<D, V, G, J>, ClusterFault>
         requires { (1 ≤ copies) × (copies ≤ 5) }
-        ensures { IfOk result (λ c. vec_len c.threads ≡ copies) }
+        ensures threads { IfOk result (λ c. vec_len c.threads ≡ copies) }
+        ensures journals { IfOk result (λ c. c.journals ≡ setting.journals) }
     {
         let mut setting = setting;
         let alloc = setting.alloc;
@@ -152,12 +165,13 @@ impl<D: LogDevice + Send + 'static, V: Devices<D>, G: Gate + Send + Sync + 'stat
     /// A cluster of copies that are to be served, where the master has begun too.
     fn begin_over<R: Threads + Wait + Copy + Send + Drop + 'static>(
         rt: &R,
-        setting: Setting<V, G>,
+        setting: Setting<V, G, J>,
         ready: Vec<Ready<D>>,
         master: Result<Master<D>, ClusterFault>,
-    ) -> Result<Cluster<D, V, G>, ClusterFault>
+    ) -> Result<Cluster<D, V, G, J>, ClusterFault>
         requires { IfOk master (λ m. m.closed ≡ false) }
-        ensures { IfOk result (λ c. vec_len c.threads ≡ vec_len ready) }
+        ensures threads { IfOk result (λ c. vec_len c.threads ≡ vec_len ready) }
+        ensures journals { IfOk result (λ c. c.journals ≡ setting.journals) }
     {
         match master {
             Ok(master) => Cluster::launch_over(rt, Cluster::over(setting, master), ready),
@@ -172,11 +186,13 @@ impl<D: LogDevice + Send + 'static, V: Devices<D>, G: Gate + Send + Sync + 'stat
     /// Starts the threads of copies, where the cluster that they are of could be made.
     fn launch_over<R: Threads + Wait + Copy + Send + Drop + 'static>(
         rt: &R,
-        cluster: Result<Cluster<D, V, G>, ClusterFault>,
+        cluster: Result<Cluster<D, V, G, J>, ClusterFault>,
         ready: Vec<Ready<D>>,
-    ) -> Result<Cluster<D, V, G>, ClusterFault>
+    ) -> Result<Cluster<D, V, G, J>, ClusterFault>
         requires { IfOk cluster (λ c. vec_len c.threads ≡ 0) }
-        ensures { IfOk result (λ c. vec_len c.threads ≡ vec_len ready) }
+        ensures threads { IfOk result (λ c. vec_len c.threads ≡ vec_len ready) }
+        ensures journals { IfOk result (λ c. IfOk cluster (λ began. c.journals ≡ began.journals)) }
+        ensures began { IsOk result → IsOk cluster }
     {
         match cluster {
             Ok(mut cluster) => {
@@ -192,10 +208,12 @@ impl<D: LogDevice + Send + 'static, V: Devices<D>, G: Gate + Send + Sync + 'stat
 
     fn reopen<R: Threads + Wait + Copy + Send + Drop + 'static>(
         rt: &R,
-        setting: Setting<V, G>,
+        setting: Setting<V, G, J>,
         count: u8,
         device: D,
-    ) -> Result<Cluster<D, V, G>, ClusterFault> {
+    ) -> Result<Cluster<D, V, G, J>, ClusterFault>
+        ensures { IfOk result (λ c. c.journals ≡ setting.journals) }
+    {
         let master = kept_master(setting.alloc, device)?;
         let mut cluster = Cluster::over(setting, master)?;
         let opened = cluster.open_all(rt, count);
@@ -203,9 +221,13 @@ impl<D: LogDevice + Send + 'static, V: Devices<D>, G: Gate + Send + Sync + 'stat
     }
 
     /// A cluster without copies yet.
-    fn over(setting: Setting<V, G>, master: Master<D>) -> Result<Cluster<D, V, G>, ClusterFault>
+    fn over(
+        setting: Setting<V, G, J>,
+        master: Master<D>,
+    ) -> Result<Cluster<D, V, G, J>, ClusterFault>
         requires { master.closed ≡ false }
-        ensures { IfOk result (λ c. vec_len c.threads ≡ 0) }
+        ensures threads { IfOk result (λ c. vec_len c.threads ≡ 0) }
+        ensures journals { IfOk result (λ c. c.journals ≡ setting.journals) }
     {
         let Setting {
             alloc,
@@ -213,6 +235,7 @@ impl<D: LogDevice + Send + 'static, V: Devices<D>, G: Gate + Send + Sync + 'stat
             devices,
             gate,
             journals,
+            registry,
         } = setting;
         let shared = Arc::new(
             alloc,
@@ -227,6 +250,7 @@ impl<D: LogDevice + Send + 'static, V: Devices<D>, G: Gate + Send + Sync + 'stat
             devices,
             gate: Arc::new(alloc, gate)?,
             journals,
+            registry,
             client: Client { alloc, shared },
             threads: Vec::new(alloc),
             mergers: Vec::new(alloc),
@@ -240,7 +264,7 @@ impl<D: LogDevice + Send + 'static, V: Devices<D>, G: Gate + Send + Sync + 'stat
         self,
         rt: &R,
         done: Result<(), ClusterFault>,
-    ) -> Result<Cluster<D, V, G>, ClusterFault>
+    ) -> Result<Cluster<D, V, G, J>, ClusterFault>
         ensures same { IfOk result (λ c. c ≡ self) }
         ensures done { IsOk result → IsOk done }
     {
@@ -255,7 +279,7 @@ impl<D: LogDevice + Send + 'static, V: Devices<D>, G: Gate + Send + Sync + 'stat
 
     /// Ends a cluster whose journals nobody wants.
     fn let_go<R: Threads + Wait>(self, rt: &R) {
-        drop(self.close(rt, &[]));
+        drop(self.ended(rt));
     }
 
     fn launch_all<R: Threads + Wait + Copy + Send + Drop + 'static>(
@@ -263,7 +287,8 @@ impl<D: LogDevice + Send + 'static, V: Devices<D>, G: Gate + Send + Sync + 'stat
         rt: &R,
         copies: Vec<Ready<D>>,
     ) -> Result<(), ClusterFault>
-        ensures { OnOk result (vec_len self.new.threads ≡ vec_len self.old.threads + vec_len copies) }
+        ensures threads { OnOk result (vec_len self.new.threads ≡ vec_len self.old.threads + vec_len copies) }
+        ensures journals { self.new.journals ≡ self.old.journals }
     {
         for ready in copies {
             self.launch(rt, ready)?;
@@ -276,7 +301,9 @@ impl<D: LogDevice + Send + 'static, V: Devices<D>, G: Gate + Send + Sync + 'stat
         &mut self,
         rt: &R,
         count: u8,
-    ) -> Result<(), ClusterFault> {
+    ) -> Result<(), ClusterFault>
+        ensures { self.new.journals ≡ self.old.journals }
+    {
         let alloc = self.client.alloc;
         let state = self.client.state(rt)?;
         let mut opened = Vec::new(alloc);
@@ -300,7 +327,9 @@ impl<D: LogDevice + Send + 'static, V: Devices<D>, G: Gate + Send + Sync + 'stat
     }
 
     /// Notes that the copy that led last lacks operations that the one has that is to lead.
-    fn note_short_log(&mut self, primary: u32, leader: u32, opened: &[Opened]) {
+    fn note_short_log(&mut self, primary: u32, leader: u32, opened: &[Opened])
+        ensures { self.new.journals ≡ self.old.journals }
+    {
         if let Some(lacking) = lacking(primary, opened) {
             self.short_log = Some(ShortLog {
                 copy: primary,
@@ -317,10 +346,12 @@ impl<D: LogDevice + Send + 'static, V: Devices<D>, G: Gate + Send + Sync + 'stat
         rt: &R,
         id: u32,
         birth: Birth,
-    ) -> Result<Option<u64>, ClusterFault> {
+    ) -> Result<Option<u64>, ClusterFault>
+        ensures { self.new.journals ≡ self.old.journals }
+    {
         match self.kept(id, birth) {
             Ok(ready) => {
-                let next = ready.held.copy().next_seq();
+                let next = ready.copy().next_seq();
                 self.launch(rt, ready)?;
                 Ok(Some(next))
             }
@@ -329,7 +360,9 @@ impl<D: LogDevice + Send + 'static, V: Devices<D>, G: Gate + Send + Sync + 'stat
     }
 
     /// Notes that a copy didn't open, and why.
-    fn leave_out(&mut self, copy: u32, fault: OpenFault) -> Result<Option<u64>, ClusterFault> {
+    fn leave_out(&mut self, copy: u32, fault: OpenFault) -> Result<Option<u64>, ClusterFault>
+        ensures { self.new.journals ≡ self.old.journals }
+    {
         if let OpenFault::Copy(CopyFault::NoMemory) = &fault {
             return Err(ClusterFault::NoMemory);
         }
@@ -338,7 +371,9 @@ impl<D: LogDevice + Send + 'static, V: Devices<D>, G: Gate + Send + Sync + 'stat
     }
 
     /// The copy that its device holds.
-    fn kept(&mut self, id: u32, birth: Birth) -> Result<Ready<D>, OpenFault> {
+    fn kept(&mut self, id: u32, birth: Birth) -> Result<Ready<D>, OpenFault>
+        ensures { self.new.journals ≡ self.old.journals }
+    {
         let device = match self.devices.kept(id) {
             Ok(Some(device)) => device,
             Ok(None) => return Err(OpenFault::Missing),
@@ -393,7 +428,7 @@ impl<D: LogDevice + Send + 'static, V: Devices<D>, G: Gate + Send + Sync + 'stat
         &mut self,
         rt: &R,
         copy: u32,
-        start: Start<D, G>,
+        start: Start<D, G, J>,
         ready: Ready<D>,
     ) -> Result<Decision, ClusterFault>
         ensures decided { IfOk result (IsDecided Allocate) }
@@ -421,7 +456,7 @@ impl<D: LogDevice + Send + 'static, V: Devices<D>, G: Gate + Send + Sync + 'stat
     }
 
     /// What callers ask the copies by.
-    pub fn client(&self) -> &Client<D>
+    pub fn client(&self) -> &Client<D, J>
         ensures { result.now ≡ self.now.client }
     {
         &self.client
@@ -433,9 +468,10 @@ impl<D: LogDevice + Send + 'static, V: Devices<D>, G: Gate + Send + Sync + 'stat
         rt: &R,
         ready: Ready<D>,
     ) -> Result<(), ClusterFault>
-        ensures { OnOk result (vec_len self.new.threads ≡ vec_len self.old.threads + 1) }
+        ensures threads { OnOk result (vec_len self.new.threads ≡ vec_len self.old.threads + 1) }
+        ensures journals { self.new.journals ≡ self.old.journals }
     {
-        match self.start_of(rt, ready.held.copy().id()) {
+        match self.start_of(rt, ready.copy().id()) {
             Ok(start) => self.run(rt, start, ready),
             Err(fault) => {
                 drop(ready);
@@ -445,7 +481,7 @@ impl<D: LogDevice + Send + 'static, V: Devices<D>, G: Gate + Send + Sync + 'stat
     }
 
     /// What the threads of a copy are to be started with, whom posts reach from now on.
-    fn start_of<R: Wait>(&self, rt: &R, copy: u32) -> Result<Start<D, G>, ClusterFault> {
+    fn start_of<R: Wait>(&self, rt: &R, copy: u32) -> Result<Start<D, G, J>, ClusterFault> {
         let alloc = self.client.alloc;
         let (to, merges) = unbounded(alloc)?;
         let tools = self.tools(copy, to)?;
@@ -465,7 +501,11 @@ impl<D: LogDevice + Send + 'static, V: Devices<D>, G: Gate + Send + Sync + 'stat
     }
 
     /// What the worker of a copy needs beside it.
-    fn tools(&self, copy: u32, merges: Sender<Merging, Global>) -> Result<Tools<D, G>, AllocError> {
+    fn tools(
+        &self,
+        copy: u32,
+        merges: Sender<Merging, Global>,
+    ) -> Result<Tools<D, G, J>, AllocError> {
         let gate = another(&self.gate)?;
         let shared = another(&self.client.shared)?;
         Ok(Tools {
@@ -480,14 +520,22 @@ impl<D: LogDevice + Send + 'static, V: Devices<D>, G: Gate + Send + Sync + 'stat
     fn run<R: Threads + Wait + Copy + Send + Drop + 'static>(
         &mut self,
         rt: &R,
-        start: Start<D, G>,
+        start: Start<D, G, J>,
         ready: Ready<D>,
     ) -> Result<(), ClusterFault>
-        ensures { OnOk result (vec_len self.new.threads ≡ vec_len self.old.threads + 1) }
+        ensures threads { OnOk result (vec_len self.new.threads ≡ vec_len self.old.threads + 1) }
+        ensures journals { self.new.journals ≡ self.old.journals }
     {
+        let copy = match ready.registered(self.client.alloc, &mut self.registry) {
+            Ok(copy) => copy,
+            Err(_) => {
+                drop(start);
+                return Err(ClusterFault::NoMemory);
+            }
+        };
         let Ok((begun, heard)) = bounded(self.client.alloc, 1) else {
             drop(start);
-            drop(ready);
+            drop(copy);
             return Err(ClusterFault::NoMemory);
         };
         let Start {
@@ -503,7 +551,7 @@ impl<D: LogDevice + Send + 'static, V: Devices<D>, G: Gate + Send + Sync + 'stat
             begun,
             tools,
             inbox,
-            ready,
+            copy,
         };
         let merger = Merger {
             rt: *rt,
@@ -524,10 +572,34 @@ impl<D: LogDevice + Send + 'static, V: Devices<D>, G: Gate + Send + Sync + 'stat
     pub fn close<R: Threads + Wait>(
         self,
         rt: &R,
-        receipts: &[Receipt],
+        receipts: &[Receipt<J>],
     ) -> Result<Option<Vec<Journal>>, ClusterFault>
         ensures kept { IfOk result (λ o. is_some o ≡ keeps self.journals) }
         ensures journals { IfOk result (λ o. IfSome o (λ js. AreHandedOut (vec_len self.threads) receipts.now js.items)) }
+    {
+        let Ended {
+            alloc,
+            journals,
+            master,
+            lefts,
+        } = self.ended(rt)?;
+        match journals {
+            Journals::Kept => match handed_out(alloc, master, lefts, receipts) {
+                Ok(journals) => Ok(Some(journals)),
+                Err(fault) => Err(fault),
+            },
+            Journals::Unkept => {
+                drop(lefts);
+                drop(master);
+                Ok(None)
+            }
+        }
+    }
+
+    /// Ends all threads.
+    fn ended<R: Threads + Wait>(self, rt: &R) -> Result<Ended<D, J>, ClusterFault>
+        ensures journals { IfOk result (λ e. e.journals ≡ self.journals) }
+        ensures all { IfOk result (λ e. vec_len e.lefts ≡ vec_len self.threads) }
     {
         let Cluster {
             journals,
@@ -544,28 +616,30 @@ impl<D: LogDevice + Send + 'static, V: Devices<D>, G: Gate + Send + Sync + 'stat
             drop(lefts);
             return Err(ClusterFault::Running);
         };
-        match journals {
-            Journals::Kept => {
-                match handed_out(alloc, shared.master.into_inner(), lefts, receipts) {
-                    Ok(journals) => Ok(Some(journals)),
-                    Err(fault) => Err(fault),
-                }
-            }
-            Journals::Unkept => {
-                drop(lefts);
-                drop(shared);
-                Ok(None)
-            }
-        }
+        Ok(Ended {
+            alloc,
+            journals,
+            master: shared.master.into_inner(),
+            lefts,
+        })
     }
 }
 
+/// What is left of a cluster whose threads have ended.
+#[derive(Drop)]
+struct Ended<D: LogDevice, J: RegistryName> {
+    alloc: Global,
+    journals: Journals,
+    master: Ruled<D>,
+    lefts: Vec<Left<J>>,
+}
+
 /// The journals of the master and of the copies, which workers leave.
-fn handed_out<D: LogDevice>(
+fn handed_out<D: LogDevice, J: RegistryName>(
     alloc: Global,
     master: Ruled<D>,
-    lefts: Vec<Left>,
-    receipts: &[Receipt],
+    lefts: Vec<Left<J>>,
+    receipts: &[Receipt<J>],
 ) -> Result<Vec<Journal>, ClusterFault>
     ensures { IfOk result (λ js. AreHandedOut (vec_len lefts) receipts.now js.items) }
 {
@@ -579,11 +653,11 @@ fn handed_out<D: LogDevice>(
 }
 
 /// The same, once each receipt is seen to stand.
-fn looked_at<D: LogDevice>(
+fn looked_at<D: LogDevice, J: RegistryName>(
     alloc: Global,
     master: Ruled<D>,
-    lefts: Vec<Journaled>,
-    receipts: &[Receipt],
+    lefts: Vec<Journaled<J>>,
+    receipts: &[Receipt<J>],
 ) -> Result<Vec<Journal>, ClusterFault>
     ensures { IfOk result (λ js. AreHandedOut (vec_len lefts) receipts.now js.items) }
 {
@@ -603,11 +677,11 @@ fn journal_of<D: LogDevice>(master: Ruled<D>) -> Journal
 }
 
 /// What threads leave, once each has ended.
-fn joined<R: Threads>(
+fn joined<R: Threads, J: RegistryName>(
     rt: &R,
     alloc: Global,
-    threads: Vec<JoinHandle<Left>>,
-) -> Result<Vec<Left>, ClusterFault>
+    threads: Vec<JoinHandle<Left<J>>>,
+) -> Result<Vec<Left<J>>, ClusterFault>
     ensures { IfOk result (λ ls. vec_len ls ≡ vec_len threads) }
 {
     let mut lefts = Vec::new(alloc);
@@ -625,10 +699,10 @@ fn end_mergers<R: Threads>(rt: &R, mergers: Vec<JoinHandle<()>>) {
 }
 
 /// The journals of the master and of the copies.
-fn journals<D: LogDevice>(
+fn journals<D: LogDevice, J: RegistryName>(
     alloc: Global,
     master: Ruled<D>,
-    lefts: Vec<Journaled>,
+    lefts: Vec<Journaled<J>>,
 ) -> Result<Vec<Journal>, ClusterFault>
     ensures legal { IfOk result (λ js. All IsLegalJournal js.items) }
     ensures all { IfOk result (λ js. length js.items ≡ vec_len lefts + 1) }
@@ -649,35 +723,35 @@ fn another<T>(shared: &Arc<T, Global>) -> Result<Arc<T, Global>, AllocError> {
 }
 
 /// The inbox of a copy's worker, which posts reach from now on, and a way to it.
-fn inbox_of<R: Wait, D: LogDevice>(
+fn inbox_of<R: Wait, D: LogDevice, J: RegistryName>(
     rt: &R,
     alloc: Global,
-    shared: &Shared<D>,
+    shared: &Shared<D, J>,
     copy: u32,
-) -> Result<(Sender<Post, Global>, Receiver<Post, Global>), ClusterFault> {
+) -> Result<(Sender<Post<J>, Global>, Receiver<Post<J>, Global>), ClusterFault> {
     let (to, inbox) = unbounded(alloc)?;
-    let another: Sender<Post, Global> = to.clone()?;
+    let another: Sender<Post<J>, Global> = to.clone()?;
     add_route(rt, shared, Route { copy, to })?;
     Ok((another, inbox))
 }
 
-fn add_route<R: Wait, D: LogDevice>(
+fn add_route<R: Wait, D: LogDevice, J: RegistryName>(
     rt: &R,
-    shared: &Shared<D>,
-    route: Route,
+    shared: &Shared<D, J>,
+    route: Route<J>,
 ) -> Result<(), ClusterFault> {
     let mut routes = shared.routes.lock(rt);
     routes.push(route)?;
     Ok(())
 }
 
-fn remove_route<R: Wait, D: LogDevice>(rt: &R, shared: &Shared<D>, copy: u32) {
+fn remove_route<R: Wait, D: LogDevice, J: RegistryName>(rt: &R, shared: &Shared<D, J>, copy: u32) {
     let mut routes = shared.routes.lock(rt);
     routes.retain(|route| route.copy != copy);
 }
 
 /// Tells all workers to end, behind what waits for them.
-fn stop<R: Wait, D: LogDevice>(rt: &R, shared: &Shared<D>) {
+fn stop<R: Wait, D: LogDevice, J: RegistryName>(rt: &R, shared: &Shared<D, J>) {
     let mut routes = shared.routes.lock(rt);
     for route in routes.as_slice() {
         sent(rt, &route.to, Post::Stop);

@@ -1,19 +1,20 @@
 //! Writes and bulks that are confirmed.
 
+use chronicle::RegistryName;
 use node::Receipt;
 
 /// The entry of a write, and an entry of its copy that acknowledges it.
 #[derive(Drop)]
-pub struct Confirmed {
-    pub write: Receipt,
-    pub acknowledgement: Receipt,
+pub struct Confirmed<J: RegistryName> {
+    pub write: Receipt<J>,
+    pub acknowledgement: Receipt<J>,
 }
 
 /// The entry of a bulk, and the entries of its copy that acknowledge its writes, each once. For each item of its answer there is the place of an entry:
 /// where the write was kept that one acknowledges it, else the place says nothing.
 #[derive(Drop)]
-pub struct ConfirmedBulk {
-    pub bulk: Receipt,
-    pub acknowledgements: Vec<Receipt>,
+pub struct ConfirmedBulk<J: RegistryName> {
+    pub bulk: Receipt<J>,
+    pub acknowledgements: Vec<Receipt<J>>,
     pub places: Vec<usize>,
 }

@@ -5,6 +5,7 @@ ghost use Rattle.cluster.specs.Leaving.{sent_by};
 ghost use Rattle.cluster.specs.Ruled.{IsDecided};
 
 use crate::checks::is_no_primary;
+use chronicle::RegistryName;
 use master::{Decision, Request};
 use node::{Got, OnDisk, Receipt};
 use op::Msg;
@@ -40,9 +41,12 @@ impl<T: Drop> Durable<T> {
     }
 }
 
-impl Durable<Receipt> {
+impl<J: RegistryName> Durable<Receipt<J>> {
     /// An entry of a copy, where it is on the disk; else it is handed back.
-    pub(crate) fn entry(receipt: Receipt, on_disk: &OnDisk) -> Result<Durable<Receipt>, Receipt>
+    pub(crate) fn entry(
+        receipt: Receipt<J>,
+        on_disk: &OnDisk,
+    ) -> Result<Durable<Receipt<J>>, Receipt<J>>
         ensures ok { IfOk result (λ d. (d ≡ receipt) × (receipt.place + 1 ≤ on_disk.now)) }
         ensures err { IfErr result (λ r. r ≡ receipt) }
     {
@@ -57,7 +61,7 @@ impl Durable<Receipt> {
     }
 
     /// An entry by which the copy is closed or isn't the primary, which rests on nothing that it has kept; another one is handed back.
-    pub(crate) fn idle(receipt: Receipt) -> Result<Durable<Receipt>, Receipt>
+    pub(crate) fn idle(receipt: Receipt<J>) -> Result<Durable<Receipt<J>>, Receipt<J>>
         ensures ok { IfOk result (λ d. (d ≡ receipt) × (spec.is_no_primary receipt.deed.answer ≡ true)) }
         ensures err { IfErr result (λ r. r ≡ receipt) }
     {
@@ -69,7 +73,7 @@ impl Durable<Receipt> {
     }
 
     /// The entry once more.
-    pub(crate) fn copy(&self, alloc: Global) -> Result<Durable<Receipt>, AllocError>
+    pub(crate) fn copy(&self, alloc: Global) -> Result<Durable<Receipt<J>>, AllocError>
         ensures { IfOk result (λ d. d ≡ self.now) }
     {
         Ok(Durable {
@@ -98,9 +102,9 @@ impl Durable<Receipt> {
     }
 }
 
-impl Durable<Got> {
+impl<J: RegistryName> Durable<Got<J>> {
     /// What a copy had of an id, where all that it had done then is on the disk; else it is handed back.
-    pub(crate) fn got(got: Got, on_disk: &OnDisk) -> Result<Durable<Got>, Got>
+    pub(crate) fn got(got: Got<J>, on_disk: &OnDisk) -> Result<Durable<Got<J>>, Got<J>>
         ensures ok { IfOk result (λ d. (d ≡ got) × (got.place ≤ on_disk.now)) }
         ensures err { IfErr result (λ g. g ≡ got) }
     {

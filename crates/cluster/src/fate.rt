@@ -1,5 +1,6 @@
 //! What becomes of a message that was handed to a copy.
 
+use chronicle::RegistryName;
 use node::{NodeFault, Receipt};
 use op::{Content, Msg};
 use replica::CopyFault;
@@ -18,7 +19,7 @@ pub(crate) enum Fate {
     Impossible,
 }
 
-pub(crate) fn fate_of(made: &Result<Receipt, NodeFault>) -> Fate {
+pub(crate) fn fate_of<J: RegistryName>(made: &Result<Receipt<J>, NodeFault>) -> Fate {
     match made {
         Ok(receipt) => match &receipt.deed().answer {
             Ok(_) => Fate::Settled,

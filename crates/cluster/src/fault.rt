@@ -1,6 +1,7 @@
 //! What a cluster refuses.
 ghost use Rattle.std.specs.Prelude.{◌≡◌};
 
+use chronicle::RegistryName;
 use master::MasterFault;
 use node::{NodeFault, Receipt};
 use replica::CopyFault;
@@ -57,17 +58,62 @@ impl Display for ShortLog {
     }
 }
 
+/// Why a write or a bulk isn't confirmed.
+#[derive(Drop)]
+pub enum WriteFault<J: RegistryName> {
+    /// The copy that the master names isn't the primary, or is closed; with the entry that says so.
+    NoPrimary(Receipt<J>),
+    /// The copy kept the write, and was the primary no more before it was acknowledged: the write's entry, and the one that ended the role.
+    Lost(Receipt<J>, Receipt<J>),
+    /// The copy kept the write, and the wait for its acknowledgement ended without one: another copy was made the primary, memory was wanting, or the
+    /// master's log failed where it was to take out a copy that doesn't answer. The write may be kept; with its entry.
+    Unconfirmed(Receipt<J>),
+    /// The cluster has no such entry to show.
+    Cluster(ClusterFault),
+}
+
+impl<J: RegistryName> Display for WriteFault<J> {
+    fn fmt<W: fmt::Write>(&self, f: &mut fmt::Formatter<W>) -> fmt::Result {
+        match self {
+            WriteFault::NoPrimary(_) => write!(f, "no copy is the primary"),
+            WriteFault::Lost(_, _) => {
+                write!(f, "the copy is the primary no more; the write may be kept")
+            }
+            WriteFault::Unconfirmed(_) => {
+                write!(f, "nobody acknowledges the write; it may be kept")
+            }
+            WriteFault::Cluster(fault) => write!(f, "{fault}"),
+        }
+    }
+}
+
+impl<J: RegistryName> From<ClusterFault> for WriteFault<J> {
+    ghost use Rattle.std.specs.Prelude.{◌≡◌};
+    ghost use Rattle.cluster.specs.declared.fault.WriteFault.TheVariants.{Cluster};
+
+    ghost from_gives = { λ f e. e ≡ Cluster f };
+
+    fn from(fault: ClusterFault) -> WriteFault<J> {
+        WriteFault::Cluster(fault)
+    }
+}
+
+impl<J: RegistryName> From<AllocError> for WriteFault<J> {
+    ghost use Rattle.std.specs.Prelude.{◌≡◌};
+    ghost use Rattle.cluster.specs.declared.fault.ClusterFault.TheVariants.{NoMemory};
+    ghost use Rattle.cluster.specs.declared.fault.WriteFault.TheVariants.{Cluster};
+
+    ghost from_gives = { λ _ e. e ≡ Cluster NoMemory };
+
+    fn from(_refused: AllocError) -> WriteFault<J> {
+        WriteFault::Cluster(ClusterFault::NoMemory)
+    }
+}
+
 /// Why a call of a cluster gives nothing.
 #[derive(Drop)]
 pub enum ClusterFault {
-    /// The copy that the master names isn't the primary, or is closed; with the entry that says so.
-    NoPrimary(Receipt),
-    /// The copy kept the write, and was the primary no more before it was acknowledged: the write's entry, and the one that ended the role.
-    Lost(Receipt, Receipt),
     NoMemory,
-    /// The copy kept the write, and the wait for its acknowledgement ended without one: another copy was made the primary, memory was wanting, or the
-    /// master's log failed where it was to take out a copy that doesn't answer. The write may be kept; with its entry.
-    Unconfirmed(Receipt),
     /// No more searchers are given out.
     NoSeat,
     Copy(CopyFault),
@@ -83,13 +129,6 @@ pub enum ClusterFault {
 impl Display for ClusterFault {
     fn fmt<W: fmt::Write>(&self, f: &mut fmt::Formatter<W>) -> fmt::Result {
         match self {
-            ClusterFault::NoPrimary(_) => write!(f, "no copy is the primary"),
-            ClusterFault::Lost(_, _) => {
-                write!(f, "the copy is the primary no more; the write may be kept")
-            }
-            ClusterFault::Unconfirmed(_) => {
-                write!(f, "nobody acknowledges the write; it may be kept")
-            }
             ClusterFault::NoMemory => write!(f, "out of memory"),
             ClusterFault::NoSeat => write!(f, "no more searchers are given out"),
             ClusterFault::Copy(fault) => write!(f, "the copy: {fault}"),

@@ -4,6 +4,7 @@ ghost use Rattle.journal.specs.Lawful.{IsLawful};
 ghost use Rattle.cluster.specs.Journals.{node_of, HasReceipt, IsLegalJournal, IsOfOneCaller, RiseFrom, StandsIn};
 
 use cell::CopyCell;
+use chronicle::RegistryName;
 use journal::Journal;
 use node::{Held, Pass, Receipt, gathered, stands_in};
 use std::alloc::{AllocError, Global};
@@ -14,20 +15,20 @@ use translog::LogDevice;
 
 /// What a worker leaves: the journal of its copy with its pass, where memory has them.
 #[derive(Drop)]
-pub(crate) enum Left {
-    Kept(Journaled),
+pub(crate) enum Left<J: RegistryName> {
+    Kept(Journaled<J>),
     Unkept,
 }
 
 /// The journal of a worker's copy, which is legal, and the worker's pass.
 #[derive(Drop)]
-pub(crate) struct Journaled {
+pub(crate) struct Journaled<J: RegistryName> {
     node: u32,
     journal: Journal,
-    pass: Pass,
+    pass: Pass<J>,
 }
 
-impl Model for Journaled {
+impl<J: RegistryName> Model for Journaled<J> {
     ghost use Rattle.std.specs.Prelude.{◌≡◌};
     ghost use Rattle.journal.specs.Lawful.{IsLawful};
     ghost use Rattle.journal.specs.declared.journal.Journal.{Journal as JournalData};
@@ -40,22 +41,26 @@ impl Model for Journaled {
     ghost invariant = { λ l. (l.node ≡ node_of l.journal) × IsLawful l.journal };
 }
 
-impl Left {
+impl<J: RegistryName> Left<J> {
     /// What is left of a copy that was served. It waits for searches that are just taking what is shown.
     #[tactic(auto, using(crate::proofs::Handed::of_closed))]
-    pub(crate) fn served<R: Wait, D: LogDevice>(rt: &R, cell: CopyCell<D>, pass: Pass) -> Left {
+    pub(crate) fn served<R: Wait, D: LogDevice>(
+        rt: &R,
+        cell: CopyCell<D, J>,
+        pass: Pass<J>,
+    ) -> Left<J> {
         let node = cell.held().node();
         Left::of(node, cell.close(rt), pass)
     }
 
     /// What is left of one that wasn't.
     #[tactic(auto, using(crate::proofs::Handed::of_closed))]
-    pub(crate) fn unserved<D: LogDevice>(held: Held<D>, pass: Pass) -> Left {
+    pub(crate) fn unserved<D: LogDevice>(held: Held<D, J>, pass: Pass<J>) -> Left<J> {
         let node = held.node();
         Left::of(node, held.into_journal(), pass)
     }
 
-    fn of(node: u32, journal: Option<Journal>, pass: Pass) -> Left
+    fn of(node: u32, journal: Option<Journal>, pass: Pass<J>) -> Left<J>
         requires { IfSome journal (λ j. (node ≡ node_of j) × IsLawful j) }
     {
         match journal {
@@ -73,10 +78,10 @@ impl Left {
 }
 
 /// What workers leave that have journals; nothing where one has none.
-pub(crate) fn all_kept(
+pub(crate) fn all_kept<J: RegistryName>(
     alloc: Global,
-    lefts: Vec<Left>,
-) -> Result<Option<Vec<Journaled>>, AllocError>
+    lefts: Vec<Left<J>>,
+) -> Result<Option<Vec<Journaled<J>>>, AllocError>
     ensures { IfOk result (λ o. IfSome o (λ all. vec_len all ≡ vec_len lefts)) }
 {
     let mut all = Vec::new(alloc);
@@ -89,7 +94,7 @@ pub(crate) fn all_kept(
     Ok(Some(all))
 }
 
-impl Journaled {
+impl<J: RegistryName> Journaled<J> {
     /// The place of the worker's first receipt that doesn't stand in the journal, or of the first entry that isn't the worker's, or bears another
     /// number than the copy's.
     #[tactic(auto, using(crate::proofs::Handed::of_one_caller))]
@@ -111,7 +116,7 @@ impl Journaled {
     }
 
     /// Whether a receipt stands in the journal, and is of its copy.
-    fn has(&self, receipt: &Receipt) -> bool
+    fn has(&self, receipt: &Receipt<J>) -> bool
         ensures { IsTrue result → HasReceipt receipt.now self.now }
     {
         self.node == receipt.node() && stands_in(&self.journal, receipt)
@@ -132,7 +137,7 @@ impl Journaled {
 }
 
 /// The place of the first receipt whose entry bears another number than this.
-fn misnumbered(receipts: &[Receipt], number: u32) -> Option<u64>
+fn misnumbered<J: RegistryName>(receipts: &[Receipt<J>], number: u32) -> Option<u64>
     ensures { IfNone result (All (λ r. r.deed.pass ≡ number) receipts.now) }
 {
     for receipt in receipts {
@@ -144,7 +149,7 @@ fn misnumbered(receipts: &[Receipt], number: u32) -> Option<u64>
 }
 
 /// The place of the first entry that has no receipt, where the receipts of all before it come in order.
-fn first_unseen(receipts: &[Receipt]) -> u64 {
+fn first_unseen<J: RegistryName>(receipts: &[Receipt<J>]) -> u64 {
     let mut place = 0;
     for receipt in receipts {
         if receipt.place() != place {
@@ -157,7 +162,10 @@ fn first_unseen(receipts: &[Receipt]) -> u64 {
 
 /// The place of the first receipt that stands in no journal: of those that workers kept, and then of some others. Where the journals aren't in the order
 /// of the ids of their copies, it is that of a first entry.
-pub(crate) fn stray_in(lefts: &[Journaled], receipts: &[Receipt]) -> Option<u64>
+pub(crate) fn stray_in<J: RegistryName>(
+    lefts: &[Journaled<J>],
+    receipts: &[Receipt<J>],
+) -> Option<u64>
     ensures order { IfNone result (RiseFrom 0 lefts.now) }
     ensures workers { IfNone result (All IsOfOneCaller lefts.now) }
     ensures others { IfNone result (All (StandsIn lefts.now) receipts.now) }
@@ -172,7 +180,7 @@ pub(crate) fn stray_in(lefts: &[Journaled], receipts: &[Receipt]) -> Option<u64>
 }
 
 /// Whether the ids of the copies rise.
-fn are_in_order(lefts: &[Journaled]) -> bool
+fn are_in_order<J: RegistryName>(lefts: &[Journaled<J>]) -> bool
     ensures { IsTrue result → RiseFrom 0 lefts.now }
 {
     let mut last = 0;
@@ -186,7 +194,7 @@ fn are_in_order(lefts: &[Journaled]) -> bool
     true
 }
 
-fn stray_of_workers(lefts: &[Journaled]) -> Option<u64>
+fn stray_of_workers<J: RegistryName>(lefts: &[Journaled<J>]) -> Option<u64>
     ensures { IfNone result (All IsOfOneCaller lefts.now) }
 {
     for left in lefts {
@@ -197,7 +205,7 @@ fn stray_of_workers(lefts: &[Journaled]) -> Option<u64>
     None
 }
 
-fn stray_among(lefts: &[Journaled], receipts: &[Receipt]) -> Option<u64>
+fn stray_among<J: RegistryName>(lefts: &[Journaled<J>], receipts: &[Receipt<J>]) -> Option<u64>
     ensures { IfNone result (All (StandsIn lefts.now) receipts.now) }
 {
     for receipt in receipts {
@@ -209,7 +217,7 @@ fn stray_among(lefts: &[Journaled], receipts: &[Receipt]) -> Option<u64>
 }
 
 /// The place of a receipt that stands in none of the journals.
-fn stray_at(lefts: &[Journaled], receipt: &Receipt) -> Option<u64>
+fn stray_at<J: RegistryName>(lefts: &[Journaled<J>], receipt: &Receipt<J>) -> Option<u64>
     ensures { IfNone result (StandsIn lefts.now receipt.now) }
 {
     for left in lefts {

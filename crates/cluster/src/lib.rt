@@ -32,7 +32,7 @@ pub use client::Client;
 pub use cluster::Cluster;
 pub use confirmed::{Confirmed, ConfirmedBulk};
 pub use devices::{Devices, InFolder, InMemory, Syncing};
-pub use fault::{ClusterFault, OpenFault, ShortLog, Unopened};
+pub use fault::{ClusterFault, OpenFault, ShortLog, Unopened, WriteFault};
 pub use gate::{Gate, Open};
 pub use opening::Journals;
 pub use ruled::Ruled;

@@ -3,14 +3,12 @@ ghost use Rattle.std.specs.Prelude.{◌≡◌, ◌≤◌, [], length, true, fals
 ghost use Rattle.journal.specs.declared.opening.Opening.{Opening as Begins};
 ghost use Rattle.replica.specs.Copy.{begun, opened};
 ghost use Rattle.replica.specs.declared.role.Birth.TheVariants.{Added};
-ghost use Rattle.cluster.specs.Opening.{birth_of, first_with, is_with, keeps, leader_of, most_of, BeganWith, IsFirst, IsKept};
-ghost use Rattle.node.specs.Held.{journal};
+ghost use Rattle.cluster.specs.Opening.{birth_of, first_with, is_with, keeps, leader_of, most_of, ready, BeganWith, IsFirst, IsKept};
 
 use crate::ready::Ready;
 use doc::Mapping;
 use journal::Opening;
 use master::Entry;
-use node::Held;
 use replica::{Birth, Copy, CopyFault};
 use std::alloc::Global;
 use translog::{Frames, LogDevice, LogFault, Translog};
@@ -130,26 +128,17 @@ pub enum Journals {
 }
 
 /// A copy that is to be served, with a journal that begins as it does.
-fn ready_of<D: LogDevice>(
-    alloc: Global,
-    journals: Journals,
-    opening: Opening,
-    copy: Copy<D>,
-) -> Ready<D>
+fn ready_of<D: LogDevice>(journals: Journals, opening: Opening, copy: Copy<D>) -> Ready<D>
     requires copy { copy.copy ≡ opening }
     requires open { copy.closed ≡ false }
     requires whole { opening.point ≡ length opening.records }
-    ensures { result.held ≡ journal (keeps journals) opening [] }
+    ensures { result ≡ ready (keeps journals) opening }
 {
     match journals {
-        Journals::Kept => Ready {
-            held: Held::new(alloc, opening, copy),
-        },
+        Journals::Kept => Ready::of(copy, Some(opening)),
         Journals::Unkept => {
             drop(opening);
-            Ready {
-                held: Held::unkept(copy),
-            }
+            Ready::of(copy, None)
         }
     }
 }
@@ -164,11 +153,11 @@ pub(crate) fn new_copy<D: LogDevice>(
     device: D,
 ) -> Result<Ready<D>, CopyFault>
     requires { 1 ≤ copies }
-    ensures { IfOk result (λ r. r.held ≡ journal (keeps journals) (begun id copies mapping.now) []) }
+    ensures { IfOk result (λ r. r ≡ ready (keeps journals) (begun id copies mapping.now)) }
 {
     let opening = Opening::begun(id, copies, mapping.copy(alloc)?);
     match Copy::begin(alloc, id, copies, mapping.copy(alloc)?, device) {
-        Ok(copy) => Ok(ready_of(alloc, journals, opening, copy)),
+        Ok(copy) => Ok(ready_of(journals, opening, copy)),
         Err(refused) => Err(refused.into_fault()),
     }
 }
@@ -181,13 +170,13 @@ pub(crate) fn joining_copy<D: LogDevice>(
     mapping: &Mapping,
     device: D,
 ) -> Result<Ready<D>, CopyFault>
-    ensures { IfOk result (λ r. r.held ≡ journal (keeps journals) (opened id Added mapping.now []) []) }
+    ensures { IfOk result (λ r. r ≡ ready (keeps journals) (opened id Added mapping.now [])) }
 {
     let opening = Opening::opened(id, Birth::Added, mapping.copy(alloc)?, Vec::new(alloc));
     match Copy::open(alloc, id, Birth::Added, mapping.copy(alloc)?, device) {
         Ok(copy) => {
             if copy.point() == 0 {
-                Ok(ready_of(alloc, journals, opening, copy))
+                Ok(ready_of(journals, opening, copy))
             } else {
                 Err(CopyFault::Mismatch)
             }
@@ -205,7 +194,7 @@ pub(crate) fn kept_copy<D: LogDevice>(
     mapping: &Mapping,
     device: D,
 ) -> Result<Ready<D>, CopyFault>
-    ensures { IfOk result (λ r. IsKept id birth mapping.now (D.bytes device) (keeps journals) r.held) }
+    ensures { IfOk result (IsKept id birth mapping.now (D.bytes device) (keeps journals)) }
 {
     match journals {
         Journals::Kept => journaled_copy(alloc, id, birth, mapping, device),
@@ -221,7 +210,7 @@ fn journaled_copy<D: LogDevice>(
     mapping: &Mapping,
     device: D,
 ) -> Result<Ready<D>, CopyFault>
-    ensures { IfOk result (λ r. IsKept id birth mapping.now (D.bytes device) true r.held) }
+    ensures { IfOk result (IsKept id birth mapping.now (D.bytes device) true) }
 {
     let mut log = Translog::over(device);
     let (records, _torn) = log.read(alloc)?;
@@ -230,9 +219,7 @@ fn journaled_copy<D: LogDevice>(
     }
     let opening = Opening::opened(id, birth, mapping.copy(alloc)?, records);
     match Copy::open(alloc, id, birth, mapping.copy(alloc)?, log.into_device()) {
-        Ok(copy) => Ok(Ready {
-            held: Held::new(alloc, opening, copy),
-        }),
+        Ok(copy) => Ok(Ready::of(copy, Some(opening))),
         Err(refused) => Err(refused.into_fault()),
     }
 }
@@ -245,16 +232,14 @@ fn unjournaled_copy<D: LogDevice>(
     mapping: &Mapping,
     device: D,
 ) -> Result<Ready<D>, CopyFault>
-    ensures { IfOk result (λ r. IsKept id birth mapping.now (D.bytes device) false r.held) }
+    ensures { IfOk result (IsKept id birth mapping.now (D.bytes device) false) }
 {
     match Copy::open(alloc, id, birth, mapping.copy(alloc)?, device) {
         Ok(copy) => {
             if birth == Birth::Added && copy.point() == 0 {
                 Err(CopyFault::Mismatch)
             } else {
-                Ok(Ready {
-                    held: Held::unkept(copy),
-                })
+                Ok(Ready::of(copy, None))
             }
         }
         Err(refused) => Err(refused.into_fault()),

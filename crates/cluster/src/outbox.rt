@@ -3,63 +3,54 @@ ghost use Rattle.std.specs.Prelude.{◌≡◌, [], ◌∷◌, ◌++◌, List, If
 
 use crate::durable::Durable;
 use crate::post::{Answered, BulkEnding, Ending};
+use chronicle::RegistryName;
 use crossbeam_channel::Sender;
 use node::{Got, NodeFault, Receipt};
 use std::alloc::Global;
 use std::collections::VecDeque;
-use std::marker::Model;
 
 /// Who asked for an entry.
 #[derive(Drop)]
-pub(crate) enum Asked {
+pub(crate) enum Asked<J: RegistryName> {
     /// Another copy, the master, or the worker itself.
     Within,
-    Call(Sender<Answered, Global>),
+    Call(Sender<Answered<J>, Global>),
     /// A write: its entry is answered, and later how it ended.
-    Write(Sender<Answered, Global>, Sender<Ending, Global>),
+    Write(Sender<Answered<J>, Global>, Sender<Ending<J>, Global>),
     /// A bulk, in the same way.
-    Bulk(Sender<Answered, Global>, Sender<BulkEnding, Global>),
+    Bulk(Sender<Answered<J>, Global>, Sender<BulkEnding<J>, Global>),
 }
 
 /// An entry that isn't told yet.
 #[derive(Drop)]
-pub(crate) struct Entry {
-    pub(crate) receipt: Receipt,
+pub(crate) struct Entry<J: RegistryName> {
+    pub(crate) receipt: Receipt<J>,
     /// Whether the copy was the primary after it.
     pub(crate) leads: bool,
     /// The term of the copy after it.
     pub(crate) term: u64,
-    pub(crate) asked: Asked,
+    pub(crate) asked: Asked<J>,
 }
 
 /// What waits until it is on the disk.
 #[derive(Drop)]
-pub(crate) enum Parcel {
-    Entry(Entry),
+pub(crate) enum Parcel<J: RegistryName> {
+    Entry(Entry<J>),
     /// What the copy had of an id.
-    Got(Got, Sender<Result<Durable<Got>, NodeFault>, Global>),
+    Got(Got<J>, Sender<Result<Durable<Got<J>>, NodeFault>, Global>),
     /// The writes that wait by then are to wait no longer.
     EndOfWaits,
 }
 
 /// The parcels of a worker, oldest first.
 #[derive(Drop)]
-pub(crate) struct Outbox {
-    parcels: VecDeque<Parcel>,
+pub(crate) struct Outbox<J: RegistryName> {
+    parcels: VecDeque<Parcel<J>>,
 }
 
-impl Model for Outbox {
-    ghost use Rattle.std.specs.Prelude.{List};
-    ghost use Rattle.cluster.specs.declared.outbox.Parcel.{Parcel};
-
-    ghost Value = { List Parcel };
-
-    ghost view = { λ o. o.parcels.items };
-}
-
-impl Outbox {
-    pub(crate) fn new(alloc: Global) -> Outbox
-        ensures { result ≡ [] }
+impl<J: RegistryName> Outbox<J> {
+    pub(crate) fn new(alloc: Global) -> Outbox<J>
+        ensures { result.parcels.items ≡ [] }
     {
         Outbox {
             parcels: VecDeque::new(alloc),
@@ -76,10 +67,10 @@ impl Outbox {
     }
 
     /// Puts a parcel behind the others. Where there is no memory for that it is handed back.
-    pub(crate) fn push(&mut self, parcel: Parcel) -> Result<(), Parcel>
-        ensures ok { OnOk result (self.new ≡ self.old ++ parcel ∷ []) }
+    pub(crate) fn push(&mut self, parcel: Parcel<J>) -> Result<(), Parcel<J>>
+        ensures ok { OnOk result (self.new.parcels.items ≡ self.old.parcels.items ++ parcel ∷ []) }
         ensures err { IfErr result (λ p. p ≡ parcel) }
-        ensures same { OnErr result (self.new ≡ self.old) }
+        ensures same { OnErr result (self.new.parcels.items ≡ self.old.parcels.items) }
     {
         match self.parcels.push_back(parcel) {
             Ok(()) => Ok(()),
@@ -88,9 +79,9 @@ impl Outbox {
     }
 
     /// The oldest parcel, which is taken out.
-    pub(crate) fn next(&mut self) -> Option<Parcel>
-        ensures some { IfSome result (λ p. self.old ≡ p ∷ self.new) }
-        ensures none { IfNone result ((self.old ≡ []) × (self.new ≡ [])) }
+    pub(crate) fn next(&mut self) -> Option<Parcel<J>>
+        ensures some { IfSome result (λ p. self.old.parcels.items ≡ p ∷ self.new.parcels.items) }
+        ensures none { IfNone result ((self.old.parcels.items ≡ []) × (self.new.parcels.items ≡ [])) }
     {
         self.parcels.pop_front()
     }

@@ -1,6 +1,7 @@
 //! What a worker is sent.
 
 use crate::durable::Durable;
+use chronicle::RegistryName;
 use crossbeam_channel::Sender;
 use doc::DocId;
 use engine::Merged;
@@ -11,37 +12,37 @@ use replica::{Input, Write, Writes};
 use std::alloc::Global;
 
 /// The entry that a call made, also where the copy refused it; or why there is none.
-pub(crate) type Answered = Result<Durable<Receipt>, NodeFault>;
+pub(crate) type Answered<J> = Result<Durable<Receipt<J>>, NodeFault>;
 
 /// A searcher, or why there is none.
 pub(crate) type Seated = Result<Searcher<Unnamed>, NodeFault>;
 
 /// How the waiting for a write's acknowledgement ended.
 #[derive(Drop)]
-pub(crate) enum Ending {
+pub(crate) enum Ending<J: RegistryName> {
     /// By an entry that acknowledges it.
-    Acknowledged(Durable<Receipt>),
+    Acknowledged(Durable<Receipt<J>>),
     /// By an entry after which the copy is the primary of that term no more.
-    Lost(Durable<Receipt>),
+    Lost(Durable<Receipt<J>>),
 }
 
 /// How the waiting for the acknowledgements of a bulk's writes ended.
 #[derive(Drop)]
-pub(crate) enum BulkEnding {
+pub(crate) enum BulkEnding<J: RegistryName> {
     /// By the entries that acknowledge those that were kept, each once.
-    Acknowledged(Vec<Durable<Receipt>>),
+    Acknowledged(Vec<Durable<Receipt<J>>>),
     /// By an entry after which the copy is the primary of that term no more.
-    Lost(Durable<Receipt>),
+    Lost(Durable<Receipt<J>>),
 }
 
 /// What a worker is sent.
 #[derive(Drop)]
-pub(crate) enum Post {
-    Ask(Input, Sender<Answered, Global>),
+pub(crate) enum Post<J: RegistryName> {
+    Ask(Input, Sender<Answered<J>, Global>),
     /// A write: its own entry is answered first, and how it ended when it has.
-    Write(Write, Sender<Answered, Global>, Sender<Ending, Global>),
+    Write(Write, Sender<Answered<J>, Global>, Sender<Ending<J>, Global>),
     /// A bulk, in the same way.
-    Bulk(Writes, Sender<Answered, Global>, Sender<BulkEnding, Global>),
+    Bulk(Writes, Sender<Answered<J>, Global>, Sender<BulkEnding<J>, Global>),
     /// A message, and how often it was refused for a while.
     Hand(Durable<Msg>, u32),
     /// A copy that the primary is to report.
@@ -49,7 +50,7 @@ pub(crate) enum Post {
     /// The term of which another copy was made the primary.
     Depose(u64),
     /// To tell what the copy has of an id.
-    Get(DocId, Sender<Result<Durable<Got>, NodeFault>, Global>),
+    Get(DocId, Sender<Result<Durable<Got<J>>, NodeFault>, Global>),
     /// A merge that was built, to be put in place; nothing where there was no memory for it.
     Merged(Option<Merged>),
     /// To hand out a searcher of the copy.
@@ -59,7 +60,7 @@ pub(crate) enum Post {
 
 /// Where the posts of a copy go.
 #[derive(Drop)]
-pub(crate) struct Route {
+pub(crate) struct Route<J: RegistryName> {
     pub(crate) copy: u32,
-    pub(crate) to: Sender<Post, Global>,
+    pub(crate) to: Sender<Post<J>, Global>,
 }

@@ -10,6 +10,7 @@ use crate::gate::Gate;
 use crate::outbox::{Asked, Entry, Parcel};
 use crate::post::{BulkEnding, Ending, Post};
 use crate::worker::Worker;
+use chronicle::RegistryName;
 use crossbeam_channel::{Receiver, Sender};
 use node::{Got, NodeFault, OnDisk, Receipt};
 use replica::CopyFault;
@@ -28,14 +29,14 @@ pub(crate) fn unsynced() -> NodeFault {
     NodeFault::Copy(CopyFault::Log(LogFault::Device))
 }
 
-impl<D: LogDevice, G: Gate> Worker<D, G> {
+impl<D: LogDevice, G: Gate, J: RegistryName> Worker<D, G, J> {
     /// Does a post, and those that wait behind it as long as something of it isn't on the disk; then what they tell leaves. Tells whether it goes on.
     /// Where each append is synced, each post leaves by itself.
     pub(crate) fn serve_waiting<R: Wait>(
         &mut self,
         rt: &R,
-        inbox: &Receiver<Post, Global>,
-        first: Post,
+        inbox: &Receiver<Post<J>, Global>,
+        first: Post<J>,
     ) -> bool {
         let mut goes_on = self.serve(rt, first);
         for _ in 1..TOGETHER {
@@ -52,7 +53,7 @@ impl<D: LogDevice, G: Gate> Worker<D, G> {
     }
 
     /// Keeps a parcel until it is on the disk. Without memory for that it leaves at once, behind those that wait; a copy that can do neither is given up.
-    pub(crate) fn keep<R: Wait>(&mut self, rt: &R, parcel: Parcel) {
+    pub(crate) fn keep<R: Wait>(&mut self, rt: &R, parcel: Parcel<J>) {
         let Err(parcel) = self.outbox.push(parcel) else {
             return;
         };
@@ -109,7 +110,7 @@ impl<D: LogDevice, G: Gate> Worker<D, G> {
         }
     }
 
-    fn leave<R: Wait>(&mut self, rt: &R, parcel: Parcel, on_disk: &OnDisk) {
+    fn leave<R: Wait>(&mut self, rt: &R, parcel: Parcel<J>, on_disk: &OnDisk) {
         match parcel {
             Parcel::Entry(entry) => self.tell(rt, entry, on_disk),
             Parcel::Got(got, to) => tell_got(rt, got, to, on_disk),
@@ -120,7 +121,7 @@ impl<D: LogDevice, G: Gate> Worker<D, G> {
         }
     }
 
-    fn tell<R: Wait>(&mut self, rt: &R, entry: Entry, on_disk: &OnDisk) {
+    fn tell<R: Wait>(&mut self, rt: &R, entry: Entry<J>, on_disk: &OnDisk) {
         let Entry {
             receipt,
             leads,
@@ -138,10 +139,10 @@ impl<D: LogDevice, G: Gate> Worker<D, G> {
     fn tell_durable<R: Wait>(
         &mut self,
         rt: &R,
-        entry: Durable<Receipt>,
+        entry: Durable<Receipt<J>>,
         leads: bool,
         term: u64,
-        asked: Asked,
+        asked: Asked<J>,
     ) {
         match asked {
             Asked::Call(to) => {
@@ -167,7 +168,7 @@ impl<D: LogDevice, G: Gate> Worker<D, G> {
     }
 
     /// Notes who waits for the acknowledgement of a write that is kept, unless another copy is the primary of a later term.
-    fn note(&mut self, entry: &Durable<Receipt>, term: u64, to: Sender<Ending, Global>) {
+    fn note(&mut self, entry: &Durable<Receipt<J>>, term: u64, to: Sender<Ending<J>, Global>) {
         match written_in(entry.what()) {
             Some(written) if term >= self.deposed => self.waits.add(written, to),
             _ => drop(to),
@@ -175,14 +176,19 @@ impl<D: LogDevice, G: Gate> Worker<D, G> {
     }
 
     /// The same of the writes of a bulk that are kept.
-    fn note_bulk(&mut self, entry: &Durable<Receipt>, term: u64, to: Sender<BulkEnding, Global>) {
+    fn note_bulk(
+        &mut self,
+        entry: &Durable<Receipt<J>>,
+        term: u64,
+        to: Sender<BulkEnding<J>, Global>,
+    ) {
         match items_in(entry.what()) {
             Some(items) if term >= self.deposed => self.waits.add_bulk(items, to),
             _ => drop(to),
         }
     }
 
-    fn follow<R: Wait>(&mut self, rt: &R, entry: &Durable<Receipt>, leads: bool, term: u64) {
+    fn follow<R: Wait>(&mut self, rt: &R, entry: &Durable<Receipt<J>>, leads: bool, term: u64) {
         for at in 0..entry.sent().len() {
             self.send(rt, entry, at, leads);
         }
@@ -191,7 +197,7 @@ impl<D: LogDevice, G: Gate> Worker<D, G> {
     }
 
     /// Sends a message of an entry on its way.
-    fn send<R: Wait>(&mut self, rt: &R, entry: &Durable<Receipt>, at: usize, leads: bool)
+    fn send<R: Wait>(&mut self, rt: &R, entry: &Durable<Receipt<J>>, at: usize, leads: bool)
         requires { at < length (sent_by entry.now.deed.answer) }
     {
         let is_sent = match entry.message(self.alloc, at) {
@@ -220,7 +226,7 @@ impl<D: LogDevice, G: Gate> Worker<D, G> {
     }
 
     /// Tells those whose writes an entry acknowledges.
-    fn tell_acknowledged<R: Wait>(&mut self, rt: &R, entry: &Durable<Receipt>) {
+    fn tell_acknowledged<R: Wait>(&mut self, rt: &R, entry: &Durable<Receipt<J>>) {
         if let Ok(output) = &entry.what().deed().answer {
             for op in output.acknowledged.as_slice() {
                 self.waits.acknowledge(rt, op, entry);
@@ -230,7 +236,7 @@ impl<D: LogDevice, G: Gate> Worker<D, G> {
     }
 
     /// Tells those who wait where the copy was the primary no more, or of a later term than that of their writes.
-    fn tell_lost<R: Wait>(&mut self, rt: &R, entry: &Durable<Receipt>, leads: bool, term: u64) {
+    fn tell_lost<R: Wait>(&mut self, rt: &R, entry: &Durable<Receipt<J>>, leads: bool, term: u64) {
         let leads = leads && !is_shut(entry.what());
         if !leads || !self.waits.are_of(term) {
             self.waits.lose(rt, entry);
@@ -247,7 +253,7 @@ impl<D: LogDevice, G: Gate> Worker<D, G> {
         }
     }
 
-    fn refuse_one<R: Wait>(&mut self, rt: &R, parcel: Parcel) {
+    fn refuse_one<R: Wait>(&mut self, rt: &R, parcel: Parcel<J>) {
         match parcel {
             Parcel::Entry(entry) => {
                 let Entry {
@@ -276,7 +282,7 @@ impl<D: LogDevice, G: Gate> Worker<D, G> {
     }
 
     /// Puts a parcel behind the others again; there is room for it.
-    fn put_back<R: Wait>(&mut self, rt: &R, parcel: Parcel) {
+    fn put_back<R: Wait>(&mut self, rt: &R, parcel: Parcel<J>) {
         if let Err(parcel) = self.outbox.push(parcel) {
             self.withdraw(rt, parcel);
         }
@@ -293,7 +299,7 @@ impl<D: LogDevice, G: Gate> Worker<D, G> {
         self.end_waits();
     }
 
-    fn withdraw<R: Wait>(&mut self, rt: &R, parcel: Parcel) {
+    fn withdraw<R: Wait>(&mut self, rt: &R, parcel: Parcel<J>) {
         match parcel {
             Parcel::Entry(entry) => {
                 let Entry { receipt, asked, .. } = entry;
@@ -312,7 +318,7 @@ impl<D: LogDevice, G: Gate> Worker<D, G> {
 }
 
 /// Tells who asked for an entry that isn't on the disk that the log has failed; or that the copy is closed or isn't the primary, where that is the entry.
-fn refuse<R: Wait>(rt: &R, receipt: Receipt, asked: Asked) {
+fn refuse<R: Wait, J: RegistryName>(rt: &R, receipt: Receipt<J>, asked: Asked<J>) {
     let told = match Durable::idle(receipt) {
         Ok(entry) => Ok(entry),
         Err(receipt) => {
@@ -338,7 +344,12 @@ fn refuse<R: Wait>(rt: &R, receipt: Receipt, asked: Asked) {
 }
 
 /// The same of an entry that is kept.
-fn refuse_copied<R: Wait>(alloc: Global, rt: &R, receipt: &Receipt, asked: Asked) {
+fn refuse_copied<R: Wait, J: RegistryName>(
+    alloc: Global,
+    rt: &R,
+    receipt: &Receipt<J>,
+    asked: Asked<J>,
+) {
     if let Asked::Within = &asked {
         drop(asked);
         return;
@@ -350,10 +361,10 @@ fn refuse_copied<R: Wait>(alloc: Global, rt: &R, receipt: &Receipt, asked: Asked
 }
 
 /// Tells what the copy had of an id.
-fn tell_got<R: Wait>(
+fn tell_got<R: Wait, J: RegistryName>(
     rt: &R,
-    got: Got,
-    to: Sender<Result<Durable<Got>, NodeFault>, Global>,
+    got: Got<J>,
+    to: Sender<Result<Durable<Got<J>>, NodeFault>, Global>,
     on_disk: &OnDisk,
 ) {
     let told = match Durable::got(got, on_disk) {

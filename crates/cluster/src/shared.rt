@@ -7,6 +7,7 @@ use crate::channels::sent;
 use crate::durable::Durable;
 use crate::post::{Post, Route};
 use crate::ruled::{Ruled, copied};
+use chronicle::RegistryName;
 use master::{Decision, MasterFault, Request, State};
 use op::{Content, Msg};
 use std::alloc::{AllocError, Global};
@@ -15,9 +16,9 @@ use translog::LogDevice;
 
 /// The master behind a lock, and the inbox of each copy's worker. No lock is taken while another is held.
 #[derive(Drop)]
-pub(crate) struct Shared<D: LogDevice> {
+pub(crate) struct Shared<D: LogDevice, J: RegistryName> {
     pub(crate) master: Mutex<Ruled<D>>,
-    pub(crate) routes: Mutex<Vec<Route>>,
+    pub(crate) routes: Mutex<Vec<Route<J>>>,
     /// Why the master could make no copy the primary, the last time that one was to be made.
     pub(crate) unled: Mutex<Option<MasterFault>>,
 }
@@ -39,9 +40,9 @@ fn is_disabled(fault: &MasterFault) -> bool {
     )
 }
 
-impl<D: LogDevice> Shared<D> {
+impl<D: LogDevice, J: RegistryName> Shared<D, J> {
     /// Hands a post to a copy's worker, and tells whether there is one that takes it.
-    pub(crate) fn hand<R: Wait>(&self, rt: &R, copy: u32, post: Post) -> bool {
+    pub(crate) fn hand<R: Wait>(&self, rt: &R, copy: u32, post: Post<J>) -> bool {
         let routes = self.routes.lock(rt);
         for route in routes.as_slice() {
             if route.copy == copy {

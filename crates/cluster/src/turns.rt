@@ -4,13 +4,14 @@ use crate::gate::Gate;
 use crate::post::Post;
 use crate::releasing::TOGETHER;
 use crate::worker::Worker;
+use chronicle::RegistryName;
 use crossbeam_channel::Receiver;
 use std::alloc::Global;
 use std::sync::Wait;
 use translog::LogDevice;
 
 /// Whether a post is a caller's, and waits behind those of callers that came before it. A searcher waits for nobody.
-fn is_of_caller(post: &Post) -> bool {
+fn is_of_caller<J: RegistryName>(post: &Post<J>) -> bool {
     match post {
         Post::Ask(_, _) | Post::Write(_, _, _) | Post::Bulk(_, _, _) | Post::Get(_, _) => true,
         Post::Hand(_, _)
@@ -22,10 +23,14 @@ fn is_of_caller(post: &Post) -> bool {
     }
 }
 
-impl<D: LogDevice, G: Gate> Worker<D, G> {
+impl<D: LogDevice, G: Gate, J: RegistryName> Worker<D, G, J> {
     /// The next post that is to be done: of those that are held back the oldest, where it may be done now; else one that comes, for which it waits.
     /// Nothing where nobody can send one any more.
-    pub(crate) fn next<R: Wait>(&mut self, rt: &R, inbox: &Receiver<Post, Global>) -> Option<Post> {
+    pub(crate) fn next<R: Wait>(
+        &mut self,
+        rt: &R,
+        inbox: &Receiver<Post<J>, Global>,
+    ) -> Option<Post<J>> {
         if let Some(post) = self.next_held() {
             return Some(post);
         }
@@ -44,8 +49,8 @@ impl<D: LogDevice, G: Gate> Worker<D, G> {
     pub(crate) fn next_there<R: Wait>(
         &mut self,
         rt: &R,
-        inbox: &Receiver<Post, Global>,
-    ) -> Option<Post> {
+        inbox: &Receiver<Post<J>, Global>,
+    ) -> Option<Post<J>> {
         if let Some(post) = self.next_held() {
             return Some(post);
         }
@@ -61,18 +66,24 @@ impl<D: LogDevice, G: Gate> Worker<D, G> {
     }
 
     /// The oldest post that is held back, where it may be done now.
-    fn next_held(&mut self) -> Option<Post> {
-        let Some(post) = self.backlog.first() else {
-            return None;
-        };
-        if !self.backlog.is_freed() && self.is_to_wait(post) {
-            return None;
+    fn next_held(&mut self) -> Option<Post<J>> {
+        if self.backlog.is_freed() || !self.first_is_to_wait() {
+            self.backlog.next()
+        } else {
+            None
         }
-        self.backlog.next()
+    }
+
+    /// Whether the oldest post that is held back is to wait on.
+    fn first_is_to_wait(&self) -> bool {
+        match self.backlog.first() {
+            Some(post) => self.is_to_wait(post),
+            None => false,
+        }
     }
 
     /// A post that came, where it may be done now; else it is held back. Without memory for that it is let go, and its caller told so.
-    fn admitted(&mut self, post: Post) -> Option<Post> {
+    fn admitted(&mut self, post: Post<J>) -> Option<Post<J>> {
         let waits = is_of_caller(&post) && (!self.backlog.is_empty() || self.is_to_wait(&post));
         if !waits {
             return Some(post);
@@ -82,7 +93,7 @@ impl<D: LogDevice, G: Gate> Worker<D, G> {
     }
 
     /// Whether a post is a write or a bulk that is to wait: the copy leads, by all that it knows, and its window has no room for it.
-    fn is_to_wait(&self, post: &Post) -> bool {
+    fn is_to_wait(&self, post: &Post<J>) -> bool {
         match post {
             Post::Write(_, _, _) => self.lacks_room(1),
             Post::Bulk(writes, _, _) => self.lacks_room(writes.as_slice().len() as u64),

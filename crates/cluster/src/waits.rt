@@ -3,6 +3,7 @@
 use crate::channels::sent;
 use crate::durable::Durable;
 use crate::post::{BulkEnding, Ending};
+use chronicle::RegistryName;
 use crossbeam_channel::Sender;
 use node::Receipt;
 use op::Op;
@@ -13,25 +14,25 @@ use std::sync::Wait;
 
 /// A write that waits for its acknowledgement.
 #[derive(Drop)]
-struct Waiting {
+struct Waiting<J: RegistryName> {
     seq: u64,
     term: u64,
-    to: Sender<Ending, Global>,
+    to: Sender<Ending<J>, Global>,
 }
 
 /// A bulk that waits for the acknowledgements of its writes.
 #[derive(Drop)]
-struct WaitingBulk {
+struct WaitingBulk<J: RegistryName> {
     /// The writes that aren't acknowledged yet.
     left: Vec<Written>,
     /// The entries that acknowledge the others, each once.
-    entries: Vec<Durable<Receipt>>,
-    to: Sender<BulkEnding, Global>,
+    entries: Vec<Durable<Receipt<J>>>,
+    to: Sender<BulkEnding<J>, Global>,
 }
 
-impl WaitingBulk {
+impl<J: RegistryName> WaitingBulk<J> {
     /// Takes note of what an entry acknowledges, and tells whether the bulk goes on waiting. Where there is no memory for that its wait ends.
-    fn waits_on<R: Wait>(&mut self, rt: &R, alloc: Global, entry: &Durable<Receipt>) -> bool {
+    fn waits_on<R: Wait>(&mut self, rt: &R, alloc: Global, entry: &Durable<Receipt<J>>) -> bool {
         if !self.is_struck(entry) {
             return true;
         }
@@ -47,7 +48,7 @@ impl WaitingBulk {
     }
 
     /// Strikes out the writes that an entry acknowledges, and tells whether there are some.
-    fn is_struck(&mut self, entry: &Durable<Receipt>) -> bool {
+    fn is_struck(&mut self, entry: &Durable<Receipt<J>>) -> bool {
         let before = self.left.len();
         if let Ok(output) = &entry.what().deed().answer {
             for op in output.acknowledged.as_slice() {
@@ -67,7 +68,7 @@ impl WaitingBulk {
         }
     }
 
-    fn note(&mut self, alloc: Global, entry: &Durable<Receipt>) -> Result<(), AllocError> {
+    fn note(&mut self, alloc: Global, entry: &Durable<Receipt<J>>) -> Result<(), AllocError> {
         self.entries.push(entry.copy(alloc)?)?;
         Ok(())
     }
@@ -86,14 +87,14 @@ fn kept(alloc: Global, items: &[Item]) -> Result<Vec<Written>, AllocError> {
 
 /// The writes and the bulks of a copy that wait. One that is let go without being told of its end is unconfirmed: whether it stands is open.
 #[derive(Drop)]
-pub(crate) struct Waits {
+pub(crate) struct Waits<J: RegistryName> {
     alloc: Global,
-    items: Vec<Waiting>,
-    bulks: Vec<WaitingBulk>,
+    items: Vec<Waiting<J>>,
+    bulks: Vec<WaitingBulk<J>>,
 }
 
-impl Waits {
-    pub(crate) fn new(alloc: Global) -> Waits {
+impl<J: RegistryName> Waits<J> {
+    pub(crate) fn new(alloc: Global) -> Waits<J> {
         Waits {
             alloc,
             items: Vec::new(alloc),
@@ -102,7 +103,7 @@ impl Waits {
     }
 
     /// Notes who waits for a write. Where there is no memory for that, its wait ends.
-    pub(crate) fn add(&mut self, written: Written, to: Sender<Ending, Global>) {
+    pub(crate) fn add(&mut self, written: Written, to: Sender<Ending<J>, Global>) {
         let _ = self.items.push(Waiting {
             seq: written.seq,
             term: written.term,
@@ -111,7 +112,7 @@ impl Waits {
     }
 
     /// Notes who waits for the writes of a bulk that were kept. Where there is no memory for that, its wait ends.
-    pub(crate) fn add_bulk(&mut self, items: &[Item], to: Sender<BulkEnding, Global>) {
+    pub(crate) fn add_bulk(&mut self, items: &[Item], to: Sender<BulkEnding<J>, Global>) {
         let Ok(left) = kept(self.alloc, items) else {
             return;
         };
@@ -126,14 +127,14 @@ impl Waits {
     }
 
     /// Tells the bulks that wait what an entry acknowledges.
-    pub(crate) fn acknowledge_bulks<R: Wait>(&mut self, rt: &R, entry: &Durable<Receipt>) {
+    pub(crate) fn acknowledge_bulks<R: Wait>(&mut self, rt: &R, entry: &Durable<Receipt<J>>) {
         let alloc = self.alloc;
         self.bulks
             .retain_mut(|bulk| bulk.waits_on(rt, alloc, entry));
     }
 
     /// Tells who waits for an operation that an entry acknowledges it.
-    pub(crate) fn acknowledge<R: Wait>(&mut self, rt: &R, op: &Op, entry: &Durable<Receipt>) {
+    pub(crate) fn acknowledge<R: Wait>(&mut self, rt: &R, op: &Op, entry: &Durable<Receipt<J>>) {
         let Some(place) = self
             .items
             .iter()
@@ -154,7 +155,7 @@ impl Waits {
     }
 
     /// Tells all that their copy is the primary of their term no more since this entry.
-    pub(crate) fn lose<R: Wait>(&mut self, rt: &R, entry: &Durable<Receipt>) {
+    pub(crate) fn lose<R: Wait>(&mut self, rt: &R, entry: &Durable<Receipt<J>>) {
         for waiting in self.items.drain(..) {
             if let Ok(copied) = entry.copy(self.alloc) {
                 sent(rt, &waiting.to, Ending::Lost(copied));
@@ -163,7 +164,7 @@ impl Waits {
         self.lose_bulks(rt, entry);
     }
 
-    fn lose_bulks<R: Wait>(&mut self, rt: &R, entry: &Durable<Receipt>) {
+    fn lose_bulks<R: Wait>(&mut self, rt: &R, entry: &Durable<Receipt<J>>) {
         for bulk in self.bulks.drain(..) {
             if let Ok(copied) = entry.copy(self.alloc) {
                 sent(rt, &bulk.to, BulkEnding::Lost(copied));
@@ -179,6 +180,6 @@ impl Waits {
 }
 
 /// Whether what a bulk waits for is of this term.
-fn is_of(bulk: &WaitingBulk, term: u64) -> bool {
+fn is_of<J: RegistryName>(bulk: &WaitingBulk<J>, term: u64) -> bool {
     bulk.left.iter().all(|written| written.term == term)
 }

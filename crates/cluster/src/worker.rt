@@ -13,6 +13,7 @@ use crate::releasing::unsynced;
 use crate::shared::Shared;
 use crate::waits::Waits;
 use cell::CopyCell;
+use chronicle::RegistryName;
 use crossbeam_channel::Sender;
 use doc::DocId;
 use engine::Merging;
@@ -28,24 +29,24 @@ const TRIES: u32 = 100;
 
 /// What a worker has beside its copy: the gate, what all workers share, who builds its merges, and its pass.
 #[derive(Drop)]
-pub(crate) struct Tools<D: LogDevice, G: Gate> {
+pub(crate) struct Tools<D: LogDevice, G: Gate, J: RegistryName> {
     pub(crate) gate: Arc<G, Global>,
-    pub(crate) shared: Arc<Shared<D>, Global>,
+    pub(crate) shared: Arc<Shared<D, J>, Global>,
     pub(crate) merges: Sender<Merging, Global>,
-    pub(crate) pass: Pass,
+    pub(crate) pass: Pass<J>,
 }
 
 /// A copy, its pass, what it hasn't told yet, who waits for it, which posts are held back, and its merges. It is not `Drop`: end it by `into_left`.
-pub(crate) struct Worker<D: LogDevice, G: Gate> {
+pub(crate) struct Worker<D: LogDevice, G: Gate, J: RegistryName> {
     pub(crate) alloc: Global,
     pub(crate) number: u64,
     pub(crate) gate: Arc<G, Global>,
-    pub(crate) shared: Arc<Shared<D>, Global>,
-    pub(crate) cell: CopyCell<D>,
-    pub(crate) pass: Pass,
-    pub(crate) outbox: Outbox,
-    pub(crate) waits: Waits,
-    pub(crate) backlog: Backlog,
+    pub(crate) shared: Arc<Shared<D, J>, Global>,
+    pub(crate) cell: CopyCell<D, J>,
+    pub(crate) pass: Pass<J>,
+    pub(crate) outbox: Outbox<J>,
+    pub(crate) waits: Waits<J>,
+    pub(crate) backlog: Backlog<J>,
     pub(crate) merges: Merges,
     /// The greatest term of which another copy was made the primary.
     pub(crate) deposed: u64,
@@ -55,8 +56,12 @@ pub(crate) struct Worker<D: LogDevice, G: Gate> {
     pub(crate) is_to_lead: bool,
 }
 
-impl<D: LogDevice, G: Gate> Worker<D, G> {
-    pub(crate) fn new(alloc: Global, tools: Tools<D, G>, cell: CopyCell<D>) -> Worker<D, G> {
+impl<D: LogDevice, G: Gate, J: RegistryName> Worker<D, G, J> {
+    pub(crate) fn new(
+        alloc: Global,
+        tools: Tools<D, G, J>,
+        cell: CopyCell<D, J>,
+    ) -> Worker<D, G, J> {
         let Tools {
             gate,
             shared,
@@ -90,7 +95,7 @@ impl<D: LogDevice, G: Gate> Worker<D, G> {
     }
 
     /// Does what a post asks, and tells whether it goes on.
-    pub(crate) fn serve<R: Wait>(&mut self, rt: &R, post: Post) -> bool {
+    pub(crate) fn serve<R: Wait>(&mut self, rt: &R, post: Post<J>) -> bool {
         if let Post::Stop = &post {
             drop(post);
             return false;
@@ -101,7 +106,7 @@ impl<D: LogDevice, G: Gate> Worker<D, G> {
         true
     }
 
-    fn answer<R: Wait>(&mut self, rt: &R, post: Post) {
+    fn answer<R: Wait>(&mut self, rt: &R, post: Post<J>) {
         match post {
             Post::Ask(input, to) => self.ask(rt, input, to),
             Post::Write(write, first, second) => self.write(rt, write, first, second),
@@ -117,7 +122,7 @@ impl<D: LogDevice, G: Gate> Worker<D, G> {
     }
 
     /// One call of the copy: its entry, also where the copy refuses.
-    fn made<R: Wait>(&mut self, rt: &R, input: Input) -> Result<Receipt, NodeFault> {
+    fn made<R: Wait>(&mut self, rt: &R, input: Input) -> Result<Receipt<J>, NodeFault> {
         self.forget();
         match self.cell.call(rt, self.alloc, &mut self.pass, input) {
             Ok(receipt) => Ok(receipt),
@@ -138,7 +143,7 @@ impl<D: LogDevice, G: Gate> Worker<D, G> {
     }
 
     /// An entry, with what the copy is after it.
-    fn entry(&self, receipt: Receipt, asked: Asked) -> Parcel {
+    fn entry(&self, receipt: Receipt<J>, asked: Asked<J>) -> Parcel<J> {
         Parcel::Entry(Entry {
             receipt,
             leads: self.leads(),
@@ -159,7 +164,7 @@ impl<D: LogDevice, G: Gate> Worker<D, G> {
     }
 
     /// Does a call. A refresh shows searches only what is on the disk, and adds a segment.
-    fn ask<R: Wait>(&mut self, rt: &R, input: Input, to: Sender<Answered, Global>) {
+    fn ask<R: Wait>(&mut self, rt: &R, input: Input, to: Sender<Answered<J>, Global>) {
         if let Input::Refresh = &input {
             drop(input);
             self.refresh(rt, to);
@@ -168,7 +173,7 @@ impl<D: LogDevice, G: Gate> Worker<D, G> {
         }
     }
 
-    fn refresh<R: Wait>(&mut self, rt: &R, to: Sender<Answered, Global>) {
+    fn refresh<R: Wait>(&mut self, rt: &R, to: Sender<Answered<J>, Global>) {
         self.release(rt);
         if self.cell.sync().is_err() {
             give(rt, to, Err(unsynced()));
@@ -178,7 +183,7 @@ impl<D: LogDevice, G: Gate> Worker<D, G> {
         self.begin_merge(rt);
     }
 
-    fn do_asked<R: Wait>(&mut self, rt: &R, input: Input, to: Sender<Answered, Global>) {
+    fn do_asked<R: Wait>(&mut self, rt: &R, input: Input, to: Sender<Answered<J>, Global>) {
         let was_open = self.is_open();
         match self.made(rt, input) {
             Ok(receipt) => {
@@ -195,8 +200,8 @@ impl<D: LogDevice, G: Gate> Worker<D, G> {
         &mut self,
         rt: &R,
         write: Write,
-        first: Sender<Answered, Global>,
-        second: Sender<Ending, Global>,
+        first: Sender<Answered<J>, Global>,
+        second: Sender<Ending<J>, Global>,
     ) {
         let was_open = self.is_open();
         match self.made(rt, Input::Write(write)) {
@@ -217,8 +222,8 @@ impl<D: LogDevice, G: Gate> Worker<D, G> {
         &mut self,
         rt: &R,
         writes: Writes,
-        first: Sender<Answered, Global>,
-        second: Sender<BulkEnding, Global>,
+        first: Sender<Answered<J>, Global>,
+        second: Sender<BulkEnding<J>, Global>,
     ) {
         let was_open = self.is_open();
         match self.made(rt, Input::Bulk(writes)) {
@@ -334,7 +339,7 @@ impl<D: LogDevice, G: Gate> Worker<D, G> {
         &mut self,
         rt: &R,
         id: DocId,
-        to: Sender<Result<Durable<Got>, NodeFault>, Global>,
+        to: Sender<Result<Durable<Got<J>>, NodeFault>, Global>,
     ) {
         match self.cell.get(self.alloc, id) {
             Ok(got) => self.keep(rt, Parcel::Got(got, to)),
@@ -352,7 +357,7 @@ impl<D: LogDevice, G: Gate> Worker<D, G> {
     }
 
     /// Ends what searches see of the copy, which waits for those that are just taking it.
-    pub(crate) fn into_left<R: Wait>(self, rt: &R) -> Left {
+    pub(crate) fn into_left<R: Wait>(self, rt: &R) -> Left<J> {
         let Worker {
             cell,
             pass,

@@ -1,18 +1,18 @@
 -- What became of the writes of a bulk, one more each.
 use Rattle.std.proofs.Common.{◌≡◌, ℕ, suc, List, [], ◌∷◌, ◌++◌, length, map, refl, ap, subst}
-use Rattle.std.specs.Prelude.{slice_get, Result, Ok, Err, IfOk}
+use Rattle.std.specs.Prelude.{slice_get, Some, IfSome}
+use Rattle.chronicle.specs.Registered.{prefix}
 use Rattle.replica.specs.declared.output.Item.{Item}
 use Rattle.replica.specs.declared.input.Write as taken
 use Rattle.node.specs.Entry.{Receipt}
+use Rattle.node.specs.Heard.{IsAheadOf}
 use Rattle.cluster.specs.Bulks.{IsBulkConfirmed}
 use Rattle.cluster.specs.declared.confirmed.ConfirmedBulk.{ConfirmedBulk}
-use Rattle.cluster.specs.declared.fault.ClusterFault.{ClusterFault}
 use Rattle.front.specs.declared.command.Write.{Write}
 use Rattle.front.specs.declared.reply.ItemReply.{ItemReply}
-use Rattle.front.specs.declared.reply.Reply.{Reply}
-use Rattle.front.specs.ReplyView.{reply_view}
+use Rattle.front.specs.Reply.{Reply}
 use Rattle.shard.specs.Answering.{item_reply_of, write_of}
-use Rattle.group.specs.Group.{count_by, counted_at, replies_at, IsBulkTold, IsBulkWritten}
+use Rattle.group.specs.Group.{count_by, counted_at, replies_at, Heard, IsBulkTold, IsBulkWritten}
 
 pub as_many : (entries : List Receipt) (items : List Item) (places : List ℕ) → length (replies_at entries items places) ≡ length items
 as_many entries [] places = refl
@@ -27,8 +27,12 @@ replies_more entries (one ∷ items) item [] = ap (λ (rs : List ItemReply). ite
 replies_more entries (one ∷ items) item (place ∷ places) = ap (λ (rs : List ItemReply). item_reply_of (counted_at entries place) one ∷ rs) (replies_more entries items item places)
 
 -- a bulk that is confirmed and told is done
-pub told_written : (ws : List Write) (confirmed : ConfirmedBulk) (asked : List taken.Write) (answer : Result Reply ClusterFault) → asked ≡ map write_of ws → IsBulkConfirmed asked confirmed → IfOk answer (λ r. IsBulkTold confirmed (reply_view r))
-    → IfOk answer (λ r. IsBulkWritten ws (reply_view r))
-told_written ws confirmed asked (Ok r) is acknowledged told =
-    record { confirmed = confirmed; acknowledged = subst (λ (writes : List taken.Write). IsBulkConfirmed writes confirmed) is acknowledged; told = told }
-told_written ws confirmed asked (Err e) is acknowledged told = tt
+pub told_written : {J : Type 0} (before after : Heard) (ws : List Write) (confirmed : ConfirmedBulk J) (asked : List taken.Write) (r : Reply) → asked ≡ map write_of ws → IsBulkConfirmed asked confirmed → IsBulkTold confirmed r
+    → IfSome before (λ h. IsAheadOf h confirmed.bulk) → after ≡ Some (prefix confirmed.bulk.node confirmed.bulk.deeds) → IsBulkWritten J before ws r after
+told_written before after ws confirmed asked r is acknowledged told later heard = record {
+  confirmed = confirmed;
+  later = later;
+  heard = heard;
+  acknowledged = subst (λ (writes : List taken.Write). IsBulkConfirmed writes confirmed) is acknowledged;
+  told = told;
+}

@@ -1,5 +1,5 @@
 -- What an index of several copies answers a command.
-use Rattle.std.specs.Prelude.{◌≡◌, ◌⊎◌, ◌<◌, ℕ, true, List, [], ◌∷◌, map, Option, Some, None, option_map, Result, Ok, Err, length, slice_get, unwrap_or}
+use Rattle.std.specs.Prelude.{◌≡◌, ◌⊎◌, ◌<◌, ℕ, true, List, [], ◌∷◌, map, Option, Some, None, option_map, Result, Ok, Err, length, slice_get, unwrap_or, IfSome}
 use Rattle.doc.specs.Id.{Id}
 use Rattle.op.specs.declared.message.Msg.{Msg}
 use Rattle.query.specs.Page.{PageData}
@@ -13,7 +13,10 @@ use Rattle.master.specs.declared.fault.MasterFault.{MasterFault}
 use Rattle.master.specs.declared.fault.MasterFault.TheVariants as master
 use Rattle.master.specs.declared.state.Decision.{Decision}
 use Rattle.master.specs.declared.state.Request.TheVariants.{Promote}
-use Rattle.node.specs.Reading.{IsGotAt}
+use Rattle.node.specs.Reading.{GotData, IsGot as IsRead}
+use Rattle.node.specs.Heard.{IsAheadOf, IsNotBefore}
+use Rattle.chronicle.specs.Registered.{PrefixData, prefix}
+use Rattle.journal.specs.declared.journal.Deed.{Deed}
 use Rattle.node.specs.Entry.{Receipt}
 use Rattle.cluster.specs.declared.confirmed.Confirmed.{Confirmed}
 use Rattle.cluster.specs.declared.confirmed.ConfirmedBulk.{ConfirmedBulk}
@@ -34,6 +37,10 @@ use Rattle.front.specs.Command.{Command, write, bulk, get, search, count, refres
 use Rattle.front.specs.Reply.{Reply, bulked, counted, refreshed, promoted, refused}
 use Rattle.shard.specs.Answering.{hits_of, item_reply_of, refusal_of, reply_of, write_of}
 
+-- what a client knows: the first entries of the journal of the copy that it heard of last
+abbrev pub Heard : Type 0
+Heard = Option (PrefixData Deed)
+
 -- how many copies an entry counts
 abbrev pub counted_in : Result Output CopyFault → ℕ
 counted_in (Ok output) = output.members
@@ -52,8 +59,10 @@ pub record HasRefreshed : Type 0 where
 
 -- the write has an entry of its copy and one that acknowledges it; the reply tells the first, and the copies that the second counts. Where it was to be
 -- refreshed at once, copies were
-pub record IsWritten (w : Write) (r : Reply) : Type 0 where
-  pub confirmed : Confirmed
+pub record IsWritten (J : Type 0) (before : Heard) (w : Write) (r : Reply) (after : Heard) : Type 0 where
+  pub confirmed : Confirmed J
+  pub later : IfSome before (λ h. IsAheadOf h confirmed.write)
+  pub heard : after ≡ Some (prefix confirmed.acknowledgement.node confirmed.acknowledgement.deeds)
   pub acknowledged : IsConfirmed (write_of w) confirmed
   pub told : r ≡ told_by confirmed.write.deed.answer (counted_in confirmed.acknowledgement.deed.answer)
   pub refreshed : w.refresh ≡ true → HasRefreshed
@@ -74,23 +83,32 @@ replies_at entries (item ∷ items) [] = item_reply_of 0 item ∷ replies_at ent
 replies_at entries (item ∷ items) (place ∷ places) = item_reply_of (counted_at entries place) item ∷ replies_at entries items places
 
 -- the reply tells what became of each write of a bulk, and for one that was kept the copies that its acknowledgement counts
-pub record IsBulkTold (confirmed : ConfirmedBulk) (r : Reply) : Type 0 where
+pub record IsBulkTold {J : Type 0} (confirmed : ConfirmedBulk J) (r : Reply) : Type 0 where
   pub items : List Item
   pub kept : items_in confirmed.bulk.deed.answer ≡ Some items
   pub told : r ≡ bulked (replies_at confirmed.acknowledgements.items items confirmed.places.items)
 
 -- the bulk has an entry of its copy, and for each write that was kept one that acknowledges it, and the reply tells them
-pub record IsBulkWritten (ws : List Write) (r : Reply) : Type 0 where
-  pub confirmed : ConfirmedBulk
+pub record IsBulkWritten (J : Type 0) (before : Heard) (ws : List Write) (r : Reply) (after : Heard) : Type 0 where
+  pub confirmed : ConfirmedBulk J
+  pub later : IfSome before (λ h. IsAheadOf h confirmed.bulk)
+  pub heard : after ≡ Some (prefix confirmed.bulk.node confirmed.bulk.deeds)
   pub acknowledged : IsBulkConfirmed (map write_of ws) confirmed
   pub told : IsBulkTold confirmed r
 
--- the reply tells what a copy, after a legal journal, has of the id
-pub record IsGot (id : Id) (r : Reply) : Type 0 where
-  pub copy : ℕ
-  pub answer : Answer
-  pub is_got : IsGotAt copy id answer
-  pub told : r ≡ reply_of 0 answer
+-- what is known once this was read: its journal, where that had entries
+abbrev pub heard_by : Heard → ℕ → List Deed → Heard
+heard_by before node [] = before
+heard_by before node (d ∷ ds) = Some (prefix node (d ∷ ds))
+
+-- the reply tells what a copy has of the id, after a journal that isn't shorter than what was known of it
+pub record IsGot (before : Heard) (id : Id) (r : Reply) (after : Heard) : Type 0 where
+  pub got : GotData
+  pub is_got : IsRead got
+  pub id_is : got.id ≡ id
+  pub later : IfSome before (λ h. IsNotBefore h got)
+  pub told : r ≡ reply_of 0 got.answer
+  pub heard : after ≡ heard_by before got.node got.deeds
 
 -- what searches of a published list see
 abbrev pub shown_in : Listing → SnapshotData
@@ -134,19 +152,20 @@ master_refusal master.NoMemory = NoMemory
 master_refusal master.Full = Full
 
 -- what is asked was done
-abbrev pub IsDone : Command → Reply → Type 0
-IsDone (write w) r = IsWritten w r
-IsDone (bulk ws) r = IsBulkWritten ws r
-IsDone (get id) r = IsGot id r
-IsDone (search q page) r = IsFound q page r
-IsDone (count q) r = IsCounted q r
-IsDone refresh r = IsRefreshed r
-IsDone (promote copy) r = IsMadePrimary copy r
+abbrev pub IsDone : Type 0 → Heard → Command → Reply → Heard → Type 0
+IsDone J before (write w) r after = IsWritten J before w r after
+IsDone J before (bulk ws) r after = IsBulkWritten J before ws r after
+IsDone J before (get id) r after = IsGot before id r after
+IsDone J before (search q page) r after = IsFound q page r × (after ≡ before)
+IsDone J before (count q) r after = IsCounted q r × (after ≡ before)
+IsDone J before refresh r after = IsRefreshed r × (after ≡ before)
+IsDone J before (promote copy) r after = IsMadePrimary copy r × (after ≡ before)
 
 -- what is asked was refused
 pub record IsRefused (r : Reply) : Type 0 where
   pub refusal : Refusal
   pub told : r ≡ refused refusal
 
-abbrev pub IsGroupReply : Command → Reply → Type 0
-IsGroupReply c r = IsDone c r ⊎ IsRefused r
+-- a reply of copies whose journals are those of one registry, and what the client knows then
+abbrev pub IsTold : Type 0 → Heard → Command → Reply → Heard → Type 0
+IsTold J before c r after = IsDone J before c r after ⊎ (IsRefused r × (after ≡ before))

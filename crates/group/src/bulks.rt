@@ -5,6 +5,7 @@ ghost use Rattle.front.specs.ReplyView.{reply_view};
 ghost use Rattle.group.specs.Group.{count_by, counted_at, replies_at, IsBulkTold};
 
 use crate::group::counted_in;
+use chronicle::RegistryName;
 use cluster::{ClusterFault, ConfirmedBulk};
 use front::reply::{ItemReply, Reply};
 use node::Receipt;
@@ -13,7 +14,10 @@ use shard::answering::item_reply_of;
 use std::alloc::{AllocError, Global};
 
 /// The reply that tells a bulk that is confirmed.
-pub(crate) fn told_bulk(alloc: Global, confirmed: ConfirmedBulk) -> Result<Reply, ClusterFault>
+pub(crate) fn told_bulk<J: RegistryName>(
+    alloc: Global,
+    confirmed: ConfirmedBulk<J>,
+) -> Result<Reply, ClusterFault>
     ensures { IfOk result (λ r. IsBulkTold confirmed (reply_view r)) }
 {
     let ConfirmedBulk {
@@ -29,7 +33,7 @@ pub(crate) fn told_bulk(alloc: Global, confirmed: ConfirmedBulk) -> Result<Reply
 }
 
 /// What became of the writes of a receipt's bulk.
-fn items_of(bulk: Receipt) -> Option<Items>
+fn items_of<J: RegistryName>(bulk: Receipt<J>) -> Option<Items>
     ensures { IfSome result (λ items. cluster.bulked bulk.deed.answer ≡ Some items) }
 {
     items_in(bulk.into_deed().answer)
@@ -55,11 +59,11 @@ fn items_by(answer: Answer) -> Option<Items>
 
 /// What became of each write of a bulk, with the copies that the entry at its place counts.
 #[tactic(auto, using(crate::proofs::Replying::replies_more, crate::proofs::Replying::as_many))]
-fn replies_at(
+fn replies_at<J: RegistryName>(
     alloc: Global,
     items: Items,
     places: &[usize],
-    entries: &[Receipt],
+    entries: &[Receipt<J>],
 ) -> Result<Vec<ItemReply>, AllocError>
     ensures { IfOk result (λ rs. rs.items ≡ replies_at entries.now items places.now) }
 {
@@ -72,7 +76,7 @@ fn replies_at(
 }
 
 /// How many copies the entry counts whose place comes at some place; 0 where none comes there.
-fn count_by(entries: &[Receipt], places: &[usize], at: usize) -> u64
+fn count_by<J: RegistryName>(entries: &[Receipt<J>], places: &[usize], at: usize) -> u64
     ensures { result ≡ count_by entries.now (slice_get places.now at) }
 {
     match places.get(at) {
@@ -82,7 +86,7 @@ fn count_by(entries: &[Receipt], places: &[usize], at: usize) -> u64
 }
 
 /// How many copies the entry at a place counts.
-fn counted_at(entries: &[Receipt], place: usize) -> u64
+fn counted_at<J: RegistryName>(entries: &[Receipt<J>], place: usize) -> u64
     ensures { result ≡ counted_at entries.now place }
 {
     match entries.get(place) {

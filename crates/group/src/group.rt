@@ -1,5 +1,6 @@
 //! An index of several copies, each on a thread of its own.
-ghost use Rattle.std.specs.Prelude.{◌≡◌, ◌<◌, true, IfOk, OnOk};
+ghost use Rattle.std.specs.Prelude.{◌≡◌, ◌<◌, true, IfOk, IfSome, IsTrue, OnOk};
+ghost use Rattle.node.specs.Heard.{IsAheadOf, IsNotBefore};
 ghost use Rattle.cluster.specs.Refreshed.{AreRefreshed};
 ghost use Rattle.query.specs.View.{query_view};
 ghost use Rattle.engine.specs.Shown.{hits_view};
@@ -10,13 +11,14 @@ ghost use Rattle.group.specs.Group.{counted_in, told_by, HasRefreshed, IsBulkWri
 
 use crate::bulks::told_bulk;
 use crate::promoting::{is_promotion, promote, refusal_to};
-use cluster::{Client, ClusterFault, Confirmed};
+use chronicle::RegistryName;
+use cluster::{Client, ClusterFault, Confirmed, WriteFault};
 use doc::{DocId, Mapping};
 use engine::Hits;
 use front::command::{Command, Write};
 use front::reply::{Refusal, Reply};
 use front::{Resumable, Service};
-use node::Receipt;
+use node::{Got, Heard, Receipt};
 use published::{SearchFault, Searcher, Unnamed};
 use query::{Page, Query, SearchBody};
 use replica::{CopyFault, Output, Writes};
@@ -41,7 +43,7 @@ pub struct Chair {
 
 impl Chair {
     /// A place with a searcher of the primary where that can be had; else the first search there asks for it.
-    pub fn new<R: Wait, D: LogDevice>(rt: &R, client: &Client<D>) -> Chair {
+    pub fn new<R: Wait, D: LogDevice, J: RegistryName>(rt: &R, client: &Client<D, J>) -> Chair {
         Chair {
             seat: Mutex::new(seat_of(rt, client).ok()),
         }
@@ -49,7 +51,10 @@ impl Chair {
 }
 
 /// A searcher of the primary.
-fn seat_of<R: Wait, D: LogDevice>(rt: &R, client: &Client<D>) -> Result<Seat, ClusterFault> {
+fn seat_of<R: Wait, D: LogDevice, J: RegistryName>(
+    rt: &R,
+    client: &Client<D, J>,
+) -> Result<Seat, ClusterFault> {
     let copy = client.primary(rt);
     let searcher = client.searcher(rt, copy)?;
     Ok(Seat { copy, searcher })
@@ -58,24 +63,26 @@ fn seat_of<R: Wait, D: LogDevice>(rt: &R, client: &Client<D>) -> Result<Seat, Cl
 /// An index of several copies, as one thread has it. Writes and gets are the primary's; searches are of what the primary has published, by a
 /// searcher that waits for no copy; a refresh is of each copy.
 #[derive(Drop)]
-pub struct Group<'a, R: Wait, D: LogDevice> {
+pub struct Group<'a, R: Wait, D: LogDevice, J: RegistryName> {
     pub rt: &'a R,
     pub alloc: Global,
     pub name: &'a str,
     pub mapping: &'a Mapping,
-    pub client: &'a Client<D>,
+    pub client: &'a Client<D, J>,
     /// Where the searcher of the last search is kept.
     pub chair: &'a Chair,
+    /// What the client that is served knows of the copy that it heard of last.
+    pub heard: Option<Heard<J>>,
 }
 
-impl<'a, R: Wait, D: LogDevice> Service for Group<'a, R, D> {
-    ghost use Rattle.group.specs.Group.{IsGroupReply};
+impl<'a, R: Wait, D: LogDevice, J: RegistryName> Service for Group<'a, R, D, J> {
+    ghost use Rattle.group.specs.Group.{IsTold};
 
     ghost name = { λ g. g.name.now };
 
     ghost fields = { λ g. g.mapping.now };
 
-    ghost answers = { λ g c r h. IsGroupReply c r };
+    ghost answers = { λ g c r h. IsTold J g.heard c r h.heard };
 
     fn index(&self) -> &str {
         self.name
@@ -88,47 +95,77 @@ impl<'a, R: Wait, D: LogDevice> Service for Group<'a, R, D> {
     fn call(&mut self, command: Command) -> Reply {
         let promotes = is_promotion(&command);
         match self.answer(command) {
-            Ok(reply) => reply,
-            Err(fault) => Reply::Refused(refusal_to(promotes, &fault)),
+            Ok((reply, heard)) => {
+                self.heard = heard;
+                reply
+            }
+            Err(fault) => Reply::Refused(refusal_of_write(promotes, &fault)),
         }
     }
 }
 
-/// Its clients know nothing of it that it would go on from.
-impl<'a, R: Wait, D: LogDevice> Resumable for Group<'a, R, D> {
-    type Known = ();
+impl<'a, R: Wait, D: LogDevice, J: RegistryName> Resumable for Group<'a, R, D, J> {
+    type Known = Option<Heard<J>>;
 
-    ghost knows = { λ g. tt };
+    ghost knows = { λ g. g.heard };
 
-    fn known(&self) {}
+    fn known(&self) -> Option<Heard<J>> {
+        again(&self.heard)
+    }
 
-    fn resume(&mut self, _known: &Option<()>) {}
+    fn resume(&mut self, known: &Option<Option<Heard<J>>>) {
+        if let Some(known) = known {
+            self.heard = again(known);
+        }
+    }
 }
 
-impl<'a, R: Wait, D: LogDevice> Group<'a, R, D> {
-    /// Has the copies do a command.
-    fn answer(&self, command: Command) -> Result<Reply, ClusterFault>
-        ensures { IfOk result (λ r. IsDone (command_view command) (reply_view r)) }
+impl<'a, R: Wait, D: LogDevice, J: RegistryName> Group<'a, R, D, J> {
+    /// Has the copies do a command; and what the client knows then.
+    fn answer(&self, command: Command) -> Result<(Reply, Option<Heard<J>>), WriteFault<J>>
+        ensures { IfOk result (λ r. IsDone J self.now.heard (command_view command) (reply_view r.0) r.1) }
     {
         match command {
             Command::Write(write) => self.write(write),
             Command::Bulk(writes) => self.bulk(writes),
-            Command::Get(id) => self.get(id),
-            Command::Search(body) => self.search(&body),
-            Command::Count(query) => self.count(&query),
-            Command::Refresh => self.refresh(),
-            Command::Promote(copy) => promote(self.rt, self.client, copy),
+            Command::Get(id) => Ok(self.get(id)?),
+            Command::Search(body) => Ok((self.search(&body)?, again(&self.heard))),
+            Command::Count(query) => Ok((self.count(&query)?, again(&self.heard))),
+            Command::Refresh => Ok((self.refresh()?, again(&self.heard))),
+            Command::Promote(copy) => Ok((
+                promote(self.rt, self.client, copy)?,
+                again(&self.heard),
+            )),
         }
     }
 
     /// Has the primary do a write, and waits until each member has it; then come the refreshes that are wanted.
-    fn write(&self, write: Write) -> Result<Reply, ClusterFault>
-        ensures { IfOk result (λ r. IsWritten write (reply_view r)) }
+    fn write(&self, write: Write) -> Result<(Reply, Option<Heard<J>>), WriteFault<J>>
+        ensures { IfOk result (λ r. IsWritten J self.now.heard write (reply_view r.0) r.1) }
     {
         let refresh = write.refresh;
         let confirmed = self.client.write(self.rt, write_of(write))?;
-        self.refresh_where(refresh)?;
-        Ok(told(confirmed))
+        if !self.is_news(&confirmed.write) {
+            return Err(stray(confirmed));
+        }
+        let heard = Heard::by(&confirmed.acknowledgement);
+        match self.refresh_where(refresh) {
+            Ok(()) => Ok((told(confirmed), Some(heard))),
+            Err(fault) => {
+                drop(confirmed);
+                Err(WriteFault::Cluster(fault))
+            }
+        }
+    }
+
+    /// Whether an entry stands behind all that the client knows, where it is of that copy.
+    fn is_news(&self, receipt: &Receipt<J>) -> bool
+        ensures { IsTrue result → IfSome self.now.heard (λ h. IsAheadOf h receipt.now) }
+    {
+        match &self.heard {
+            Some(heard) => heard.is_before(receipt),
+            None => true,
+        }
     }
 
     /// Refreshes the copies where that is wanted.
@@ -143,22 +180,46 @@ impl<'a, R: Wait, D: LogDevice> Group<'a, R, D> {
     }
 
     /// Has the primary do the writes of a bulk with one step, and waits until each member has those that were kept.
-    fn bulk(&self, writes: Vec<Write>) -> Result<Reply, ClusterFault>
-        ensures { IfOk result (λ r. IsBulkWritten writes.items (reply_view r)) }
+    fn bulk(&self, writes: Vec<Write>) -> Result<(Reply, Option<Heard<J>>), WriteFault<J>>
+        ensures { IfOk result (λ r. IsBulkWritten J self.now.heard writes.items (reply_view r.0) r.1) }
     {
         let Some(writes) = Writes::of(writes_of(self.alloc, writes)?) else {
-            return Err(ClusterFault::Copy(CopyFault::Mismatch));
+            return Err(WriteFault::Cluster(ClusterFault::Copy(CopyFault::Mismatch)));
         };
         let confirmed = self.client.bulk(self.rt, writes)?;
-        told_bulk(self.alloc, confirmed)
+        if !self.is_news(&confirmed.bulk) {
+            let place = confirmed.bulk.place();
+            drop(confirmed);
+            return Err(WriteFault::Cluster(ClusterFault::Stray(place)));
+        }
+        let heard = Heard::by(&confirmed.bulk);
+        let reply = told_bulk(self.alloc, confirmed)?;
+        Ok((reply, Some(heard)))
     }
 
-    fn get(&self, id: DocId) -> Result<Reply, ClusterFault>
-        ensures { IfOk result (λ r. IsGot id (reply_view r)) }
+    fn get(&self, id: DocId) -> Result<(Reply, Option<Heard<J>>), ClusterFault>
+        ensures { IfOk result (λ r. IsGot self.now.heard id (reply_view r.0) r.1) }
     {
         let primary = self.client.primary(self.rt);
-        let answer = self.client.get(self.rt, primary, id)?;
-        Ok(reply_in(answer, 0))
+        let got = self.client.get(self.rt, primary, id)?;
+        if !self.is_later(&got) {
+            return Err(ClusterFault::Stray(got.place()));
+        }
+        let heard = match got.heard() {
+            Some(heard) => Some(heard),
+            None => again(&self.heard),
+        };
+        Ok((reply_in(got.into_answer(), 0), heard))
+    }
+
+    /// Whether what was read is of a journal that has all that the client knows of it.
+    fn is_later(&self, got: &Got<J>) -> bool
+        ensures { IsTrue result → IfSome self.now.heard (λ h. IsNotBefore h got.now) }
+    {
+        match &self.heard {
+            Some(heard) => heard.is_in(got),
+            None => true,
+        }
     }
 
     fn search(&self, body: &SearchBody) -> Result<Reply, ClusterFault>
@@ -214,8 +275,25 @@ impl<'a, R: Wait, D: LogDevice> Group<'a, R, D> {
     }
 }
 
+/// What a client knows, once more.
+fn again<J: RegistryName>(heard: &Option<Heard<J>>) -> Option<Heard<J>>
+    ensures { result ≡ heard.now }
+{
+    match heard {
+        Some(heard) => Some(heard.again()),
+        None => None,
+    }
+}
+
+/// The fault of a write whose entry stands before what the client knows, as none does.
+fn stray<J: RegistryName>(confirmed: Confirmed<J>) -> WriteFault<J> {
+    let place = confirmed.write.place();
+    drop(confirmed);
+    WriteFault::Cluster(ClusterFault::Stray(place))
+}
+
 /// The reply that tells a write that is confirmed.
-fn told(confirmed: Confirmed) -> Reply
+fn told<J: RegistryName>(confirmed: Confirmed<J>) -> Reply
     ensures { reply_view result ≡ told_by confirmed.write.deed.answer (counted_in confirmed.acknowledgement.deed.answer) }
 {
     let Confirmed {
@@ -228,7 +306,7 @@ fn told(confirmed: Confirmed) -> Reply
 }
 
 /// How many copies an entry counts.
-pub(crate) fn counted_in(receipt: &Receipt) -> u64
+pub(crate) fn counted_in<J: RegistryName>(receipt: &Receipt<J>) -> u64
     ensures { result ≡ counted_in receipt.now.deed.answer }
 {
     match &receipt.deed().answer {
@@ -238,7 +316,7 @@ pub(crate) fn counted_in(receipt: &Receipt) -> u64
 }
 
 /// The reply that tells an entry, of so many copies.
-fn told_in(receipt: Receipt, copies: u64) -> Reply
+fn told_in<J: RegistryName>(receipt: Receipt<J>, copies: u64) -> Reply
     ensures { reply_view result ≡ told_by receipt.deed.answer copies }
 {
     reply_to(receipt.into_deed().answer, copies)
@@ -307,13 +385,20 @@ fn unsearched(fault: SearchFault) -> ClusterFault {
     }
 }
 
-/// The refusal that tells why copies give no answer. A write that nobody acknowledges may be kept.
+/// The refusal that tells why a write isn't confirmed. One that nobody acknowledges may be kept.
+pub(crate) fn refusal_of_write<J: RegistryName>(promotes: bool, fault: &WriteFault<J>) -> Refusal {
+    match fault {
+        WriteFault::NoPrimary(_) | WriteFault::Lost(_, _) | WriteFault::Unconfirmed(_) => {
+            Refusal::NotPrimary
+        }
+        WriteFault::Cluster(fault) => refusal_to(promotes, fault),
+    }
+}
+
+/// The refusal that tells why copies give no answer.
 pub(crate) fn refusal_by(fault: &ClusterFault) -> Refusal {
     match fault {
-        ClusterFault::NoPrimary(_)
-        | ClusterFault::Lost(_, _)
-        | ClusterFault::Unconfirmed(_)
-        | ClusterFault::Master(_) => Refusal::NotPrimary,
+        ClusterFault::Master(_) => Refusal::NotPrimary,
         ClusterFault::NoMemory | ClusterFault::NoSeat => Refusal::NoMemory,
         ClusterFault::Copy(fault) => refusal_of(fault),
         ClusterFault::Stray(_) => Refusal::Mismatch,

@@ -4,6 +4,7 @@ ghost use Rattle.front.specs.ReplyView.{reply_view};
 ghost use Rattle.group.specs.Group.{master_refusal, IsMadePrimary};
 
 use crate::group::refusal_by;
+use chronicle::RegistryName;
 use cluster::{Client, ClusterFault};
 use front::command::Command;
 use front::reply::{Refusal, Reply};
@@ -12,9 +13,9 @@ use std::sync::Wait;
 use translog::LogDevice;
 
 /// Has the master make a copy the primary. Each promotion has a message, by which the copy is told its term.
-pub(crate) fn promote<R: Wait, D: LogDevice>(
+pub(crate) fn promote<R: Wait, D: LogDevice, J: RegistryName>(
     rt: &R,
-    client: &Client<D>,
+    client: &Client<D, J>,
     copy: u32,
 ) -> Result<Reply, ClusterFault>
     ensures { IfOk result (λ r. IsMadePrimary copy (reply_view r)) }

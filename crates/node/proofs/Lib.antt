@@ -3,3 +3,5 @@ pub mod Halves
 pub mod Calls
 pub mod Receipts
 pub mod Readings
+pub mod Prefixes
+pub mod Sound

@@ -1,6 +1,8 @@
 -- A copy is read without an entry.
-use Rattle.std.proofs.Common.{◌≡◌, ◌||◌, Bool, true, false, refl, sym, ap, ◌∙◌, Option, Some, None, Err}
-use Rattle.std.specs.Prelude.{is_some}
+use Rattle.std.proofs.Common.{◌≡◌, ℕ, List, [], ◌||◌, Bool, true, false, refl, sym, ap, subst, ◌∙◌, Option, Some, None, Err}
+use Rattle.std.specs.Prelude.{is_some, IfSome, IfNone}
+use Rattle.chronicle.specs.Registered.{PrefixData, prefix}
+use Rattle.journal.specs.declared.journal.Deed.{Deed}
 use Rattle.doc.specs.Id.{Id}
 use Rattle.translog.specs.Kept.{kept}
 use Rattle.replica.specs.declared.fault.CopyFault.{CopyFault}
@@ -9,9 +11,10 @@ use Rattle.replica.specs.declared.output.Answer.{Answer}
 use Rattle.replica.specs.Copy.{Copy}
 use Rattle.replica.specs.Fault.{is_log}
 use Rattle.replica.specs.Logged.{Logged, IsPrepared, IsUntouched}
-use Rattle.journal.specs.Journal.{Shut}
+use Rattle.journal.specs.Journal.{Shut, IsLegal, open_at}
 use Rattle.node.specs.Held.{JournalData, IsHeld}
-use Rattle.node.specs.Reading.{IsRead, got_by, standing}
+use Rattle.node.specs.Entry.{IsJournalOf}
+use Rattle.node.specs.Reading.{GotData, IsGot, IsRead, entries_in, got_by, standing}
 use Rattle.node.specs.Replay.{IsIdle, IsReplayedAs}
 
 no_more : (a b c : Bool) → a ≡ (b || c) → c ≡ false → a ≡ b
@@ -42,3 +45,21 @@ shut_as c (Some f) l is closed = refl
 
 pub closed_in : (h : JournalData) (l : Logged) → IsHeld h l → l.closed ≡ true → is_some (standing h).shut ≡ true
 closed_in h l is closed = shut_as (standing h).copy (standing h).shut l is.replayed closed
+
+-- the entries that a journal has up to now
+pub upto_entries : (o : Option (PrefixData Deed)) (n : ℕ) (es : List Deed) → IfSome o (λ p. p ≡ prefix n es) → IfNone o (es ≡ []) → es ≡ entries_in o
+upto_entries None n es some none = none
+upto_entries (Some p) n es some none = sym (ap (λ (x : PrefixData Deed). x.entries) some)
+
+pub upto_number : (o : Option (PrefixData Deed)) (n node : ℕ) (es : List Deed) → IfSome o (λ p. p ≡ prefix n es) → node ≡ n → IfSome o (λ p. p.number ≡ node)
+upto_number None n node es some is = tt
+upto_number (Some p) n node es some is = ap (λ (x : PrefixData Deed). x.number) some ∙ sym is
+
+-- what was read tells a journal of its copy
+pub heard_journal : (g : GotData) (o : Option (PrefixData Deed)) (p : PrefixData Deed) (n : ℕ) → IsGot g → g.deeds ≡ entries_in o → o ≡ Some p → n ≡ g.node → IsJournalOf n p.entries
+heard_journal g o p n is same some node = record {
+  opening = is.journal.opening;
+  sound = is.sound;
+  legal = subst (λ (ds : List Deed). IsLegal (open_at is.journal.opening) 0 ds) (is.deeds_is ∙ same ∙ ap entries_in some) is.legal;
+  node_is = is.node_is ∙ sym node;
+}

@@ -1,14 +1,28 @@
 -- An entry of a journal.
-use Rattle.std.specs.Prelude.{◌≡◌, ℕ, List, Some, slice_get}
+use Rattle.std.specs.Prelude.{◌≡◌, ℕ, ◌+◌, List, length, Some, slice_get}
+use Rattle.std.specs.List.{AllByRecursion}
+use Rattle.op.specs.Records.{IsRecord}
 use Rattle.replica.specs.Copy.{Copy}
 use Rattle.journal.specs.declared.journal.Deed.{Deed}
 use Rattle.journal.specs.Journal.{IsLegal, open_at}
 
--- what a call leaves with its caller: the node and the place of its entry, and the entry
+-- what a call leaves with its caller: the node and the place of its entry, the entry, and all entries of the journal up to it
 pub record Receipt : Type 0 where
   pub node : ℕ
   pub place : ℕ
   pub deed : Deed
+  pub deeds : List Deed
+
+-- the records of the copy keep their rules
+abbrev pub HasSoundRecords : Copy → Type 0
+HasSoundRecords c = AllByRecursion IsRecord c.records
+
+-- they are those of a legal journal of the copy with this id
+pub record IsJournalOf (node : ℕ) (deeds : List Deed) : Type 0 where
+  pub opening : Copy
+  pub sound : HasSoundRecords opening
+  pub legal : IsLegal (open_at opening) 0 deeds
+  pub node_is : opening.id ≡ node
 
 -- the entry stands at this place in a legal journal of the copy with this id
 pub record IsEntryAt (node place : ℕ) (deed : Deed) : Type 0 where
@@ -18,6 +32,8 @@ pub record IsEntryAt (node place : ℕ) (deed : Deed) : Type 0 where
   pub node_is : opening.id ≡ node
   pub stands : slice_get deeds place ≡ Some deed
 
--- the receipt's entry stands so
-abbrev pub IsEntry : Receipt → Type 0
-IsEntry r = IsEntryAt r.node r.place r.deed
+-- the receipt's entry is the last of these
+pub record IsEntry (r : Receipt) : Type 0 where
+  pub journal : IsJournalOf r.node r.deeds
+  pub last : r.place + 1 ≡ length r.deeds
+  pub stands : slice_get r.deeds r.place ≡ Some r.deed

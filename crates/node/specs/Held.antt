@@ -7,7 +7,7 @@ use Rattle.journal.specs.declared.journal.Deed.{Deed}
 use Rattle.journal.specs.Journal.{IsLegal, IsLegalAt, after, open_at}
 use Rattle.node.specs.declared.fault.NodeFault.{NodeFault}
 use Rattle.node.specs.declared.fault.NodeFault.TheVariants.{NoMemory, NoSeat, Copy as Refused, Stray, Forgotten}
-use Rattle.node.specs.Entry.{Receipt}
+use Rattle.node.specs.Entry.{Receipt, HasSoundRecords}
 use Rattle.node.specs.Passes.{PassData}
 use Rattle.node.specs.Replay.{IsReplayed}
 
@@ -27,6 +27,7 @@ journal kept opening deeds = record { kept = kept; opening = opening; deeds = de
 
 -- the journal is legal, and the copy is what it says
 pub record IsHeld (h : JournalData) (l : Logged) : Type 0 where
+  pub sound : HasSoundRecords h.opening
   pub legal : IsLegal (open_at h.opening) 0 h.deeds
   pub replayed : IsReplayed (after (open_at h.opening) 0 h.deeds) l
 
@@ -36,6 +37,7 @@ pub record IsCall (old new : JournalData) (p q : PassData) (input : Input) (r : 
   pub pass : q ≡ record p { receipts = p.receipts ++ r ∷ [] }
   pub node : r.node ≡ old.opening.id
   pub place : r.place ≡ length old.deeds
+  pub entries : r.deeds ≡ new.deeds
   pub number : r.deed.pass ≡ p.number
   pub asked : r.deed.input ≡ input
   pub legal : IsLegalAt (after (open_at old.opening) 0 old.deeds) r.deed
@@ -52,4 +54,5 @@ IsRefusal old new p q input (Refused e) = (r : Receipt) × IsCall old new p q in
 pub record IsLastOf (h : JournalData) (r : Receipt) : Type 0 where
   pub legal : IsLegal (open_at h.opening) 0 h.deeds
   pub node : r.node ≡ h.opening.id
+  pub entries : r.deeds ≡ h.deeds
   pub last : (before : List Deed) × (h.deeds ≡ before ++ r.deed ∷ []) × (r.place ≡ length before)

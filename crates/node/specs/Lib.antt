@@ -7,3 +7,4 @@ pub mod Telling
 pub mod Stands
 pub mod Gathered
 pub mod Reading
+pub mod Heard

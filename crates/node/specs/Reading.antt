@@ -1,5 +1,5 @@
 -- Documents that a copy is asked for without an entry of its journal.
-use Rattle.std.specs.Prelude.{◌≡◌, ℕ, length, None, is_some, true}
+use Rattle.std.specs.Prelude.{◌≡◌, ℕ, List, [], length, Option, Some, None, is_some, true}
 use Rattle.doc.specs.Id.{Id}
 use Rattle.op.specs.Documents.{document_at, documents}
 use Rattle.replica.specs.declared.fault.CopyFault.{CopyFault}
@@ -7,9 +7,12 @@ use Rattle.replica.specs.declared.fault.CopyFault.TheVariants.{NotPrimary, Versi
 use Rattle.replica.specs.declared.output.Answer.{Answer}
 use Rattle.replica.specs.Copy.{Copy, operations}
 use Rattle.replica.specs.Step.{get_answer}
+use Rattle.journal.specs.declared.journal.Deed.{Deed}
 use Rattle.journal.specs.Journal.{IsLegal, Standing, after, open_at}
+use Rattle.chronicle.specs.Registered.{PrefixData}
 use Rattle.node.specs.declared.fault.NodeFault.{NodeFault}
 use Rattle.node.specs.declared.fault.NodeFault.TheVariants.{NoMemory, NoSeat, Copy as Refused, Stray, Forgotten}
+use Rattle.node.specs.Entry.{HasSoundRecords}
 use Rattle.node.specs.Held.{JournalData}
 
 -- what a copy has of an id, of all its records
@@ -20,10 +23,16 @@ got_by c id = get_answer (document_at (documents (operations c)) id)
 abbrev pub standing : JournalData → Standing
 standing h = after (open_at h.opening) 0 h.deeds
 
--- what was read: the node, how many entries its journal had, the id, and what the copy has of it
+-- the entries that a journal had; none where there was none
+abbrev pub entries_in : Option (PrefixData Deed) → List Deed
+entries_in None = []
+entries_in (Some p) = p.entries
+
+-- what was read: the node, how many entries its journal had, and which, the id, and what the copy has of it
 pub record GotData : Type 0 where
   pub node : ℕ
   pub place : ℕ
+  pub deeds : List Deed
   pub id : Id
   pub answer : Answer
 
@@ -36,6 +45,7 @@ pub record IsRead (h : JournalData) (id : Id) (answer : Answer) : Type 0 where
 pub record IsGotFrom (h : JournalData) (id : Id) (g : GotData) : Type 0 where
   pub node_is : g.node ≡ h.opening.id
   pub place_is : g.place ≡ length h.deeds
+  pub deeds_is : g.deeds ≡ h.deeds
   pub id_is : g.id ≡ id
   pub read : IsRead h id g.answer
 
@@ -45,6 +55,16 @@ pub record IsGotAt (node : ℕ) (id : Id) (answer : Answer) : Type 0 where
   pub legal : IsLegal (open_at journal.opening) 0 journal.deeds
   pub node_is : journal.opening.id ≡ node
   pub read : IsRead journal id answer
+
+-- it is what the copy has after these entries, of which there are so many
+pub record IsGot (g : GotData) : Type 0 where
+  pub journal : JournalData
+  pub sound : HasSoundRecords journal.opening
+  pub legal : IsLegal (open_at journal.opening) 0 journal.deeds
+  pub node_is : journal.opening.id ≡ g.node
+  pub deeds_is : journal.deeds ≡ g.deeds
+  pub place_is : g.place ≡ length g.deeds
+  pub read : IsRead journal g.id g.answer
 
 -- the copy is closed
 abbrev pub IsUnreadable : JournalData → CopyFault → Type 0

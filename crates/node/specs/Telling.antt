@@ -1,5 +1,5 @@
 -- A step as an entry of a journal.
-use Rattle.std.specs.Prelude.{◌≡◌, ℕ, [], ◌∷◌, ◌++◌, length, Result, Ok, Err}
+use Rattle.std.specs.Prelude.{◌≡◌, ℕ, List, [], ◌∷◌, ◌++◌, length, Result, Ok, Err}
 use Rattle.replica.specs.declared.fault.CopyFault.{CopyFault}
 use Rattle.replica.specs.declared.input.Input.{Input}
 use Rattle.replica.specs.declared.output.Output.{Output}
@@ -14,9 +14,9 @@ use Rattle.node.specs.declared.telling.Entered.{Entered}
 use Rattle.node.specs.Held.{JournalData}
 use Rattle.node.specs.Replay.{IsStep}
 
--- the receipt of an entry
-abbrev pub receipt : ℕ → ℕ → Deed → Receipt
-receipt node place d = record { node = node; place = place; deed = d }
+-- the receipt of an entry, up to which the journal has these
+abbrev pub receipt : ℕ → ℕ → Deed → List Deed → Receipt
+receipt node place d deeds = record { node = node; place = place; deed = d; deeds = deeds }
 
 -- what the caller gets: the entry, or the copy's refusal
 abbrev pub given_of : Deed → Result Output CopyFault → Result Deed NodeFault
@@ -43,3 +43,10 @@ pub record IsEntered (old new : JournalData) (number : ℕ) (asked : Input) (e :
   pub given : e.given ≡ given_of e.kept e.kept.answer
   pub legal : IsLegalAt (after (open_at old.opening) 0 old.deeds) e.kept
   pub whole : IsLegal (open_at new.opening) 0 new.deeds
+
+-- what the caller gets: the receipt of the entry too, or the refusal
+abbrev pub IsGivenAs : Result Deed NodeFault → Receipt → Result Receipt NodeFault → Type 0
+IsGivenAs (Ok d) kept (Ok r) = r ≡ kept
+IsGivenAs (Ok d) kept (Err f) = ⊥
+IsGivenAs (Err e) kept (Ok r) = ⊥
+IsGivenAs (Err e) kept (Err f) = f ≡ e

@@ -6,6 +6,7 @@ ghost use Rattle.node.specs.Passes.{AreUpTo};
 use crate::pass::Pass;
 use crate::receipt::Receipt;
 use crate::standing::stands_at;
+use chronicle::RegistryName;
 use journal::{Deed, Journal};
 
 /// The place of a receipt that doesn't stand in a journal, or stands where another does.
@@ -16,7 +17,7 @@ pub struct Stray {
 
 /// Whether each entry of the journal of a copy has its receipt among those of some passes; or the first receipt, in the order of the passes,
 /// that doesn't stand at its place with its pass, input and answer, or stands where one before it does.
-pub fn gathered(journal: &Journal, passes: &[Pass]) -> Result<bool, Stray>
+pub fn gathered<J: RegistryName>(journal: &Journal, passes: &[Pass<J>]) -> Result<bool, Stray>
     ensures ok { IfOk result (λ whole. AreGathered journal.now (receipts_of passes.now) × (IsTrue whole ↔ IsWhole journal.now (receipts_of passes.now))) }
     ensures stray { IfErr result (λ s. IsFirstStray journal.now [] (receipts_of passes.now) s.place) }
 {
@@ -27,14 +28,18 @@ pub fn gathered(journal: &Journal, passes: &[Pass]) -> Result<bool, Stray>
 }
 
 /// Whether a receipt stands in the journal of a copy at its place, with its pass, input and answer.
-pub fn stands_in(journal: &Journal, receipt: &Receipt) -> bool
+pub fn stands_in<J: RegistryName>(journal: &Journal, receipt: &Receipt<J>) -> bool
     ensures { IsTrue result ↔ (deed_at journal.now receipt.now.place ≡ Some receipt.now.deed) }
 {
     stands(journal, receipt.place(), receipt.deed())
 }
 
 /// Whether the receipts of a pass stand, apart from one another and from those of earlier passes.
-fn check(journal: &Journal, earlier: &[Pass], pass: &Pass) -> Result<(), Stray>
+fn check<J: RegistryName>(
+    journal: &Journal,
+    earlier: &[Pass<J>],
+    pass: &Pass<J>,
+) -> Result<(), Stray>
     ensures ok { OnOk result (AreNext journal.now (receipts_of earlier.now) pass.now.receipts) }
     ensures stray { IfErr result (λ s. IsFirstStray journal.now (receipts_of earlier.now) pass.now.receipts s.place) }
 {
@@ -54,7 +59,12 @@ fn check(journal: &Journal, earlier: &[Pass], pass: &Pass) -> Result<(), Stray>
 }
 
 /// Whether earlier passes or earlier receipts of a pass, whose places are known to be at most one, have a place.
-fn is_before(earlier: &[Pass], before: &[Receipt], most: u64, place: u64) -> bool
+fn is_before<J: RegistryName>(
+    earlier: &[Pass<J>],
+    before: &[Receipt<J>],
+    most: u64,
+    place: u64,
+) -> bool
     requires { AreUpTo most before.now }
     ensures { result ≡ has_place (receipts_of earlier.now ++ before.now) place }
 {
@@ -62,7 +72,7 @@ fn is_before(earlier: &[Pass], before: &[Receipt], most: u64, place: u64) -> boo
 }
 
 /// In a pass whose places rise it doesn't look at each receipt.
-fn is_taken(before: &[Receipt], most: u64, place: u64) -> bool
+fn is_taken<J: RegistryName>(before: &[Receipt<J>], most: u64, place: u64) -> bool
     requires { AreUpTo most before.now }
     ensures { result ≡ has_place before.now place }
 {
@@ -70,7 +80,7 @@ fn is_taken(before: &[Receipt], most: u64, place: u64) -> bool
 }
 
 /// Whether a receipt is of a place.
-fn is_among(receipts: &[Receipt], place: u64) -> bool
+fn is_among<J: RegistryName>(receipts: &[Receipt<J>], place: u64) -> bool
     ensures { result ≡ has_place receipts.now place }
 {
     for receipt in receipts {
@@ -82,7 +92,7 @@ fn is_among(receipts: &[Receipt], place: u64) -> bool
 }
 
 /// Whether a pass has a receipt of a place; where it made all calls so far, it is the receipt that comes at that place.
-fn has(receipts: &[Receipt], place: u64) -> bool
+fn has<J: RegistryName>(receipts: &[Receipt<J>], place: u64) -> bool
     ensures { result ≡ has_place receipts.now place }
 {
     match receipts.get(place as usize) {
@@ -110,7 +120,7 @@ fn size_of(journal: &Journal) -> u64
 }
 
 /// Whether each place below a number has a receipt.
-fn covers(passes: &[Pass], size: u64) -> bool
+fn covers<J: RegistryName>(passes: &[Pass<J>], size: u64) -> bool
     ensures { IsTrue result ↔ ((place : ℕ) → place < size → has_place (receipts_of passes.now) place ≡ true) }
 {
     for place in 0..size {
@@ -122,7 +132,7 @@ fn covers(passes: &[Pass], size: u64) -> bool
 }
 
 /// Whether a pass has a receipt of a place.
-fn any_has(passes: &[Pass], place: u64) -> bool
+fn any_has<J: RegistryName>(passes: &[Pass<J>], place: u64) -> bool
     ensures { result ≡ has_place (receipts_of passes.now) place }
 {
     for pass in passes {

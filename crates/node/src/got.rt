@@ -1,31 +1,39 @@
 //! What a copy has of an id.
-ghost use Rattle.std.specs.Prelude.{◌≡◌};
-ghost use Rattle.node.specs.Reading.{IsGotAt};
+ghost use Rattle.std.specs.Prelude.{◌≡◌, ◌<◌, ◌≤◌, [], length, IsTrue, IfNone, IfSome};
+ghost use Rattle.chronicle.specs.Registered.{prefix};
+ghost use mathlib.Core.List.{IsPrefix};
+ghost use Rattle.node.specs.Reading.{IsGot, IsGotAt};
 
+use crate::heard::Heard;
+use crate::receipt::Receipt;
+use chronicle::{Prefix, RegistryName};
 use doc::DocId;
+use journal::Deed;
 use replica::Answer;
 use std::marker::Model;
 
-/// What a copy had of an id: a document with its numbers, or none. Contracts see it with the copy's node and how many entries its journal had.
+/// What a copy had of an id: a document with its numbers, or none. Contracts see it with the copy's node and the entries that its journal had.
 #[derive(Drop)]
-pub struct Got {
+pub struct Got<J: RegistryName> {
     pub(crate) node: u32,
     pub(crate) place: u64,
     pub(crate) id: DocId,
     pub(crate) answer: Answer,
+    pub(crate) upto: Option<Prefix<Deed, J>>,
 }
 
-impl Model for Got {
-    ghost use Rattle.node.specs.Reading.{GotData, IsGotAt};
+impl<J: RegistryName> Model for Got<J> {
+    ghost use Rattle.std.specs.Prelude.{◌≡◌, IfSome};
+    ghost use Rattle.node.specs.Reading.{entries_in, GotData, IsGot};
 
     ghost Value = { GotData };
 
-    ghost view = { λ g. record { node = g.node; place = g.place; id = g.id; answer = g.answer } };
+    ghost view = { λ g. record { node = g.node; place = g.place; deeds = entries_in g.upto; id = g.id; answer = g.answer } };
 
-    ghost invariant = { λ g. IsGotAt g.node g.id g.answer };
+    ghost invariant = { λ g. IfSome g.upto (λ p. p.number ≡ g.node) × IsGot (record { node = g.node; place = g.place; deeds = entries_in g.upto; id = g.id; answer = g.answer }) };
 }
 
-impl Got {
+impl<J: RegistryName> Got<J> {
     /// The node of the copy.
     pub fn node(&self) -> u32
         ensures { result ≡ self.now.node }
@@ -42,9 +50,53 @@ impl Got {
 
     /// The id that was asked for.
     pub fn id(&self) -> &DocId
-        ensures { result.now ≡ self.now.id }
+        ensures is { result.now ≡ self.now.id }
+        ensures read { IsGot self.now }
     {
         &self.id
+    }
+
+    /// A copy has one journal: that of an earlier entry begins the entries that the journal had, and these begin that of a later one.
+    pub fn agrees(&self, receipt: &Receipt<J>)
+        requires node { receipt.now.node ≡ self.now.node }
+        ensures before { receipt.now.place < self.now.place → IsPrefix receipt.now.deeds self.now.deeds }
+        ensures behind { self.now.place ≤ receipt.now.place → IsPrefix self.now.deeds receipt.now.deeds }
+    {
+        if let Some(upto) = &self.upto {
+            upto.agrees(receipt.upto());
+            receipt.upto().agrees(upto);
+        }
+    }
+
+    /// What it tells of the journal, where that had entries.
+    #[tactic(auto, using(crate::proofs::Readings::heard_journal))]
+    pub fn heard(&self) -> Option<Heard<J>>
+        ensures some { IfSome result (λ h. h ≡ prefix self.now.node self.now.deeds) }
+        ensures none { IfNone result (self.now.deeds ≡ []) }
+    {
+        match &self.upto {
+            Some(upto) if self.place > 0 => Some(Heard::of(
+                self.node,
+                self.place - 1,
+                upto.again(),
+            )),
+            _ => None,
+        }
+    }
+
+    /// Whether the journal had entries, of which these of the same copy are the first.
+    pub(crate) fn has(&self, upto: &Prefix<Deed, J>) -> bool
+        requires number { upto.now.number ≡ self.now.node }
+        requires fewer { length upto.now.entries ≤ self.now.place }
+        ensures { IsTrue result → IsPrefix upto.now.entries self.now.deeds }
+    {
+        match &self.upto {
+            Some(own) => {
+                upto.agrees(own);
+                true
+            }
+            None => false,
+        }
     }
 
     /// What the copy had.
@@ -57,6 +109,7 @@ impl Got {
             place: _,
             id: _id,
             answer,
+            upto: _upto,
         } = self;
         answer
     }

@@ -1,14 +1,15 @@
 //! A copy with its journal.
-ghost use Rattle.std.specs.Prelude.{◌≡◌, [], ◌∷◌, true, false, length, is_some, Some, slice_get, IfOk, IfErr, IfSome, IfNone, IsOk, OnErr};
+ghost use Rattle.std.specs.Prelude.{◌≡◌, ◌+◌, ◌≤◌, [], ◌∷◌, true, false, length, is_some, Some, slice_get, IfOk, IfErr, IfSome, IfNone, IsOk, OnErr};
 ghost use Rattle.journal.specs.Journal.{IsLegal, open_at};
 ghost use Rattle.journal.specs.declared.journal.Journal.TheVariants.{OfCopy};
 ghost use Rattle.translog.specs.declared.fault.LogFault.TheVariants.{Device};
 ghost use Rattle.replica.specs.declared.fault.CopyFault.TheVariants.{Log};
 ghost use Rattle.node.specs.declared.fault.NodeFault.TheVariants.{Copy as Refused};
+ghost use Rattle.chronicle.specs.Registered.{last_seat, prefix};
 ghost use Rattle.node.specs.Reading.{IsGotFrom, IsUngot};
 ghost use Rattle.node.specs.Stands.{IsBarred, IsDenied, LastStands};
 ghost use Rattle.node.specs.Held.{journal, IsCall, IsHeld, IsLastOf, IsRefusal};
-ghost use Rattle.node.specs.Telling.{receipt, IsEntered};
+ghost use Rattle.node.specs.Telling.{receipt, IsEntered, IsGivenAs};
 
 use crate::both::both;
 use crate::fault::NodeFault;
@@ -20,7 +21,7 @@ use crate::receipt::Receipt;
 use crate::standing::equal_deed;
 use crate::syncing::synced;
 use crate::telling::{Entered, Inputs, Told, tell};
-use chronicle::{Chronicle, Ledger, Mark};
+use chronicle::{Chronicle, Ledger, Mark, Prefix, Registered, Registry, RegistryName};
 use doc::DocId;
 use engine::Merged;
 use journal::{Deed, Deeds, Journal, Opening};
@@ -38,54 +39,78 @@ fn noted<D: LogDevice>(copy: &Copy<D>) -> Mark<Copy<D>>
     writer.append(&chronicle, copy)
 }
 
-/// A copy with its journal. Contracts see the journal, which is legal; memory has it where it is to be kept.
+/// A copy with its journal, which is one of a cluster. Contracts see the journal, which is legal; memory has it where it is to be kept.
 #[derive(Drop)]
-pub struct Held<D: LogDevice> {
-    node: u32,
+pub struct Held<D: LogDevice, J: RegistryName> {
     first: Mark<Copy<D>>,
     opening: Option<Opening>,
-    deeds: Ledger<Deed>,
+    deeds: Registered<Deed, J>,
     copy: Copy<D>,
 }
 
-impl<D: LogDevice> Model for Held<D> {
+impl<D: LogDevice, J: RegistryName> Model for Held<D, J> {
     ghost use Rattle.std.specs.Prelude.{◌≡◌, is_some, IfSome};
     ghost use Rattle.node.specs.Held.{JournalData, journal, opening_of, IsHeld};
 
     ghost Value = { JournalData };
 
-    ghost view = { λ h. journal h.deeds.kept (opening_of h.first.entries) h.deeds.entries };
+    ghost view = { λ h. journal h.deeds.ledger.kept (opening_of h.first.entries) h.deeds.ledger.entries };
 
-    ghost invariant = { λ h. (h.node ≡ (opening_of h.first.entries).id) × IsHeld (journal h.deeds.kept (opening_of h.first.entries) h.deeds.entries) h.copy × (is_some h.opening ≡ h.deeds.kept) × IfSome h.opening (λ o. o ≡ (opening_of h.first.entries)) };
+    ghost invariant = { λ h. (h.deeds.number ≡ (opening_of h.first.entries).id) × IsHeld (journal h.deeds.ledger.kept (opening_of h.first.entries) h.deeds.ledger.entries) h.copy × (is_some h.opening ≡ h.deeds.ledger.kept) × IfSome h.opening (λ o. o ≡ (opening_of h.first.entries)) };
 }
 
-impl<D: LogDevice> Held<D> {
-    /// A copy that has made no step since its opening, whose journal memory is to have.
-    pub fn new(alloc: Global, opening: Opening, copy: Copy<D>) -> Held<D>
+impl<D: LogDevice, J: RegistryName> Held<D, J> {
+    /// A copy that has made no step since its opening, whose journal memory is to have. Where the registry has a journal with its id or a greater one
+    /// the copy is given back.
+    pub fn new(
+        alloc: Global,
+        opening: Opening,
+        copy: Copy<D>,
+        registry: &mut Registry<Deed, J>,
+    ) -> Result<Held<D, J>, Copy<D>>
         requires copy { copy.copy ≡ opening }
         requires open { copy.closed ≡ false }
-        ensures { result ≡ journal true opening [] }
+        ensures held { IfOk result (λ h. h ≡ journal true opening []) }
+        ensures id { IfOk result (λ h. (last_seat registry.new).number ≡ copy.copy.id) }
+        ensures taken { IfErr result (λ c. (c ≡ copy) × (registry.new ≡ registry.old) × (copy.copy.id ≤ (last_seat registry.old).number)) }
     {
-        Held {
-            node: copy.id(),
-            first: noted(&copy),
-            opening: Some(opening),
-            deeds: Ledger::kept(alloc),
-            copy,
+        copy.is_logged();
+        let first = noted(&copy);
+        match registry.add(copy.id(), Ledger::kept(alloc)) {
+            Ok(deeds) => Ok(Held {
+                first,
+                opening: Some(opening),
+                deeds,
+                copy,
+            }),
+            Err(ledger) => {
+                drop(ledger);
+                drop(opening);
+                Err(copy)
+            }
         }
     }
 
     /// A copy whose journal begins with what the copy is, and which memory isn't to have.
-    pub fn unkept(copy: Copy<D>) -> Held<D>
+    pub fn unkept(copy: Copy<D>, registry: &mut Registry<Deed, J>) -> Result<Held<D, J>, Copy<D>>
         requires open { copy.closed ≡ false }
-        ensures { result ≡ journal false copy.copy [] }
+        ensures held { IfOk result (λ h. h ≡ journal false copy.copy []) }
+        ensures id { IfOk result (λ h. (last_seat registry.new).number ≡ copy.copy.id) }
+        ensures taken { IfErr result (λ c. (c ≡ copy) × (registry.new ≡ registry.old) × (copy.copy.id ≤ (last_seat registry.old).number)) }
     {
-        Held {
-            node: copy.id(),
-            first: noted(&copy),
-            opening: None,
-            deeds: Ledger::unkept(),
-            copy,
+        copy.is_logged();
+        let first = noted(&copy);
+        match registry.add(copy.id(), Ledger::unkept()) {
+            Ok(deeds) => Ok(Held {
+                first,
+                opening: None,
+                deeds,
+                copy,
+            }),
+            Err(ledger) => {
+                drop(ledger);
+                Err(copy)
+            }
         }
     }
 
@@ -93,7 +118,7 @@ impl<D: LogDevice> Held<D> {
     pub fn is_kept(&self) -> bool
         ensures { result ≡ self.now.kept }
     {
-        self.deeds.is_kept()
+        self.deeds.ledger().is_kept()
     }
 
     /// The copy is what its journal says.
@@ -107,7 +132,7 @@ impl<D: LogDevice> Held<D> {
     pub fn node(&self) -> u32
         ensures { result ≡ self.now.opening.id }
     {
-        self.node
+        self.deeds.number()
     }
 
     /// One call of the copy, which is one entry of its journal and a receipt of the pass, also where the copy refuses.
@@ -116,9 +141,9 @@ impl<D: LogDevice> Held<D> {
     pub fn call(
         &mut self,
         alloc: Global,
-        pass: &mut Pass,
+        pass: &mut Pass<J>,
         input: Input,
-    ) -> Result<Receipt, NodeFault>
+    ) -> Result<Receipt<J>, NodeFault>
         ensures ok { IfOk result (λ r. IsCall self.old self.new pass.old pass.new input r × IsOk r.deed.answer) }
         ensures stood { IfOk result (λ r. LastStands self.old pass.old) }
         ensures err { IfErr result (λ e. IsDenied self.old self.new pass.old pass.new input e) }
@@ -132,7 +157,7 @@ impl<D: LogDevice> Held<D> {
     }
 
     /// Why a pass may make no call: its last receipt doesn't stand, or that can't be looked at.
-    fn barring(&self, pass: &Pass) -> Option<NodeFault>
+    fn barring(&self, pass: &Pass<J>) -> Option<NodeFault>
         ensures barred { IfSome result (IsBarred self.now pass.now) }
         ensures stands { IfNone result (LastStands self.now pass.now) }
     {
@@ -140,53 +165,90 @@ impl<D: LogDevice> Held<D> {
             return None;
         };
         let place = receipt.place();
-        match self.deeds.at(place) {
-            Some(deed) if receipt.node() == self.node && equal_deed(deed, receipt.deed()) => None,
-            None if !self.deeds.is_kept() => Some(NodeFault::Forgotten(place)),
+        let deeds = self.deeds.ledger();
+        match deeds.at(place) {
+            Some(deed)
+                if receipt.node() == self.deeds.number() && equal_deed(deed, receipt.deed()) =>
+                None,
+            None if !deeds.is_kept() => Some(NodeFault::Forgotten(place)),
             _ => Some(NodeFault::Stray(place)),
         }
     }
 
     /// The call, whatever the pass has.
-    #[tactic(auto, using(crate::proofs::Calls::entered_there, crate::proofs::Calls::entered_last))]
-    fn add(&mut self, alloc: Global, pass: &mut Pass, input: Input) -> Result<Receipt, NodeFault>
+    #[tactic(auto, using(crate::proofs::Calls::entered_last_place))]
+    fn add(
+        &mut self,
+        alloc: Global,
+        pass: &mut Pass<J>,
+        input: Input,
+    ) -> Result<Receipt<J>, NodeFault>
         ensures ok { IfOk result (λ r. IsCall self.old self.new pass.old pass.new input r × IsOk r.deed.answer) }
         ensures err { IfErr result (λ e. IsRefusal self.old self.new pass.old pass.new input e) }
         ensures last { IfOk result (IsLastOf self.new) }
     {
         let (input, _) = both(input, pass.receipts.reserve(1))?;
-        let Entered { place, kept, given } = self.enter(alloc, pass.number, input)?;
-        pass.receipts.push_reserved(self.receipt(place, kept));
+        let (entered, upto) = self.enter(alloc, pass.number, input)?;
+        let (kept, given) = self.receipts(entered, upto);
+        pass.receipts.push_reserved(kept);
+        given
+    }
+
+    /// The receipts of the last entry: what the pass gets, and what the caller does.
+    fn receipts(
+        &self,
+        entered: Entered,
+        upto: Prefix<Deed, J>,
+    ) -> (Receipt<J>, Result<Receipt<J>, NodeFault>)
+        requires last { entered.place + 1 ≡ length self.now.deeds }
+        requires there { slice_get self.now.deeds entered.place ≡ Some entered.kept }
+        requires given { IfOk entered.given (λ d. d ≡ entered.kept) }
+        requires upto { upto ≡ prefix self.now.opening.id self.now.deeds }
+        ensures kept { result.0 ≡ receipt self.now.opening.id entered.place entered.kept self.now.deeds }
+        ensures given { IsGivenAs entered.given result.0 result.1 }
+    {
+        let Entered { place, kept, given } = entered;
+        let kept = self.receipt(place, kept, upto.again());
         match given {
-            Ok(deed) => Ok(self.receipt(place, deed)),
-            Err(fault) => Err(fault),
+            Ok(deed) => (kept, Ok(self.receipt(place, deed, upto))),
+            Err(fault) => (kept, Err(fault)),
         }
     }
 
-    /// The step, and its entry in the journal.
-    fn enter(&mut self, alloc: Global, pass: u64, input: Input) -> Result<Entered, AllocError>
-        ensures ok { IfOk result (IsEntered self.old self.new pass input) }
+    /// The step, and its entry in the journal, with all entries up to it.
+    fn enter(
+        &mut self,
+        alloc: Global,
+        pass: u64,
+        input: Input,
+    ) -> Result<(Entered, Prefix<Deed, J>), AllocError>
+        ensures ok { IfOk result (λ r. IsEntered self.old self.new pass input r.0) }
+        ensures given { IfOk result (λ r. IfOk r.0.given (λ d. d ≡ r.0.kept)) }
+        ensures upto { IfOk result (λ r. r.1 ≡ prefix self.new.opening.id self.new.deeds) }
         ensures err { OnErr result (self.new ≡ self.old) }
     {
         let (input, _) = both(input, self.deeds.reserve())?;
         let inputs = Inputs::of(alloc, input)?;
-        let place = self.deeds.len();
+        let place = self.deeds.ledger().len();
         self.copy.is_logged();
         let Told { own, kept, given } = tell(&mut self.copy, alloc, pass, inputs)?;
-        self.deeds.push(own);
-        Ok(Entered { place, kept, given })
+        let upto = self.deeds.push(own);
+        Ok((Entered { place, kept, given }, upto))
     }
 
-    /// The receipt of the entry at a place.
-    fn receipt(&self, place: u64, deed: Deed) -> Receipt
-        requires { slice_get self.now.deeds place ≡ Some deed }
-        ensures { result ≡ receipt self.now.opening.id place deed }
+    /// The receipt of the last entry.
+    #[tactic(auto, using(crate::proofs::Calls::entry_of))]
+    fn receipt(&self, place: u64, deed: Deed, upto: Prefix<Deed, J>) -> Receipt<J>
+        requires last { place + 1 ≡ length self.now.deeds }
+        requires there { slice_get self.now.deeds place ≡ Some deed }
+        requires upto { upto ≡ prefix self.now.opening.id self.now.deeds }
+        ensures { result ≡ receipt self.now.opening.id place deed self.now.deeds }
     {
-        Receipt::of(self.node, place, deed)
+        Receipt::of(self.deeds.number(), place, deed, upto)
     }
 
     /// What the copy has of an id, of all its records; it makes no entry. `Closed` where the copy is closed.
-    pub fn get(&mut self, alloc: Global, id: DocId) -> Result<Got, NodeFault>
+    pub fn get(&mut self, alloc: Global, id: DocId) -> Result<Got<J>, NodeFault>
         ensures got { IfOk result (IsGotFrom self.old id) }
         ensures same { self.new ≡ self.old }
         ensures refused { IfErr result (IsUngot self.old) }
@@ -195,13 +257,14 @@ impl<D: LogDevice> Held<D> {
             return Err(NodeFault::Copy(CopyFault::Closed));
         }
         let asked = id.copy(alloc)?;
-        let place = self.deeds.len();
+        let place = self.deeds.ledger().len();
         let answer = read(&mut self.copy, alloc, asked)?;
         Ok(Got {
-            node: self.node,
+            node: self.deeds.number(),
             place,
             id,
             answer,
+            upto: self.deeds.prefix(),
         })
     }
 
@@ -213,7 +276,7 @@ impl<D: LogDevice> Held<D> {
         ensures refused { IfErr result (λ e. e ≡ Refused (Log Device)) }
         ensures in_memory { D.in_memory ≡ true → IsOk result }
     {
-        let entries = self.deeds.len();
+        let entries = self.deeds.ledger().len();
         let log = synced(&mut self.copy)?;
         Ok(OnDisk::of(log, entries))
     }
@@ -239,14 +302,13 @@ impl<D: LogDevice> Held<D> {
         ensures legal { IsLegal (open_at self.opening) 0 self.deeds }
     {
         let Held {
-            node: _,
             first: _first,
             opening,
             deeds,
             copy,
         } = self;
         drop(copy);
-        let deeds = deeds.into_entries();
+        let deeds = deeds.into_ledger().into_entries();
         match (opening, deeds) {
             (Some(opening), Some(deeds)) => {
                 Some(Journal::OfCopy(opening, Deeds::from_vec(deeds)))

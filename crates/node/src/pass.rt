@@ -2,17 +2,18 @@
 ghost use Rattle.std.specs.Prelude.{◌≡◌};
 
 use crate::receipt::Receipt;
+use chronicle::RegistryName;
 use std::alloc::Global;
 use std::marker::Model;
 
 /// The receipts of one caller, oldest first. Contracts see its number and them.
 #[derive(Drop)]
-pub struct Pass {
+pub struct Pass<J: RegistryName> {
     pub(crate) number: u64,
-    pub(crate) receipts: Vec<Receipt>,
+    pub(crate) receipts: Vec<Receipt<J>>,
 }
 
-impl Model for Pass {
+impl<J: RegistryName> Model for Pass<J> {
     ghost use Rattle.node.specs.Passes.{PassData};
 
     ghost Value = { PassData };
@@ -20,11 +21,11 @@ impl Model for Pass {
     ghost view = { λ p. record { number = p.number; receipts = p.receipts.items } };
 }
 
-impl Pass {
+impl<J: RegistryName> Pass<J> {
     ghost use Rattle.std.specs.Prelude.{[]};
 
     /// A pass that has made no call.
-    pub fn new(alloc: Global, number: u64) -> Pass
+    pub fn new(alloc: Global, number: u64) -> Pass<J>
         ensures { result ≡ record { number = number; receipts = [] } }
     {
         Pass {
@@ -41,7 +42,7 @@ impl Pass {
     }
 
     /// Its receipts, oldest first.
-    pub fn receipts(&self) -> &[Receipt]
+    pub fn receipts(&self) -> &[Receipt<J>]
         ensures { result.now ≡ self.now.receipts }
     {
         self.receipts.as_slice()

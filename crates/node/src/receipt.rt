@@ -1,37 +1,48 @@
 //! What a call leaves with its caller.
-ghost use Rattle.std.specs.Prelude.{◌≡◌, IfOk};
-ghost use Rattle.node.specs.Entry.{IsEntryAt};
+ghost use Rattle.std.specs.Prelude.{◌≡◌, ◌≤◌, IfOk};
+ghost use mathlib.Core.List.{IsPrefix};
+ghost use Rattle.node.specs.Entry.{IsEntry};
 ghost use Rattle.node.specs.Telling.{receipt};
 
+use chronicle::{Prefix, RegistryName};
 use journal::Deed;
 use replica::{CopyFault, Output};
 use std::alloc::{AllocError, Global};
 use std::marker::Model;
 
-/// The node and the place of an entry, and the entry. Only a copy's journal gives one out, so it is of a legal journal of the copy with that id.
+/// The node and the place of an entry, and the entry. Contracts see all entries of the copy's journal up to it, too. Only a journal of this cluster gives one out.
 #[derive(Drop)]
-pub struct Receipt {
+pub struct Receipt<J: RegistryName> {
     node: u32,
     place: u64,
     deed: Deed,
+    upto: Prefix<Deed, J>,
 }
 
-impl Model for Receipt {
-    ghost use Rattle.node.specs.Entry.{Receipt as ReceiptData, IsEntryAt};
+impl<J: RegistryName> Model for Receipt<J> {
+    ghost use Rattle.std.specs.Prelude.{◌≡◌};
+    ghost use Rattle.node.specs.Entry.{Receipt as ReceiptData, IsEntry};
+    ghost use Rattle.node.specs.Telling.{receipt};
 
     ghost Value = { ReceiptData };
 
-    ghost view = { λ r. record { node = r.node; place = r.place; deed = r.deed } };
+    ghost view = { λ r. receipt r.node r.place r.deed r.upto.entries };
 
-    ghost invariant = { λ r. IsEntryAt r.node r.place r.deed };
+    ghost invariant = { λ r. (r.upto.number ≡ r.node) × IsEntry (receipt r.node r.place r.deed r.upto.entries) };
 }
 
-impl Receipt {
-    pub(crate) fn of(node: u32, place: u64, deed: Deed) -> Receipt
-        requires { IsEntryAt node place deed }
-        ensures { result ≡ receipt node place deed }
+impl<J: RegistryName> Receipt<J> {
+    pub(crate) fn of(node: u32, place: u64, deed: Deed, upto: Prefix<Deed, J>) -> Receipt<J>
+        requires number { upto.number ≡ node }
+        requires entry { IsEntry (receipt node place deed upto.entries) }
+        ensures { result ≡ receipt node place deed upto.entries }
     {
-        Receipt { node, place, deed }
+        Receipt {
+            node,
+            place,
+            deed,
+            upto,
+        }
     }
 
     /// The id of the copy.
@@ -51,32 +62,53 @@ impl Receipt {
     /// The entry.
     pub fn deed(&self) -> &Deed
         ensures is { result.now ≡ self.now.deed }
-        ensures stands { IsEntryAt self.now.node self.now.place result.now }
+        ensures stands { IsEntry self.now }
     {
         &self.deed
+    }
+
+    /// All entries of the journal up to it.
+    pub(crate) fn upto(&self) -> &Prefix<Deed, J>
+        ensures number { result.now.number ≡ self.now.node }
+        ensures entries { result.now.entries ≡ self.now.deeds }
+        ensures stands { IsEntry self.now }
+    {
+        &self.upto
+    }
+
+    /// A copy has one journal: of two receipts of one copy that of the earlier entry begins that of the later one.
+    #[tactic(auto, using(crate::proofs::Prefixes::shorter_begins))]
+    pub fn agrees(&self, other: &Receipt<J>)
+        requires node { other.now.node ≡ self.now.node }
+        ensures { self.now.place ≤ other.now.place → IsPrefix self.now.deeds other.now.deeds }
+    {
+        self.upto.agrees(&other.upto);
     }
 
     /// The entry alone.
     pub fn into_deed(self) -> Deed
         ensures is { result ≡ self.deed }
-        ensures stands { IsEntryAt self.node self.place result }
+        ensures stands { IsEntry self }
     {
         let Receipt {
             node: _,
             place: _,
             deed,
+            upto: _upto,
         } = self;
         deed
     }
 
     /// The receipt once more.
-    pub fn copy(&self, alloc: Global) -> Result<Receipt, AllocError>
+    pub fn copy(&self, alloc: Global) -> Result<Receipt<J>, AllocError>
         ensures { IfOk result (λ r. r ≡ self.now) }
     {
+        let deed = copied(alloc, &self.deed)?;
         Ok(Receipt {
             node: self.node,
             place: self.place,
-            deed: copied(alloc, &self.deed)?,
+            deed,
+            upto: self.upto.again(),
         })
     }
 }

@@ -5,3 +5,6 @@ pub mod Places
 pub mod Written
 pub mod Promised
 pub mod Connections
+pub mod Copying
+pub mod Standings
+pub mod AtCopies

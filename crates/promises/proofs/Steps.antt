@@ -89,13 +89,13 @@ module _ (c : Copy) (up : IsAscending (operations c.records)) where
   abbrev pub Keeps : Step → Type 0
   Keeps r = IfOk r (λ s. Later s.copy c)
 
-  same : (d : Copy) → d.records ≡ c.records → d.point ≡ c.point → Later d c
+  pub same : (d : Copy) → d.records ≡ c.records → d.point ≡ c.point → Later d c
   same d records point = record { keeps = λ o seen h. rw (records, point) h; ascending = rw records up }
 
-  all : (d : Copy) → d.records ≡ c.records → d.point ≡ length c.records → Later d c
+  pub all : (d : Copy) → d.records ≡ c.records → d.point ≡ length c.records → Later d c
   all d records point = record { keeps = λ o seen h. rw (records, point) (whole o seen c.records h.0); ascending = rw records up }
 
-  wrote : (d : Copy) (g : ℤ) (o : Op) → d.records ≡ c.records ++ Kept g o ∷ [] → d.point ≡ c.point → Later d c
+  pub wrote : (d : Copy) (g : ℤ) (o : Op) → d.records ≡ c.records ++ Kept g o ∷ [] → d.point ≡ c.point → Later d c
   wrote d g o records point = record {
     keeps = λ p seen h. rw (records, point) (one_more p seen c.records c.point (Kept g o) (has_added c.records g o p) h);
     ascending = rw (records, operations-Op c.records g o) (IsAscending-add os o up);
@@ -110,25 +110,25 @@ module _ (c : Copy) (up : IsAscending (operations c.records)) where
   pub itself : Later c c
   itself = same c refl refl
 
-  on_unless : (fs : List (Bool × CopyFault)) (s : Step) → Keeps s → Keeps (unless fs s)
+  pub on_unless : (fs : List (Bool × CopyFault)) (s : Step) → Keeps s → Keeps (unless fs s)
   unfolding unless
   on_unless fs s h = elim (first_fault fs) as (λ r. Keeps (r >>= λ none. s)) [ Ok u ↦ h | Err e ↦ tt ]
 
-  on_client : (w : Write) (role : Role) → Keeps (client c w role)
+  pub on_client : (w : Write) (role : Role) → Keeps (client c w role)
   on_client w Empty = tt
   on_client w Replica = tt
   on_client w (Primary lead) = on_unless _ _ (wrote _ _ _ refl refl)
 
-  on_promoted : (term : ℕ) (set : List ℕ) (again : Bool) → Keeps (take_promoted c term set again)
+  pub on_promoted : (term : ℕ) (set : List ℕ) (again : Bool) → Keeps (take_promoted c term set again)
   on_promoted term set true = same _ refl refl
   on_promoted term set false = on_unless _ _ (led_by _ term refl refl)
 
-  on_report : (r : ℕ) (role : Role) → Keeps (report c r role)
+  pub on_report : (r : ℕ) (role : Role) → Keeps (report c r role)
   on_report r Empty = tt
   on_report r Replica = tt
   on_report r (Primary lead) = on_unless _ _ (same _ refl refl)
 
-  on_settled : (r : Step) → Keeps r → Keeps (settled r)
+  pub on_settled : (r : Step) → Keeps r → Keeps (settled r)
   on_settled (Ok s) h = as_role s.copy.role
     where
       as_role : (role : Role) → Keeps (Ok (settled_as s role))
@@ -150,7 +150,7 @@ pub fold_keeps : (c : Copy) (b : Folded) (ws : List Write) → Later b.copy c �
 fold_keeps c b [] h = h
 fold_keeps c b (w ∷ ws) h = fold_keeps c (with_write b (write_step b.copy w)) ws (with_keeps c b (write_step b.copy w) h (write_keeps b.copy h.ascending w))
 
-bulk_keeps : (c : Copy) (up : IsAscending (operations c.records)) (ws : List Write) (role : Role) → Keeps c up (bulk c ws role)
+pub bulk_keeps : (c : Copy) (up : IsAscending (operations c.records)) (ws : List Write) (role : Role) → Keeps c up (bulk c ws role)
 bulk_keeps c up ws Empty = tt
 bulk_keeps c up ws Replica = tt
 bulk_keeps c up ws (Primary lead) = fold_keeps c (unwritten c) ws (itself c up)

@@ -52,7 +52,7 @@ settled_is (Err f) y s e = absurd cc
 abbrev answer_to : Copy → kept_write.Write → Answer
 answer_to c w = wrote_answer (op_of c w) (outcome_of (is_some (found_by c w)) w.kind)
 
-wrote_step : (c : Copy) (w : kept_write.Write) (s : Stepped) (role : Role) → settled (client c w role) ≡ Ok s → (s.copy.records ≡ c.records ++ record_of c (op_of c w) ∷ []) × (s.answer ≡ answer_to c w)
+pub wrote_step : (c : Copy) (w : kept_write.Write) (s : Stepped) (role : Role) → settled (client c w role) ≡ Ok s → (s.copy.records ≡ c.records ++ record_of c (op_of c w) ∷ []) × (s.answer ≡ answer_to c w)
 unfolding unless
 wrote_step c w s Empty e = absurd cc
 wrote_step c w s Replica e = absurd cc
@@ -72,7 +72,7 @@ pub record Acknowledges (w : Write) (x : Wrote) (d : Copy) : Type 0 where
   pub on : is_on w.id op ≡ true
   pub there : HasOp op w.refresh d
 
-same_id : (id : Id) → is_id id id ≡ true
+pub same_id : (id : Id) → is_id id id ≡ true
 same_id id = is_eq-slice_cmp id id ∙ (bytes_eq-Decides id id).1 refl
 
 on_kind : (id : Id) (k : OpType) → concerns id (body_of id k) ≡ true
@@ -140,7 +140,7 @@ unseen : (o : Op) (d : Copy) → Has o d.records → HasOp o false d
 unseen o d h = (h, λ e. absurd (let no : false ≡ true = e in cc))
 
 -- a write that a copy keeps
-keeps_one : (c : Copy) (up : IsAscending (operations c.records)) (w : kept_write.Write) (s : Stepped) → write_step c w ≡ Ok s → IsKept w.id (op_of c w).seq s.copy
+pub keeps_one : (c : Copy) (up : IsAscending (operations c.records)) (w : kept_write.Write) (s : Stepped) → write_step c w ≡ Ok s → IsKept w.id (op_of c w).seq s.copy
 keeps_one c up w s e =
     let one = wrote_step c w s c.role e in
     record {
@@ -154,10 +154,10 @@ later_kept : (id : Id) (seq : ℕ) (c d : Copy) → Later d c → IsKept id seq 
 later_kept id seq c d later is = record { op = is.op; number = is.number; on = is.on; there = later.keeps is.op false is.there }
 
 -- what became of each of some writes, and that those which were kept are there at the end
-record AreKept (b : Folded) (ws : List kept_write.Write) : Type 0 where
-  more : List Item
-  items : (folded b ws).items ≡ b.items ++ more
-  each : (place : ℕ) (w : kept_write.Write) (y : Written) → slice_get ws place ≡ Some w → slice_get more place ≡ Some (WroteItem y) → IsKept w.id y.seq (folded b ws).copy
+pub record AreKept (b : Folded) (ws : List kept_write.Write) : Type 0 where
+  pub more : List Item
+  pub items : (folded b ws).items ≡ b.items ++ more
+  pub each : (place : ℕ) (w : kept_write.Write) (y : Written) → slice_get ws place ≡ Some w → slice_get more place ≡ Some (WroteItem y) → IsKept w.id y.seq (folded b ws).copy
 
 some_item : (i j : Item) → (let o : Option Item = Some i in o) ≡ Some j → i ≡ j
 some_item i j e = cc
@@ -189,7 +189,7 @@ none_at : (place : ℕ) (w : kept_write.Write) → slice_get [] place ≡ Some w
 none_at zero w e = absurd cc
 none_at (suc place) w e = absurd cc
 
-fold_kept : (b : Folded) (up : IsAscending (operations b.copy.records)) (ws : List kept_write.Write) → AreKept b ws
+pub fold_kept : (b : Folded) (up : IsAscending (operations b.copy.records)) (ws : List kept_write.Write) → AreKept b ws
 fold_kept b up [] = record { more = []; items = sym (append-nil b.items); each = λ place w y is was. absurd (none_at place w is) }
 fold_kept b up (w ∷ ws) = by_step (write_step b.copy w) refl (λ e h. fold_kept e h ws)
   where
@@ -205,19 +205,19 @@ fold_kept b up (w ∷ ws) = by_step (write_step b.copy w) refl (λ e h. fold_kep
         (λ y is. subst (λ n. IsKept w.id n (folded e ws).copy) (ap (λ (z : Written). z.seq) (written_same y0 y is))
         (later_kept w.id o.seq s.copy (folded e ws).copy (fold_keeps s.copy e ws (itself s.copy later.ascending)) (keeps_one b.copy up w s step)))
 
-get_map : {X Y : Type 0} (f : X → Y) (xs : List X) (place : ℕ) (x : X) → slice_get xs place ≡ Some x → slice_get (map f xs) place ≡ Some (f x)
+pub get_map : {X Y : Type 0} (f : X → Y) (xs : List X) (place : ℕ) (x : X) → slice_get xs place ≡ Some x → slice_get (map f xs) place ≡ Some (f x)
 get_map f [] zero x e = absurd cc
 get_map f [] (suc place) x e = absurd cc
 get_map {X} {Y} f (y ∷ ys) zero x e = ap (λ (z : X). let o : Option Y = Some (f z) in o) (let same : y ≡ x = cc in same)
 get_map f (y ∷ ys) (suc place) x e = get_map f ys place x e
 
 -- a reply of a write that was kept is that of an item
-record IsItem (is : List Item) (place : ℕ) (x : Wrote) : Type 0 where
-  written : Written
-  there : slice_get is place ≡ Some (WroteItem written)
-  number : written.seq ≡ x.seq
+pub record IsItem (is : List Item) (place : ℕ) (x : Wrote) : Type 0 where
+  pub written : Written
+  pub there : slice_get is place ≡ Some (WroteItem written)
+  pub number : written.seq ≡ x.seq
 
-item_at : (members : ℕ) (is : List Item) (place : ℕ) (x : Wrote) → slice_get (map (item_reply_of members) is) place ≡ Some (item.Wrote x) → IsItem is place x
+pub item_at : (members : ℕ) (is : List Item) (place : ℕ) (x : Wrote) → slice_get (map (item_reply_of members) is) place ≡ Some (item.Wrote x) → IsItem is place x
 item_at members [] zero x e = absurd cc
 item_at members [] (suc place) x e = absurd cc
 item_at members (WroteItem y ∷ is) zero x e = record { written = y; there = refl; number = replied (item_reply_of members (WroteItem y)) e }

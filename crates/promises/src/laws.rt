@@ -1,6 +1,9 @@
-//! What follows of the replies of an index of one copy, whatever else is asked of it meanwhile, and however often its log fails and its copy restarts.
+//! What follows of the replies of an index: of one copy, whatever else is asked of it meanwhile, and however often its log fails and its copy restarts; and
+//! of one of several copies, for a client that goes on asking the copy that it heard of.
+ghost use Rattle.promises.specs.Copies.{NeverBackAtCopies, WritesAreFoundAtCopies};
 ghost use Rattle.promises.specs.Promises.{WritesAreFound, WritesAreSeen, RefreshedWritesAreSeen, NeverBack, GoesOnAlong};
 
+use chronicle::RegistryName;
 use front::Resumable;
 use shard::{HistoryName, Reached};
 use translog::LogDevice;
@@ -29,4 +32,15 @@ pub fn replies_never_go_back()
 /// a connection's requests are answered as `clients::laws::conversation_is_kept` says.
 pub fn connections_go_on<D: LogDevice, N: HistoryName, S: Resumable<Known = Reached<D, N>>>()
     ensures { GoesOnAlong S.answers S.knows }
+{}
+
+/// Of several copies: a get of the copy that confirmed a write finds it, or a newer one on its id, unless another primary has told that copy since what it
+/// has from then on, by a resync or a recovery. Over one journal, whatever else the copy was asked meanwhile, and however often its log failed.
+pub fn writes_are_found_at_copies<J: RegistryName>()
+    ensures { WritesAreFoundAtCopies J }
+{}
+
+/// Of several copies: of two replies to one client that tell of one copy none is of an earlier place of its journal than the one before it.
+pub fn replies_never_go_back_at_copies<J: RegistryName>()
+    ensures { NeverBackAtCopies J }
 {}

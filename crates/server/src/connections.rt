@@ -1,9 +1,11 @@
 //! Connections to an index, many at once.
 
+use chronicle::RegistryName;
 use clients::{Clients, Watcher};
 use cluster::Client;
 use doc::Mapping;
 use group::{Chair, Group};
+use node::Heard;
 use shard::{Desk, HistoryName, Reached, SharedShard};
 use std::alloc::Global;
 use std::sync::Wait;
@@ -74,39 +76,41 @@ where
 
 /// An index of several copies: its name, its mapping, and what asks the copies.
 #[derive(Drop)]
-pub(crate) struct Index<'a, D: LogDevice> {
+pub(crate) struct Index<'a, D: LogDevice, J: RegistryName> {
     pub(crate) name: &'a str,
     pub(crate) mapping: &'a Mapping,
-    pub(crate) client: &'a Client<D>,
+    pub(crate) client: &'a Client<D, J>,
 }
 
 /// Serves connections to copies on threads of their own, as `serve_connections` does. No lock is round the index.
-pub(crate) fn serve_group<R, D, W>(
+pub(crate) fn serve_group<R, D, W, J>(
     rt: &R,
     alloc: Global,
-    clients: &Clients<'_, W, ()>,
-    index: &Index<'_, D>,
+    clients: &Clients<'_, W, Option<Heard<J>>>,
+    index: &Index<'_, D, J>,
 ) -> io::Result<()>
 where
     R: Threads + Wait + Clock + Sync,
     D: LogDevice + Send,
     W: Watcher,
+    J: RegistryName + Send + Sync + 'static,
 {
     let chairs = chairs_of(rt, index.client);
     serve_chairs(rt, alloc, clients, index, &chairs)
 }
 
-fn serve_chairs<R, D, W>(
+fn serve_chairs<R, D, W, J>(
     rt: &R,
     alloc: Global,
-    clients: &Clients<'_, W, ()>,
-    index: &Index<'_, D>,
+    clients: &Clients<'_, W, Option<Heard<J>>>,
+    index: &Index<'_, D, J>,
     chairs: &[Chair; 8],
 ) -> io::Result<()>
 where
     R: Threads + Wait + Clock + Sync,
     D: LogDevice + Send,
     W: Watcher,
+    J: RegistryName + Send + Sync + 'static,
 {
     let ends = thread::map_indices(
         rt,
@@ -120,6 +124,7 @@ where
                 mapping: index.mapping,
                 client: index.client,
                 chair: &chairs[lane % CHAIRS],
+                heard: None,
             };
             clients.run(rt, lane, group)
         },
@@ -130,7 +135,7 @@ where
     Ok(())
 }
 
-fn chairs_of<R: Wait, D: LogDevice>(rt: &R, client: &Client<D>) -> [Chair; 8] {
+fn chairs_of<R: Wait, D: LogDevice, J: RegistryName>(rt: &R, client: &Client<D, J>) -> [Chair; 8] {
     [
         Chair::new(rt, client),
         Chair::new(rt, client),

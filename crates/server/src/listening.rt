@@ -5,6 +5,7 @@ use crate::connections::{Index, serve_connections, serve_group};
 use crate::fault::{ServeFault, ended};
 use crate::settings::Settings;
 use crate::telling::Telling;
+use chronicle::RegistryName;
 use clients::{Clients, Limits};
 use shard::{Begun, HistoryName, Shard, SharedShard};
 use std::io;
@@ -116,10 +117,10 @@ where
 }
 
 /// Takes the port, and serves the connections that come to it to copies on threads.
-pub(crate) fn listen_to_group<R, O, E, D>(
+pub(crate) fn listen_to_group<R, O, E, D, J>(
     rt: &R,
     settings: Settings<'_>,
-    index: &Index<'_, D>,
+    index: &Index<'_, D, J>,
     output: &mut O,
     errors: &mut E,
 ) -> Result<(), ServeFault>
@@ -133,6 +134,7 @@ where
     O: Write,
     E: Write + Send,
     D: LogDevice + Send,
+    J: RegistryName + Send + Sync + 'static,
 {
     let alloc = rt.alloc();
     let listener = bound(rt, settings.port, output)?;

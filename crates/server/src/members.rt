@@ -1,4 +1,5 @@
 //! An index of several copies on threads of their own.
+ghost use Rattle.std.specs.Prelude.{◌≡◌};
 
 use crate::connections::Index;
 use crate::fault::ServeFault;
@@ -6,14 +7,17 @@ use crate::listening::listen_to_group;
 use crate::mapping::fields_of;
 use crate::opening::{Counted, OpeningLine};
 use crate::settings::Settings;
+use chronicle::{Registry, RegistryName, Unnamed};
 use cluster::{Cluster, Devices, InMemory, Journals, Open, Unopened};
 use doc::Mapping;
 use folder::{KeptFolder, MappingFile, judge, keep_journals, open_folder};
-use journal::Journal;
+use journal::{Deed, Journal};
+use node::Receipt;
 use std::alloc::{AllocError, Global};
 use std::fs;
 use std::fs::File;
 use std::io::Write;
+use std::marker::Brand;
 use std::net::{Net, TcpListener, TcpStream};
 use std::rt::Files;
 use std::sync::Wait;
@@ -22,10 +26,10 @@ use std::time::Clock;
 use translog::{FileDevice, LogDevice};
 
 /// Serves a new index of copies on threads of their own, in memory.
-pub(crate) fn serve_copies<R, O, E>(
+pub(crate) fn serve_copies<'x, R, O, E>(
     rt: &R,
-    settings: Settings<'_>,
-    mapping: Option<&MappingFile>,
+    settings: Settings<'x>,
+    mapping: Option<&'x MappingFile>,
     output: &mut O,
     errors: &mut E,
 ) -> Result<(), ServeFault>
@@ -45,20 +49,41 @@ where
     E: Write + Send,
 {
     let fields = fields_of(rt.alloc(), mapping)?;
-    let ended = serve_started(rt, settings, mapping, &fields, output, errors);
+    let wanted = Wanted {
+        settings,
+        mapping,
+        fields: &fields,
+    };
+    let ended = serve_started::<Brand, R, O, E>(rt, &wanted, output, errors, Unnamed::new());
     drop(fields);
     ended
 }
 
-fn serve_started<R, O, E>(
+/// How an index is to be served, and under which mapping.
+#[derive(Clone, Copy)]
+struct Wanted<'a> {
+    settings: Settings<'a>,
+    mapping: Option<&'a MappingFile>,
+    fields: &'a Mapping,
+}
+
+/// An index that is to be served, and the folder that it is kept in.
+#[derive(Clone, Copy)]
+struct WantedIn<'a> {
+    wanted: Wanted<'a>,
+    folder: &'a str,
+}
+
+/// The same, of the cluster whose journals are these.
+fn serve_started<J, R, O, E>(
     rt: &R,
-    settings: Settings<'_>,
-    mapping: Option<&MappingFile>,
-    fields: &Mapping,
+    wanted: &Wanted<'_>,
     output: &mut O,
     errors: &mut E,
+    journals: Unnamed<Deed>,
 ) -> Result<(), ServeFault>
 where
+    J: RegistryName + Send + Sync + 'static,
     R: Files<File = File>
         + AllocGlobal
         + Net<Listener = TcpListener, Stream = TcpStream>
@@ -72,10 +97,12 @@ where
         + 'static,
     O: Write,
     E: Write + Send,
+    requires { journals ≡ J.registry }
 {
     let alloc = rt.alloc();
-    let copied = fields.copy(alloc)?;
-    let copies = settings.copies.max(1).min(5) as u8;
+    let copied = wanted.fields.copy(alloc)?;
+    let copies = wanted.settings.copies.max(1).min(5) as u8;
+    let registry: Registry<Deed, J> = journals.named();
     match Cluster::start(
         rt,
         alloc,
@@ -83,19 +110,34 @@ where
         copies,
         InMemory { alloc },
         Open,
-        kept_by(settings),
+        kept_by(wanted.settings),
+        registry,
     ) {
         Ok(cluster) => {
-            let served = serve_cluster(rt, settings, fields, &cluster, output, errors);
-            match journals_of(rt, cluster, served) {
-                Ok(Some(journals)) => tell_journals(
-                    rt, settings, mapping, fields, journals, output, errors,
-                ),
-                Ok(None) => Ok(()),
-                Err(fault) => Err(fault),
-            }
+            let served = serve_cluster(rt, wanted, &cluster, output, errors);
+            told_of(rt, wanted, journals_of(rt, cluster, served), output, errors)
         }
         Err(fault) => Err(ServeFault::from(fault)),
+    }
+}
+
+/// Keeps and audits the journals that are handed out, where there are some.
+fn told_of<R, O, E>(
+    rt: &R,
+    wanted: &Wanted<'_>,
+    journals: Result<Option<Vec<Journal>>, ServeFault>,
+    output: &mut O,
+    errors: &mut E,
+) -> Result<(), ServeFault>
+where
+    R: Files<File = File> + AllocGlobal,
+    O: Write,
+    E: Write,
+{
+    match journals {
+        Ok(Some(journals)) => tell_journals(rt, wanted, journals, output, errors),
+        Ok(None) => Ok(()),
+        Err(fault) => Err(fault),
     }
 }
 
@@ -109,17 +151,20 @@ fn kept_by(settings: Settings<'_>) -> Journals {
 }
 
 /// Ends a cluster that has served, and gives its journals, where they are kept; or why it served no more.
-fn journals_of<R, D, V>(
+fn journals_of<R, D, V, J>(
     rt: &R,
-    cluster: Cluster<D, V, Open>,
+    cluster: Cluster<D, V, Open, J>,
     served: Result<(), ServeFault>,
 ) -> Result<Option<Vec<Journal>>, ServeFault>
 where
-    R: Threads + Wait + Copy + Send + Drop + 'static,
+    R: AllocGlobal + Threads + Wait + Copy + Send + Drop + 'static,
     D: LogDevice + Send + 'static,
     V: Devices<D>,
+    J: RegistryName + Send + Sync + 'static,
 {
-    let closed = cluster.close(rt, &[]);
+    let receipts: Vec<Receipt<J>> = Vec::new(rt.alloc());
+    let closed = cluster.close(rt, receipts.as_slice());
+    drop(receipts);
     match served {
         Ok(()) => closed.map_err(ServeFault::from),
         Err(fault) => {
@@ -132,9 +177,7 @@ where
 /// Keeps journals where that is wanted, and audits them.
 fn tell_journals<R, O, E>(
     rt: &R,
-    settings: Settings<'_>,
-    mapping: Option<&MappingFile>,
-    fields: &Mapping,
+    wanted: &Wanted<'_>,
     journals: Vec<Journal>,
     output: &mut O,
     errors: &mut E,
@@ -144,6 +187,11 @@ where
     O: Write,
     E: Write,
 {
+    let Wanted {
+        settings,
+        mapping,
+        fields,
+    } = *wanted;
     let told = match kept(rt, settings, mapping, journals.as_slice()) {
         Ok(()) => audited(
             rt.alloc(),
@@ -192,11 +240,11 @@ fn audited<O: Write, E: Write>(
 
 /// Serves an index of copies on threads of their own that is kept in a folder; also one copy, whose worker then syncs its log for all that waits. It
 /// begins with those that the folder has; more are added where fewer than are wanted could be opened, and those that couldn't be are told.
-pub(crate) fn serve_kept_copies<R, O, E>(
+pub(crate) fn serve_kept_copies<'x, R, O, E>(
     rt: &R,
-    settings: Settings<'_>,
-    folder: &str,
-    mapping: Option<&MappingFile>,
+    settings: Settings<'x>,
+    folder: &'x str,
+    mapping: Option<&'x MappingFile>,
     output: &mut O,
     errors: &mut E,
 ) -> Result<(), ServeFault>
@@ -225,7 +273,15 @@ where
                 lock,
             },
         ) => {
-            let ended = serve_folder(rt, settings, folder, mapping, &fields, output, errors);
+            let wanted = WantedIn {
+                wanted: Wanted {
+                    settings,
+                    mapping,
+                    fields: &fields,
+                },
+                folder,
+            };
+            let ended = serve_folder::<Brand, R, O, E>(rt, &wanted, output, errors, Unnamed::new());
             drop(fields);
             drop(lock);
             ended
@@ -234,16 +290,16 @@ where
     }
 }
 
-fn serve_folder<R, O, E>(
+/// Serves a folder that nobody else serves, by the cluster whose journals are these.
+fn serve_folder<J, R, O, E>(
     rt: &R,
-    settings: Settings<'_>,
-    folder: &str,
-    mapping: Option<&MappingFile>,
-    fields: &Mapping,
+    kept: &WantedIn<'_>,
     output: &mut O,
     errors: &mut E,
+    journals: Unnamed<Deed>,
 ) -> Result<(), ServeFault>
 where
+    J: RegistryName + Send + Sync + 'static,
     R: Files<File = File>
         + AllocGlobal
         + Net<Listener = TcpListener, Stream = TcpStream>
@@ -257,17 +313,19 @@ where
         + 'static,
     O: Write,
     E: Write + Send,
+    requires { journals ≡ J.registry }
 {
-    match opened(rt, settings, folder, fields, errors) {
+    let registry: Registry<Deed, J> = journals.named();
+    match opened(rt, kept, errors, registry) {
         Ok(mut cluster) => {
-            let served = serve_opened(rt, settings, fields, &mut cluster, output, errors);
-            match journals_of(rt, cluster, served) {
-                Ok(Some(journals)) => tell_journals(
-                    rt, settings, mapping, fields, journals, output, errors,
-                ),
-                Ok(None) => Ok(()),
-                Err(fault) => Err(fault),
-            }
+            let served = serve_opened(rt, &kept.wanted, &mut cluster, output, errors);
+            told_of(
+                rt,
+                &kept.wanted,
+                journals_of(rt, cluster, served),
+                output,
+                errors,
+            )
         }
         Err(fault) => Err(fault),
     }
@@ -280,14 +338,14 @@ fn has_index<R: Files>(rt: &R, alloc: Global, folder: &str) -> Result<bool, Allo
 }
 
 /// The copies of a folder, and shows meanwhile how far their opening is.
-fn opened<R, E>(
+fn opened<J, R, E>(
     rt: &R,
-    settings: Settings<'_>,
-    folder: &str,
-    fields: &Mapping,
+    kept: &WantedIn<'_>,
     errors: &mut E,
-) -> Result<Cluster<FileDevice<File>, Counted<R>, Open>, ServeFault>
+    registry: Registry<Deed, J>,
+) -> Result<Cluster<FileDevice<File>, Counted<R>, Open, J>, ServeFault>
 where
+    J: RegistryName + Send + Sync + 'static,
     R: Files<File = File>
         + AllocGlobal
         + Net<Listener = TcpListener, Stream = TcpStream>
@@ -302,13 +360,30 @@ where
     E: Write + Send,
 {
     let alloc = rt.alloc();
+    let WantedIn {
+        wanted: Wanted {
+            settings,
+            fields,
+            ..
+        },
+        folder,
+    } = *kept;
     let line = OpeningLine::of_several(alloc, settings.at_terminal)?;
     let copied = fields.copy(alloc)?;
     match Counted::new(*rt, alloc, folder, settings.when_synced(), &line) {
         Ok(devices) => {
             let cluster = line.shown_while(rt, errors, || {
                 let copies = settings.copies.max(1).min(5) as u8;
-                Cluster::open(rt, alloc, copied, copies, devices, Open, kept_by(settings))
+                Cluster::open(
+                    rt,
+                    alloc,
+                    copied,
+                    copies,
+                    devices,
+                    Open,
+                    kept_by(settings),
+                    registry,
+                )
             });
             cluster.map_err(ServeFault::from)
         }
@@ -320,15 +395,15 @@ where
 }
 
 /// Adds the copies that are lacking, and serves all.
-fn serve_opened<R, V, O, E>(
+fn serve_opened<J, R, V, O, E>(
     rt: &R,
-    settings: Settings<'_>,
-    fields: &Mapping,
-    cluster: &mut Cluster<FileDevice<File>, V, Open>,
+    wanted: &Wanted<'_>,
+    cluster: &mut Cluster<FileDevice<File>, V, Open, J>,
     output: &mut O,
     errors: &mut E,
 ) -> Result<(), ServeFault>
 where
+    J: RegistryName + Send + Sync + 'static,
     R: AllocGlobal
         + Net<Listener = TcpListener, Stream = TcpStream>
         + Threads
@@ -343,7 +418,7 @@ where
     O: Write,
     E: Write + Send,
 {
-    let lacking = lacking(rt, cluster, settings.copies)?;
+    let lacking = lacking(rt, cluster, wanted.settings.copies)?;
     if let Some(short) = cluster.short_log() {
         let _ = writeln!(errors, "indexd: {short}");
     }
@@ -353,19 +428,19 @@ where
     for _ in 0..lacking {
         cluster.allocate(rt)?;
     }
-    serve_cluster(rt, settings, fields, cluster, output, errors)
+    serve_cluster(rt, wanted, cluster, output, errors)
 }
 
 /// Serves copies that are there.
-fn serve_cluster<R, D, V, O, E>(
+fn serve_cluster<J, R, D, V, O, E>(
     rt: &R,
-    settings: Settings<'_>,
-    fields: &Mapping,
-    cluster: &Cluster<D, V, Open>,
+    wanted: &Wanted<'_>,
+    cluster: &Cluster<D, V, Open, J>,
     output: &mut O,
     errors: &mut E,
 ) -> Result<(), ServeFault>
 where
+    J: RegistryName + Send + Sync + 'static,
     R: AllocGlobal
         + Net<Listener = TcpListener, Stream = TcpStream>
         + Threads
@@ -378,20 +453,21 @@ where
     E: Write + Send,
 {
     let index = Index {
-        name: settings.index,
-        mapping: fields,
+        name: wanted.settings.index,
+        mapping: wanted.fields,
         client: cluster.client(),
     };
-    listen_to_group(rt, settings, &index, output, errors)
+    listen_to_group(rt, wanted.settings, &index, output, errors)
 }
 
 /// How many copies are to be added, so that there are as many as are wanted.
-fn lacking<R, V>(
+fn lacking<J, R, V>(
     rt: &R,
-    cluster: &Cluster<FileDevice<File>, V, Open>,
+    cluster: &Cluster<FileDevice<File>, V, Open, J>,
     wanted: u64,
 ) -> Result<u64, ServeFault>
 where
+    J: RegistryName + Send + Sync + 'static,
     R: Wait,
     V: Devices<FileDevice<File>>,
 {

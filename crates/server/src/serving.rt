@@ -50,10 +50,10 @@ where
 }
 
 /// Serves an index under a mapping, where one is given.
-fn serve_under<R, O, E>(
+fn serve_under<'x, R, O, E>(
     rt: &R,
-    settings: Settings<'_>,
-    mapping: Option<&MappingFile>,
+    settings: Settings<'x>,
+    mapping: Option<&'x MappingFile>,
     output: &mut O,
     errors: &mut E,
 ) -> Result<(), ServeFault>
@@ -86,10 +86,10 @@ where
 }
 
 /// Serves a new index in memory.
-fn serve_memory<R, O, E>(
+fn serve_memory<'x, R, O, E>(
     rt: &R,
-    settings: Settings<'_>,
-    mapping: Option<&MappingFile>,
+    settings: Settings<'x>,
+    mapping: Option<&'x MappingFile>,
     output: &mut O,
     errors: &mut E,
 ) -> Result<(), ServeFault>

@@ -4,4 +4,4 @@ use Rattle.cluster.proofs.bulk.places_of.Given as goal
 
 -- the items so far have their places
 abbrev pub invariant-loop-item : goal.invariant-loop-item
-invariant-loop-item l = AreSettledAt l.entries (take l.item-index l.items) l.places.items
+invariant-loop-item g l = AreSettledAt l.entries (take l.item-index l.items) l.places.items

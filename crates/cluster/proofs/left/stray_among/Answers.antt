@@ -4,9 +4,9 @@ use Rattle.cluster.specs.Journals.{StandsIn}
 use Rattle.cluster.proofs.left.stray_among.Goals as goal
 
 pub loop-receipt-preserved : goal.loop-receipt-preserved
-loop-receipt-preserved c =
+loop-receipt-preserved g c =
     let here = at_read c.args.receipts.now (StandsIn c.args.lefts.now) c.loop-receipt.receipt-index c.receipt-item.result c.loop-receipt-test.true c.receipt-item.is c.in_default.ensures in
     AllWithin-more (StandsIn c.args.lefts.now) c.args.receipts.now 0 c.loop-receipt.receipt-index c.loop-receipt.invariant here
 
 pub returns : goal.returns
-returns c = All-from_all_within (StandsIn c.args.lefts.now) c.args.receipts.now (AllWithin-upto (StandsIn c.args.lefts.now) c.args.receipts.now 0 c.loop-receipt.receipt-index (length c.args.receipts.now) (search rules) c.loop-receipt.invariant)
+returns g c = All-from_all_within (StandsIn c.args.lefts.now) c.args.receipts.now (AllWithin-upto (StandsIn c.args.lefts.now) c.args.receipts.now 0 c.loop-receipt.receipt-index (length c.args.receipts.now) (search rules) c.loop-receipt.invariant)

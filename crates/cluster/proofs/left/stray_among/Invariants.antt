@@ -4,4 +4,4 @@ use Rattle.cluster.proofs.left.stray_among.Given as goal
 
 -- the receipts so far stand in the journals
 abbrev pub invariant-loop-receipt : goal.invariant-loop-receipt
-invariant-loop-receipt l = AllWithin (StandsIn l.lefts) l.receipts 0 l.receipt-index
+invariant-loop-receipt g l = AllWithin (StandsIn l.lefts) l.receipts 0 l.receipt-index

@@ -4,4 +4,4 @@ use Rattle.cluster.proofs.left.stray_of_workers.Given as goal
 
 -- the journals so far are each of one caller
 abbrev pub invariant-loop-left : goal.invariant-loop-left
-invariant-loop-left l = AllWithin IsOfOneCaller l.lefts 0 l.left-index
+invariant-loop-left g l = AllWithin IsOfOneCaller l.lefts 0 l.left-index

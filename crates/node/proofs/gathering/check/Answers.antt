@@ -9,7 +9,7 @@ use Rattle.node.proofs.gathering.check.Goals.{then-not-stands-via-then-not-stand
 use Rattle.node.proofs.gathering.check.Goals as goal
 
 pub returns-then-not-stands-clause-stray : goal.returns-then-not-stands-clause-stray
-returns-then-not-stands-clause-stray c =
+returns-then-not-stands-clause-stray g c =
     let rs = c.receipts-receipts.result.now in
     let r = c.index-receipts-count.result in
     let at : slice_get rs c.loop-count.count ≡ Some r = slice_get_read rs (length rs) c.loop-count.count r refl c.loop-count-test.true c.index-receipts-count.is in
@@ -22,7 +22,7 @@ returns-then-not-stands-clause-stray c =
     subst (λ n. IsFirstStray c.args.journal.now (receipts_of c.args.earlier.now) c.args.pass.now.receipts n) (sym here) (subst (λ (l : List Receipt). IsFirstStray c.args.journal.now (receipts_of c.args.earlier.now) l r.place) c.receipts-receipts.ensures s)
 
 pub loop-count-preserved : goal.loop-count-preserved
-loop-count-preserved c =
+loop-count-preserved g c =
     let rs = c.receipts-receipts.result.now in
     let r = c.index-receipts-count.result in
     let at : slice_get rs c.loop-count.count ≡ Some r = slice_get_read rs (length rs) c.loop-count.count r refl c.loop-count-test.true c.index-receipts-count.is in

@@ -4,4 +4,4 @@ use Rattle.node.proofs.gathering.gathered.Given as goal
 
 -- the receipts of the passes so far stand
 abbrev pub invariant-loop-count : goal.invariant-loop-count
-invariant-loop-count l = AreNext l.journal [] (receipts_of (take l.count l.passes))
+invariant-loop-count g l = AreNext l.journal [] (receipts_of (take l.count l.passes))

@@ -4,4 +4,4 @@ use Rattle.node.proofs.gathering.is_among.Given as goal
 
 -- the receipts that are left decide
 abbrev pub invariant-loop-receipt : goal.invariant-loop-receipt
-invariant-loop-receipt l = has_place (drop l.receipt-index l.receipts) l.place ≡ has_place l.receipts l.place
+invariant-loop-receipt g l = has_place (drop l.receipt-index l.receipts) l.place ≡ has_place l.receipts l.place

@@ -1,0 +1,60 @@
+-- Ledgers that are registered, each under a number of its own.
+use Rattle.std.specs.Prelude.{◌≡◌, ℕ, ◌<◌, List, [], ◌∷◌}
+use base.Stored.{Coded, coded×, coded_ℕ, coded_list, coded_via}
+use Rattle.chronicle.specs.Written.{Line, line, line_coded}
+use Rattle.chronicle.specs.Ledger.{LedgerData}
+use Rattle.chronicle.specs.declared.registry.Numbered.{Numbered}
+
+-- the number of a ledger, and its line
+pub record SeatData : Type 0 where
+  pub number : ℕ
+  pub line : Line
+
+abbrev pub seat_at : ℕ → Line → SeatData
+seat_at number line = record { number = number; line = line }
+
+abbrev pub seat_coded : Coded SeatData
+seat_coded = coded_via (coded× coded_ℕ line_coded) (λ (s : SeatData). (s.number, s.line)) (λ x y e i. record { number = (e i).0; line = (e i).1 })
+
+-- the first entries of the ledger with this number
+pub record PrefixData (E : Type 0) : Type 0 where
+  pub number : ℕ
+  pub entries : List E
+
+abbrev pub prefix : {E : Type 0} → ℕ → List E → PrefixData E
+prefix number entries = record { number = number; entries = entries }
+
+abbrev pub prefix_coded : {E : Type 0} → Coded E → Coded (PrefixData E)
+prefix_coded {E} c = coded_via (coded× coded_ℕ (coded_list c)) (λ (p : PrefixData E). (p.number, p.entries)) (λ x y e i. record { number = (e i).0; entries = (e i).1 })
+
+-- a ledger with its number
+pub record RegisteredData (E : Type 0) : Type 0 where
+  pub number : ℕ
+  pub ledger : LedgerData E
+
+abbrev pub registered : {E : Type 0} → ℕ → LedgerData E → RegisteredData E
+registered number ledger = record { number = number; ledger = ledger }
+
+module _ {E : Type 0} where
+  abbrev pub seat_of : Numbered E → SeatData
+  seat_of n = seat_at n.number n.ledger.line
+
+  -- that of the ledger that was registered last
+  abbrev pub last_seat : List (Numbered E) → SeatData
+  last_seat [] = seat_at 0 (line (record { number = 0; log_name = 0; cells_name = 0 }) 0)
+  last_seat (n ∷ []) = seat_of n
+  last_seat (n ∷ m ∷ ns) = last_seat (m ∷ ns)
+
+  -- each has a greater number than this
+  abbrev pub AreAbove : ℕ → List (Numbered E) → Type 0
+  AreAbove number [] = Unit {0}
+  AreAbove number (n ∷ ns) = (number < n.number) × AreAbove number ns
+
+  -- each has a greater number than those before it, so that no two have one
+  abbrev pub AreRising : List (Numbered E) → Type 0
+  AreRising [] = Unit {0}
+  AreRising (n ∷ ns) = AreAbove n.number ns × AreRising ns
+
+  abbrev pub IsAny : List (Numbered E) → Type 0
+  IsAny [] = ⊥
+  IsAny (n ∷ ns) = Unit {0}

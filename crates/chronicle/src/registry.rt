@@ -1,0 +1,102 @@
+//! Ledgers of one owner, each of which has a number that tells it from the others at run time.
+ghost use Rattle.std.specs.Prelude.{◌≡◌, ◌<◌, ◌≤◌, ◌++◌, ◌∷◌, [], IfOk, IfErr};
+ghost use Rattle.chronicle.specs.Registered.{last_seat, registered};
+
+use crate::chronicle::Chronicle;
+use crate::ledger::Ledger;
+use crate::name::RegistryName;
+use crate::registered::Registered;
+use crate::seat::Seat;
+use crate::writer::Writer;
+use std::marker::{Model, PhantomData};
+
+/// A ledger with its number.
+#[derive(Drop)]
+pub struct Numbered<E> {
+    pub number: u32,
+    pub ledger: Ledger<E>,
+}
+
+/// A registry that has no name yet. Contracts see which one it is.
+#[derive(Drop)]
+pub struct Unnamed<E> {
+    chronicle: Chronicle<Numbered<E>>,
+    writer: Writer<Numbered<E>>,
+}
+
+impl<E> Model for Unnamed<E> {
+    ghost use Rattle.std.specs.Prelude.{◌≡◌, []};
+    ghost use Rattle.chronicle.specs.Written.{Line, line_coded};
+
+    ghost Value = { Line };
+
+    ghost coded = { line_coded };
+
+    ghost view = { λ u. u.writer.line };
+
+    ghost invariant = { λ u. (u.writer.line.book ≡ u.chronicle) × (u.writer.entries ≡ []) };
+}
+
+impl<E> Unnamed<E> {
+    /// A new one, that is empty.
+    pub fn new() -> Unnamed<E> {
+        let chronicle = Chronicle::new();
+        let writer = chronicle.writer();
+        Unnamed { chronicle, writer }
+    }
+
+    /// The registry, under its name.
+    pub fn named<N: RegistryName>(self) -> Registry<E, N>
+        requires { self ≡ N.registry }
+        ensures { result ≡ [] }
+    {
+        let Unnamed { chronicle, writer } = self;
+        Registry {
+            chronicle,
+            writer,
+            last: 0,
+            of: PhantomData,
+        }
+    }
+}
+
+/// The ledgers of one owner. Contracts see each as it was when it was registered. Whoever has it alone can add one.
+#[derive(Drop)]
+pub struct Registry<E, N: RegistryName> {
+    chronicle: Chronicle<Numbered<E>>,
+    writer: Writer<Numbered<E>>,
+    last: u32,
+    of: PhantomData<N>,
+}
+
+impl<E, N: RegistryName> Model for Registry<E, N> {
+    ghost use Rattle.std.specs.Prelude.{◌≡◌, List};
+    ghost use base.Stored.{coded_list};
+    ghost use Rattle.chronicle.specs.declared.registry.Numbered.{Numbered};
+    ghost use Rattle.chronicle.specs.Registered.{last_seat, AreRising};
+
+    ghost Value = { List (Numbered E) };
+
+    ghost view = { λ r. r.writer.entries };
+
+    ghost invariant = { λ r. (r.writer.line ≡ N.registry) × (N.registry.book ≡ r.chronicle) × AreRising r.writer.entries × (r.last ≡ (last_seat r.writer.entries).number) };
+}
+
+impl<E: Drop, N: RegistryName> Registry<E, N> {
+    /// Registers a ledger under a number that is greater than those of all before it; else it is given back.
+    pub fn add(&mut self, number: u32, ledger: Ledger<E>) -> Result<Registered<E, N>, Ledger<E>>
+        ensures added { IfOk result (λ r. (r ≡ registered number ledger) × (self.new ≡ self.old ++ record { number = number; ledger = ledger } ∷ [])) }
+        ensures last { IfOk result (λ r. (last_seat self.new).number ≡ number) }
+        ensures above { IfOk result (λ r. (last_seat self.old).number < number) }
+        ensures taken { IfErr result (λ l. (l ≡ ledger) × (self.new ≡ self.old) × (number ≤ (last_seat self.old).number)) }
+    {
+        if number <= self.last {
+            return Err(ledger);
+        }
+        let numbered = Numbered { number, ledger };
+        let mark = self.writer.append(&self.chronicle, &numbered);
+        self.last = number;
+        let Numbered { number, ledger } = numbered;
+        Ok(Registered::of(Seat::of(mark), number, ledger))
+    }
+}

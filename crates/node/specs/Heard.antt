@@ -1,0 +1,19 @@
+-- What somebody was told of a copy's journal, and what comes later.
+use Rattle.std.specs.Prelude.{◌≡◌, ◌≤◌, length}
+use mathlib.Core.List.{IsPrefix}
+use Rattle.chronicle.specs.Registered.{PrefixData}
+use Rattle.journal.specs.declared.journal.Deed.{Deed}
+use Rattle.node.specs.Entry.{Receipt}
+use Rattle.node.specs.Reading.{GotData}
+
+-- the entry is of another copy, or stands behind all of these
+pub record IsBehindAll (h : PrefixData Deed) (r : Receipt) : Type 0 where
+  pub place : length h.entries ≤ r.place
+  pub entries : IsPrefix h.entries r.deeds
+
+abbrev pub IsAheadOf : PrefixData Deed → Receipt → Type 0
+IsAheadOf h r = r.node ≡ h.number → IsBehindAll h r
+
+-- what was read is of another copy, or of this one after all of these
+abbrev pub IsNotBefore : PrefixData Deed → GotData → Type 0
+IsNotBefore h g = g.node ≡ h.number → IsPrefix h.entries g.deeds

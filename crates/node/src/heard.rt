@@ -1,0 +1,83 @@
+//! What a caller has heard of a copy.
+ghost use Rattle.std.specs.Prelude.{◌≡◌, ◌+◌, ◌≤◌, length, IsTrue};
+ghost use mathlib.Core.List.{IsPrefix};
+ghost use Rattle.chronicle.specs.Registered.{prefix};
+ghost use Rattle.node.specs.Entry.{IsJournalOf};
+ghost use Rattle.node.specs.Heard.{IsAheadOf, IsNotBefore};
+
+use crate::got::Got;
+use crate::receipt::Receipt;
+use chronicle::{Prefix, RegistryName};
+use journal::Deed;
+use std::marker::Model;
+
+/// The first entries of a copy's journal, of which somebody was told. Contracts see the copy's number and them.
+#[derive(Drop)]
+pub struct Heard<J: RegistryName> {
+    node: u32,
+    place: u64,
+    upto: Prefix<Deed, J>,
+}
+
+impl<J: RegistryName> Model for Heard<J> {
+    ghost use Rattle.std.specs.Prelude.{◌≡◌, ◌+◌, length};
+    ghost use Rattle.chronicle.specs.Registered.{PrefixData};
+    ghost use Rattle.journal.specs.declared.journal.Deed.{Deed};
+    ghost use Rattle.node.specs.Entry.{IsJournalOf};
+
+    ghost Value = { PrefixData Deed };
+
+    ghost view = { λ h. h.upto };
+
+    ghost invariant = { λ h. (h.node ≡ h.upto.number) × (h.place + 1 ≡ length h.upto.entries) × IsJournalOf h.upto.number h.upto.entries };
+}
+
+impl<J: RegistryName> Heard<J> {
+    pub(crate) fn of(node: u32, place: u64, upto: Prefix<Deed, J>) -> Heard<J>
+        requires number { upto.number ≡ node }
+        requires last { place + 1 ≡ length upto.entries }
+        requires journal { IsJournalOf node upto.entries }
+        ensures { result ≡ prefix node upto.entries }
+    {
+        Heard { node, place, upto }
+    }
+
+    /// What a receipt tells.
+    pub fn by(receipt: &Receipt<J>) -> Heard<J>
+        ensures { result ≡ prefix receipt.now.node receipt.now.deeds }
+    {
+        Heard::of(receipt.node(), receipt.place(), receipt.upto().again())
+    }
+
+    /// The same once more.
+    pub fn again(&self) -> Heard<J>
+        ensures { result ≡ self.now }
+    {
+        Heard {
+            node: self.node,
+            place: self.place,
+            upto: self.upto.again(),
+        }
+    }
+
+    /// Whether an entry is of another copy, or stands behind all that was heard.
+    pub fn is_before(&self, receipt: &Receipt<J>) -> bool
+        ensures { IsTrue result → IsAheadOf self.now receipt.now }
+    {
+        if receipt.node() != self.node {
+            return true;
+        }
+        self.upto.agrees(receipt.upto());
+        self.place < receipt.place()
+    }
+
+    /// Whether what was read is of another copy, or its journal had all by then that was heard.
+    pub fn is_in(&self, got: &Got<J>) -> bool
+        ensures { IsTrue result → IsNotBefore self.now got.now }
+    {
+        if got.node() != self.node {
+            return true;
+        }
+        self.place < got.place() && got.has(&self.upto)
+    }
+}
