@@ -58,13 +58,14 @@ def refreshed():
             got = bodies(server.ask(PUT, b"GET /books/_count HTTP/1.1\r\n\r\n", pause=1))
             check(f"a refresh by time goes on until the last connection ends, {words[1]} copies", "" if got[1].get("count") == 1 else repr(got))
     for copies in (1, 3):
-        for writes, found in ((2_000, 0), (2_100, 2_100)):
+        # (what comes while the refresh is under way waits for the next one)
+        for writes, found in ((2_000, [0]), (2_100, range(2_048, 2_101))):
             with Server("--copies", copies, "--refresh-ms", 60_000) as server:
                 lines = b"".join(b'{"index":{"_id":"%d"}}\n{}\n' % it for it in range(writes))
                 server.ask(b"POST /books/_bulk HTTP/1.1\r\ncontent-length: %d\r\n\r\n%s" % (len(lines), lines))
                 time.sleep(0.5)
                 got = bodies(server.ask(b"GET /books/_count HTTP/1.1\r\n\r\n"))
-                check(f"what is shown before its time behind {writes} writes, {copies} copies", "" if got[0].get("count") == found else repr(got))
+                check(f"what is shown before its time behind {writes} writes, {copies} copies", "" if got[0].get("count") in found else repr(got))
     with Server("--connections", 1, "--refresh-ms", 1000) as server:
         server.ask(PUT)
         server.process.communicate(timeout=SECONDS)
