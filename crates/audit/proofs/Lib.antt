@@ -1,10 +1,10 @@
 mod Begun
 mod Caused
-mod StepIds
-mod Nodes
-mod Merging
+pub mod StepIds
+pub mod Nodes
+pub mod Merging
 mod Audits
-mod Links
+pub mod Links
 mod Parts
 mod Judging
 mod Overruling

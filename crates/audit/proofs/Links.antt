@@ -121,7 +121,7 @@ one c (Some f) place input (Ok output) good may = (by_kept (is_kept c f output),
     by_kept false = reopens c f.input f.other false good.0 good.1
 one c (Some f) place input (Err e) good may = (refl, good)
 
-runs : (s : Standing) (place : ℕ) (ds : List Deed) → IsGood s.copy s.shut → IsLegal s place ds → run copy_after s.copy (moves s place ds) ≡ (after s place ds).copy
+pub runs : (s : Standing) (place : ℕ) (ds : List Deed) → IsGood s.copy s.shut → IsLegal s place ds → run copy_after s.copy (moves s place ds) ≡ (after s place ds).copy
 unfolding run
 runs s place [] good legal = refl
 runs s place (d ∷ ds) good legal =

@@ -115,7 +115,7 @@ module _ (w : World) (i k : ℕ) where
   to_other : (x : Msg) → x.to ≡ i → (i == 0) ≡ false → (x.to == 0) ≡ false
   to_other x to other = ap (λ (r : ℕ). r == 0) to ∙ other
 
-  does_is : (input : Input) → (i == 0) ≡ false → IsTold w i k input → world_step w (event_of i k (does input)) ≡ at_copy w (copy_in w.copies i) input
+  pub does_is : (input : Input) → (i == 0) ≡ false → IsTold w i k input → world_step w (event_of i k (does input)) ≡ at_copy w (copy_in w.copies i) input
   does_is (Take x) other told = ap (deliver w) told.0 ∙ ap (deliver_to w x) (to_other x told.1 other) ∙ ap (λ (r : ℕ). at_copy w (copy_in w.copies r) (Take x)) told.1
   does_is (Client v) other told = refl
   does_is (ClientBulk vs) other told = refl
@@ -295,7 +295,7 @@ module _ (mapping : MappingData) (n : ℕ) (moves : Moves) where
   some_is true o i k e is = (refl, e)
   some_is false o i k e is = let no_copy : false ≡ true = ap is_some (sym e) ∙ is in absurd cc
 
-  there_is : (w : World) (p : Counts) → Agrees w p → (i : ℕ) → IsThere w i → (is_given (master_at (p 0)) i ≡ true) × (copy_in w.copies i ≡ Some (copy_now i (p i)))
+  pub there_is : (w : World) (p : Counts) → Agrees w p → (i : ℕ) → IsThere w i → (is_given (master_at (p 0)) i ≡ true) × (copy_in w.copies i ≡ Some (copy_now i (p i)))
   there_is w p a i there = some_is (is_given (master_at (p 0)) i) (copy_in w.copies i) i (p i) (a.copies i) there.1
 
   next_does : (w : World) (p : Counts) → Agrees w p → (i k : ℕ) (input : Input) → slice_get (moves i) (p i) ≡ Some (does input) → IsThere w i → IsTold w i k input → Agrees (world_step w (event_of i k (does input))).world (more p i)

@@ -1,7 +1,9 @@
 -- Receipts in journals that are handed out.
-use Rattle.std.proofs.Common.{◌≡◌, ◌+◌, ℕ, List, [], ◌∷◌, ◌++◌, length, append-nil, Result, Ok, Err, IfOk, sym, subst}
-use Rattle.std.specs.Prelude.{All, Option, Some, None, IfSome, Vec}
+use Rattle.std.proofs.Common.{◌≡◌, ◌+◌, ℕ, List, [], ◌∷◌, ◌++◌, length, append-nil, Result, Ok, Err, IfOk, sym, ap, subst, ◌∙◌}
+use Rattle.std.specs.Prelude.{All, Option, Some, None, IfNone, IfSome, Vec}
+use mathlib.Core.List.{IsPrefix}
 use Rattle.std.specs.declared.alloc.Global.{Global}
+use Rattle.chronicle.specs.Registered.{PrefixData, prefix}
 use Rattle.journal.specs.declared.journal.Deed.{Deed}
 use Rattle.journal.specs.declared.journal.Journal.{Journal}
 use Rattle.journal.specs.declared.journal.Journal.TheVariants.{OfCopy}
@@ -9,17 +11,33 @@ use Rattle.journal.specs.Journal.{IsLegal, open_at}
 use Rattle.journal.specs.Lawful.{IsLawful}
 use Rattle.replica.specs.Copy.{Copy}
 use Rattle.node.specs.Entry.{Receipt}
+use Rattle.node.specs.Heard.{HasEntry}
 use Rattle.cluster.specs.declared.fault.ClusterFault.{ClusterFault}
 use Rattle.node.specs.Passes.{PassData}
-use Rattle.node.specs.Gathered.{receipts_of, AreGathered, IsWhole}
-use Rattle.cluster.specs.Journals.{copies_in, node_of, AreHandedOut, BeginsWithMaster, IsLegalJournal, IsOfOneCaller, RiseFrom, StandsIn}
+use Rattle.node.specs.Gathered.{deed_at, receipts_of, AreGathered, IsWhole}
+use Rattle.cluster.specs.Journals.{copies_in, deeds_of, node_of, AreHandedOut, BeginsWithMaster, HasReceipt, IsAllOf, IsLegalJournal, IsOfOneCaller, RiseFrom, StandsIn}
 
--- the journal that a copy leaves is legal, and of its node
-pub of_closed : (o : Option Journal) (node : ℕ) (opening : Copy) (deeds : List Deed) → node ≡ opening.id → IfSome o (λ j. j ≡ OfCopy opening deeds) → IsLegal (open_at opening) 0 deeds
-    → IfSome o (λ j. (node ≡ node_of j) × IsLawful j)
-of_closed None node opening deeds own is legal = tt
-of_closed (Some j) node opening deeds own is legal =
-    (subst (λ (x : Journal). node ≡ node_of x) (sym is) own, subst (λ (x : Journal). IsLawful x) (sym is) legal)
+all_of : (h : Option (PrefixData Deed)) (opening : Copy) (deeds : List Deed) → IfSome h (λ p. p ≡ prefix opening.id deeds) → IfNone h (deeds ≡ []) → IsAllOf (OfCopy opening deeds) h
+all_of None opening deeds some none = none
+all_of (Some p) opening deeds some none = (ap (λ (x : PrefixData Deed). x.number) some, ap (λ (x : PrefixData Deed). x.entries) some)
+
+-- the journal that a copy leaves is legal, of its node, and what was told of it at last
+pub of_closed : (o : Option Journal) (node : ℕ) (h : Option (PrefixData Deed)) (opening : Copy) (deeds : List Deed) → node ≡ opening.id → IfSome o (λ j. j ≡ OfCopy opening deeds) → IsLegal (open_at opening) 0 deeds
+    → IfSome h (λ p. p ≡ prefix opening.id deeds) → IfNone h (deeds ≡ []) → IfSome o (λ j. (node ≡ node_of j) × IsLawful j × IsAllOf j h)
+of_closed None node h opening deeds own is legal some none = tt
+of_closed (Some j) node h opening deeds own is legal some none = (
+  subst (λ (x : Journal). node ≡ node_of x) (sym is) own,
+  subst (λ (x : Journal). IsLawful x) (sym is) legal,
+  subst (λ (x : Journal). IsAllOf x h) (sym is) (all_of h opening deeds some none),
+)
+
+-- a receipt among all that was told of a journal
+pub has_receipt : (j : Journal) (h : PrefixData Deed) (r : Receipt) → IsAllOf j (Some h) → HasEntry h r → deed_at j r.place ≡ Some r.deed → HasReceipt r j
+has_receipt j h r all entry stands = record {
+  node = sym (entry.node ∙ all.0);
+  stands = stands;
+  entries = subst (λ (ds : List Deed). IsPrefix r.deeds ds) all.1 entry.entries;
+}
 
 -- what stands in the journals of the workers stands in those that are handed out
 pub handed_out : (r : Result (Vec Journal Global) ClusterFault) (ls : List Journal) (rs : List Receipt) (n : ℕ) → IfOk r (λ js. All IsLegalJournal js.items) → IfOk r (λ js. length js.items ≡ n + 1)

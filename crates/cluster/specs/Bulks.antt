@@ -13,7 +13,7 @@ use Rattle.node.specs.Entry.{Receipt, IsEntry}
 use Rattle.cluster.specs.declared.confirmed.ConfirmedBulk.{ConfirmedBulk}
 use Rattle.cluster.specs.declared.fault.WriteFault.{WriteFault}
 use Rattle.cluster.specs.declared.fault.WriteFault.TheVariants.{NoPrimary, Lost, Unconfirmed, Cluster}
-use Rattle.cluster.specs.Confirmed.{Acknowledges, is_no_primary, IsBehind}
+use Rattle.cluster.specs.Confirmed.{Acknowledges, is_no_primary, IsBehind, IsEndedBy}
 
 -- what became of the writes of a bulk
 abbrev pub bulked_as : Answer → Option (List Item)
@@ -86,9 +86,9 @@ pub record IsBulkLost (writes : List Write) (r : Receipt) : Type 0 where
   pub stands : IsEntry r
   pub kept : HasKept r
 
--- what a refused bulk shows: that no copy is the primary, or that something of it was kept, and where an entry ended the wait for it, that this stands behind
+-- what a refused bulk shows: that no copy is the primary, or that something of it was kept, and where an entry ended the lead in which it was, that one
 abbrev pub IsBulkRefused : {J : Type 0} → List Write → WriteFault J → Type 0
 IsBulkRefused writes (NoPrimary r) = (r.deed.input ≡ Bulk writes) × IsEntry r × (is_no_primary r.deed.answer ≡ true)
-IsBulkRefused writes (Lost r last) = IsBulkLost writes r × IsBehind r last
+IsBulkRefused writes (Lost r last) = IsBulkLost writes r × IsEndedBy r last
 IsBulkRefused writes (Unconfirmed r) = IsBulkLost writes r
 IsBulkRefused writes (Cluster f) = Unit {0}

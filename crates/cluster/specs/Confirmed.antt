@@ -1,16 +1,19 @@
 -- Receipts that answer what was asked.
-use Rattle.std.specs.Prelude.{◌≡◌, ◌≤◌, ℕ, Bool, true, false, List, slice_get, Option, Some, None, Result, Ok, Err}
+use Rattle.std.specs.Prelude.{◌≡◌, ◌≤◌, ◌==◌, ◌||◌, ℕ, Bool, true, false, List, slice_get, Option, Some, None, Result, Ok, Err}
 use mathlib.Core.List.{IsPrefix}
+use Rattle.op.specs.declared.message.Content.{Content}
+use Rattle.op.specs.declared.message.Content.TheVariants.{Op as Operation, Ack, Promoted, Resync, Track, Recover, Synced, Fail, Removed}
 use Rattle.op.specs.declared.operation.Op.{Op}
 use Rattle.replica.specs.declared.fault.CopyFault.{CopyFault}
 use Rattle.replica.specs.declared.fault.CopyFault.TheVariants.{NotPrimary, VersionConflict, WindowFull, OldTerm, NotSynced, BeyondWindow, Mismatch, Closed, Log, NoMemory as OutOfMemory, WrongAddress, Exhausted}
 use Rattle.replica.specs.declared.input.Input.{Input}
-use Rattle.replica.specs.declared.input.Input.TheVariants.{Write as Client}
+use Rattle.replica.specs.declared.input.Input.TheVariants.{Write as Client, Bulk, Take, Report, Refresh, Get, Restart}
 use Rattle.replica.specs.declared.input.Write.{Write}
 use Rattle.replica.specs.declared.output.Answer.{Answer}
 use Rattle.replica.specs.declared.output.Answer.TheVariants.{Wrote, Bulked, Taken, Stale, Repeated, Reported, Found, Missing, Point}
 use Rattle.replica.specs.declared.output.Output.{Output}
 use Rattle.replica.specs.declared.output.Written.{Written}
+use Rattle.journal.specs.declared.journal.Deed.{Deed}
 use Rattle.node.specs.Entry.{Receipt, IsEntry}
 use Rattle.cluster.specs.declared.confirmed.Confirmed.{Confirmed}
 use Rattle.cluster.specs.declared.fault.WriteFault.{WriteFault}
@@ -60,6 +63,55 @@ pub record IsBehind (first second : Receipt) : Type 0 where
   pub behind : first.place ≤ second.place
   pub one : IsPrefix first.deeds second.deeds
 
+-- whether the message makes the copy the primary of a term
+abbrev pub promotes : Content → Bool
+promotes (Promoted set) = true
+promotes (Operation g o) = false
+promotes (Ack seq below) = false
+promotes (Resync g tail) = false
+promotes (Track r) = false
+promotes (Recover all) = false
+promotes (Synced r) = false
+promotes (Fail r) = false
+promotes (Removed r) = false
+
+abbrev pub is_promotion : Input → Bool
+is_promotion (Take m) = promotes m.content
+is_promotion (Client w) = false
+is_promotion (Bulk ws) = false
+is_promotion (Report r) = false
+is_promotion Refresh = false
+is_promotion (Get id) = false
+is_promotion Restart = false
+
+-- whether the copy isn't the primary, its log failed, or it's closed
+abbrev pub is_unled : CopyFault → Bool
+is_unled NotPrimary = true
+is_unled Closed = true
+is_unled (Log f) = true
+is_unled VersionConflict = false
+is_unled WindowFull = false
+is_unled OldTerm = false
+is_unled NotSynced = false
+is_unled BeyondWindow = false
+is_unled Mismatch = false
+is_unled OutOfMemory = false
+is_unled WrongAddress = false
+is_unled Exhausted = false
+
+-- whether a copy leads no more with this answer, for it counts no copies that have to acknowledge its writes, or leads anew
+abbrev pub is_end_by : Input → Result Output CopyFault → Bool
+is_end_by input (Ok output) = (output.members == 0) || is_promotion input
+is_end_by input (Err e) = is_unled e
+
+abbrev pub is_end : Deed → Bool
+is_end d = is_end_by d.input d.answer
+
+-- the second entry stands behind, and ends the lead in which the first was written
+pub record IsEndedBy (first second : Receipt) : Type 0 where
+  pub behind : IsBehind first second
+  pub ends : is_end second.deed ≡ true
+
 -- a write with an entry of its own in the journal of its copy, and one behind it that acknowledges it
 pub record IsConfirmed {J : Type 0} (write : Write) (c : Confirmed J) : Type 0 where
   pub written : Written
@@ -98,10 +150,10 @@ IsRefusalBy receipt (Lost r last) = ⊥
 IsRefusalBy receipt (Unconfirmed r) = ⊥
 IsRefusalBy receipt (Cluster f) = Unit {0}
 
--- a write that its copy kept wasn't acknowledged: the refusal holds its entry, and where another one ended that, it is of the same journal and stands behind; or it holds none
+-- a write that its copy kept wasn't acknowledged: the refusal holds its entry, and where another one ended the lead, that too; or it holds none
 abbrev pub IsEndOf : {J : Type 0} → Receipt → WriteFault J → Type 0
 IsEndOf receipt (NoPrimary r) = ⊥
-IsEndOf receipt (Lost r last) = (r ≡ receipt) × IsBehind receipt last
+IsEndOf receipt (Lost r last) = (r ≡ receipt) × IsEndedBy receipt last
 IsEndOf receipt (Unconfirmed r) = r ≡ receipt
 IsEndOf receipt (Cluster f) = Unit {0}
 
@@ -111,9 +163,9 @@ pub record IsLost (write : Write) (r : Receipt) : Type 0 where
   pub stands : IsEntry r
   pub kept : (w : Written) × (wrote r.deed.answer ≡ Some w)
 
--- what a refused write shows: that no copy is the primary, or that the write was kept, and where an entry ended the wait for it, that this stands behind
+-- what a refused write shows: that no copy is the primary, or that the write was kept, and where an entry ended the lead in which it was, that one
 abbrev pub IsWriteRefused : {J : Type 0} → Write → WriteFault J → Type 0
 IsWriteRefused write (NoPrimary r) = (r.deed.input ≡ Client write) × IsEntry r × (is_no_primary r.deed.answer ≡ true)
-IsWriteRefused write (Lost r last) = IsLost write r × IsBehind r last
+IsWriteRefused write (Lost r last) = IsLost write r × IsEndedBy r last
 IsWriteRefused write (Unconfirmed r) = IsLost write r
 IsWriteRefused write (Cluster f) = Unit {0}

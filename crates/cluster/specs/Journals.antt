@@ -1,5 +1,8 @@
 -- Journals that are handed out.
-use Rattle.std.specs.Prelude.{◌≡◌, ◌<◌, ◌+◌, ℕ, List, [], ◌∷◌, length, Some, All, Any}
+use Rattle.std.specs.Prelude.{◌≡◌, ◌<◌, ◌+◌, ℕ, List, [], ◌∷◌, length, Option, Some, None, All, Any}
+use mathlib.Core.List.{IsPrefix}
+use Rattle.chronicle.specs.Registered.{PrefixData}
+use Rattle.journal.specs.declared.journal.Deed.{Deed}
 use Rattle.journal.specs.declared.journal.Journal.{Journal}
 use Rattle.journal.specs.declared.journal.Journal.TheVariants.{OfMaster, OfCopy}
 use Rattle.journal.specs.Lawful.{IsLawful}
@@ -14,6 +17,16 @@ pub record IsLegalJournal (j : Journal) : Type 0 where
 abbrev pub node_of : Journal → ℕ
 node_of (OfMaster state rulings) = 0
 node_of (OfCopy opening deeds) = opening.id
+
+-- the entries of a copy's journal
+abbrev pub deeds_of : Journal → List Deed
+deeds_of (OfMaster state rulings) = []
+deeds_of (OfCopy opening deeds) = deeds
+
+-- what is told of a copy's journal is all of it; nothing where it has no entry
+abbrev pub IsAllOf : Journal → Option (PrefixData Deed) → Type 0
+IsAllOf j None = deeds_of j ≡ []
+IsAllOf j (Some h) = (h.number ≡ node_of j) × (h.entries ≡ deeds_of j)
 
 -- the journals of the copies, which stand behind the master's
 abbrev pub copies_in : List Journal → List Journal
@@ -42,10 +55,11 @@ pub record IsOfOneCaller (j : Journal) : Type 0 where
   pub whole : IsWhole j receipts
   pub numbered : All (λ r. r.deed.pass ≡ node_of j) receipts
 
--- the receipt stands in the journal of its node
+-- the receipt stands in the journal of its node, which goes on from all entries up to it
 pub record HasReceipt (r : Receipt) (j : Journal) : Type 0 where
   pub node : node_of j ≡ r.node
   pub stands : deed_at j r.place ≡ Some r.deed
+  pub entries : IsPrefix r.deeds (deeds_of j)
 
 -- the receipt stands in one of the journals
 pub record StandsIn (js : List Journal) (r : Receipt) : Type 0 where

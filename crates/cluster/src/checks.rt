@@ -1,14 +1,14 @@
 //! What receipts are looked at for.
-ghost use Rattle.std.specs.Prelude.{◌≡◌, ◌↔◌, All, IsOk, IsTrue, IfSome, IfNone, Some, None, option_copied};
+ghost use Rattle.std.specs.Prelude.{◌≡◌, ◌↔◌, true, All, IsOk, IsTrue, IfSome, IfNone, Some, None, option_copied};
 ghost use Rattle.replica.specs.declared.input.Input.TheVariants.{Write as Client, Bulk};
 ghost use Rattle.cluster.specs.Bulks.{bulked};
 ghost use Rattle.cluster.specs.Confirmed as spec;
-ghost use Rattle.cluster.specs.Confirmed.{Acknowledges, IsAcknowledged, IsAnswerTo, IsBehind, wrote};
+ghost use Rattle.cluster.specs.Confirmed.{Acknowledges, IsAcknowledged, IsAnswerTo, IsBehind, IsEndedBy, wrote};
 ghost use Rattle.node.specs.Entry.{IsEntry};
 
 use chronicle::RegistryName;
 use node::Receipt;
-use op::Op;
+use op::{Content, Op};
 use replica::{Answer, CopyFault, Input, Item, Output, Write, Writes, Written};
 
 /// Whether the receipt is of this node and this input.
@@ -116,6 +116,34 @@ pub(crate) fn are_behind<J: RegistryName>(first: &Receipt<J>, others: &[Receipt<
         }
     }
     true
+}
+
+/// Whether the second stands behind, and ends the lead in which the first was written.
+pub(crate) fn is_ended_by<J: RegistryName>(first: &Receipt<J>, second: &Receipt<J>) -> bool
+    ensures { IsTrue result → IsEndedBy first.now second.now }
+{
+    is_behind(first, second) && is_end(second)
+}
+
+/// Whether the copy leads no more with this entry, or leads anew.
+fn is_end<J: RegistryName>(receipt: &Receipt<J>) -> bool
+    ensures { result ≡ spec.is_end receipt.now.deed }
+{
+    match &receipt.deed().answer {
+        Ok(output) => output.members == 0 || is_promotion(&receipt.deed().input),
+        Err(CopyFault::Closed) | Err(CopyFault::NotPrimary) | Err(CopyFault::Log(_)) => true,
+        Err(_) => false,
+    }
+}
+
+/// Whether a copy was asked to take that it is the primary of a term.
+fn is_promotion(input: &Input) -> bool
+    ensures { result ≡ spec.is_promotion input.now }
+{
+    match input {
+        Input::Take(message) => matches!(&message.content, Content::Promoted(_)),
+        _ => false,
+    }
 }
 
 /// Why the copy refused, where it did.

@@ -9,7 +9,8 @@ ghost use Rattle.cluster.specs.Ruled.{IsDecided, IsKnown};
 ghost use Rattle.cluster.specs.Confirmed.{IsAcknowledgedWrite, IsAnswerTo, IsConfirmed, IsEndOf, IsRefusalBy, IsWriteRefused};
 
 use crate::checks::{
-    acknowledges, is_answer_to, is_behind, is_no_primary, is_of_write, refusal_in, written_in,
+    acknowledges, is_answer_to, is_behind, is_ended_by, is_no_primary, is_of_write, refusal_in,
+    written_in,
 };
 use crate::confirmed::Confirmed;
 use crate::fault::{ClusterFault, WriteFault};
@@ -315,13 +316,14 @@ fn ended<J: RegistryName>(
     }
 }
 
-/// What was kept and is perhaps lost, by the entry that ended the wait for it.
+/// What was kept and is perhaps lost, by the entry that ended the lead in which it was; whether it stands is open where that entry doesn't.
 pub(crate) fn lost_by<J: RegistryName>(receipt: Receipt<J>, last: Receipt<J>) -> WriteFault<J>
     ensures { IsEndOf receipt result }
 {
-    if is_behind(&receipt, &last) {
+    if is_ended_by(&receipt, &last) {
         WriteFault::Lost(receipt, last)
     } else {
-        WriteFault::Cluster(ClusterFault::Stray(last.place()))
+        drop(last);
+        WriteFault::Unconfirmed(receipt)
     }
 }

@@ -1,28 +1,28 @@
 //! Starting the threads of a cluster, and ending them.
-ghost use Rattle.std.specs.Prelude.{◌≡◌, ◌+◌, ◌≤◌, false, is_some, length, vec_len, All, IsOk, IfOk, IfSome, OnOk};
+ghost use Rattle.std.specs.Prelude.{◌≡◌, ◌+◌, ◌≤◌, false, is_some, vec_len, IsOk, IfOk, IfSome, OnOk};
 ghost use Rattle.master.specs.declared.state.Request.TheVariants.{Allocate};
-ghost use Rattle.cluster.specs.Journals.{copies_in, AreHandedOut, BeginsWithMaster, IsLegalJournal, IsMasters};
+ghost use Rattle.cluster.specs.Journals.{AreHandedOut};
 ghost use Rattle.cluster.specs.Opening.{keeps};
 ghost use Rattle.cluster.specs.Ruled.{IsDecided};
 
 use crate::bench::{Bench, Start, start_both};
-use crate::channels::sent;
 use crate::client::Client;
 use crate::devices::Devices;
 use crate::fault::{ClusterFault, OpenFault, ShortLog, Unopened, of_master_log};
 use crate::gate::Gate;
-use crate::left::{Journaled, Left, all_kept, stray_in};
+use crate::handing::handed_out;
+use crate::left::Left;
 use crate::merging::Merger;
 use crate::opening::{
     Journals, Opened, beginning, birth_of, joining_copy, kept_copy, lacking, leader_of, new_copy,
 };
-use crate::post::{Post, Route};
 use crate::ready::Ready;
+use crate::routes::{inbox_of, remove_route, stop};
 use crate::ruled::Ruled;
 use crate::shared::Shared;
 use crate::worker::Tools;
 use chronicle::{Registry, RegistryName};
-use crossbeam_channel::{Receiver, Sender, bounded, unbounded};
+use crossbeam_channel::{Sender, bounded, unbounded};
 use doc::Mapping;
 use engine::Merging;
 use journal::{Deed, Journal};
@@ -634,48 +634,6 @@ struct Ended<D: LogDevice, J: RegistryName> {
     lefts: Vec<Left<J>>,
 }
 
-/// The journals of the master and of the copies, which workers leave.
-fn handed_out<D: LogDevice, J: RegistryName>(
-    alloc: Global,
-    master: Ruled<D>,
-    lefts: Vec<Left<J>>,
-    receipts: &[Receipt<J>],
-) -> Result<Vec<Journal>, ClusterFault>
-    ensures { IfOk result (λ js. AreHandedOut (vec_len lefts) receipts.now js.items) }
-{
-    match all_kept(alloc, lefts) {
-        Ok(Some(lefts)) => looked_at(alloc, master, lefts, receipts),
-        _ => {
-            drop(master);
-            Err(ClusterFault::NoMemory)
-        }
-    }
-}
-
-/// The same, once each receipt is seen to stand.
-fn looked_at<D: LogDevice, J: RegistryName>(
-    alloc: Global,
-    master: Ruled<D>,
-    lefts: Vec<Journaled<J>>,
-    receipts: &[Receipt<J>],
-) -> Result<Vec<Journal>, ClusterFault>
-    ensures { IfOk result (λ js. AreHandedOut (vec_len lefts) receipts.now js.items) }
-{
-    if let Some(place) = stray_in(&lefts, receipts) {
-        drop(lefts);
-        drop(master);
-        return Err(ClusterFault::Stray(place));
-    }
-    journals(alloc, master, lefts)
-}
-
-fn journal_of<D: LogDevice>(master: Ruled<D>) -> Journal
-    ensures legal { IsLegalJournal result }
-    ensures master { IsMasters result }
-{
-    master.into_journal()
-}
-
 /// What threads leave, once each has ended.
 fn joined<R: Threads, J: RegistryName>(
     rt: &R,
@@ -698,65 +656,9 @@ fn end_mergers<R: Threads>(rt: &R, mergers: Vec<JoinHandle<()>>) {
     }
 }
 
-/// The journals of the master and of the copies.
-fn journals<D: LogDevice, J: RegistryName>(
-    alloc: Global,
-    master: Ruled<D>,
-    lefts: Vec<Journaled<J>>,
-) -> Result<Vec<Journal>, ClusterFault>
-    ensures legal { IfOk result (λ js. All IsLegalJournal js.items) }
-    ensures all { IfOk result (λ js. length js.items ≡ vec_len lefts + 1) }
-    ensures copies { IfOk result (λ js. copies_in js.items ≡ lefts.items) }
-    ensures master { IfOk result (λ js. BeginsWithMaster js.items) }
-{
-    let mut journals = Vec::new(alloc);
-    journals.push(journal_of(master))?;
-    for left in lefts {
-        journals.push(left.into_journal())?;
-    }
-    Ok(journals)
-}
-
 /// Another handle of what is shared.
 fn another<T>(shared: &Arc<T, Global>) -> Result<Arc<T, Global>, AllocError> {
     Arc::try_clone(shared)
-}
-
-/// The inbox of a copy's worker, which posts reach from now on, and a way to it.
-fn inbox_of<R: Wait, D: LogDevice, J: RegistryName>(
-    rt: &R,
-    alloc: Global,
-    shared: &Shared<D, J>,
-    copy: u32,
-) -> Result<(Sender<Post<J>, Global>, Receiver<Post<J>, Global>), ClusterFault> {
-    let (to, inbox) = unbounded(alloc)?;
-    let another: Sender<Post<J>, Global> = to.clone()?;
-    add_route(rt, shared, Route { copy, to })?;
-    Ok((another, inbox))
-}
-
-fn add_route<R: Wait, D: LogDevice, J: RegistryName>(
-    rt: &R,
-    shared: &Shared<D, J>,
-    route: Route<J>,
-) -> Result<(), ClusterFault> {
-    let mut routes = shared.routes.lock(rt);
-    routes.push(route)?;
-    Ok(())
-}
-
-fn remove_route<R: Wait, D: LogDevice, J: RegistryName>(rt: &R, shared: &Shared<D, J>, copy: u32) {
-    let mut routes = shared.routes.lock(rt);
-    routes.retain(|route| route.copy != copy);
-}
-
-/// Tells all workers to end, behind what waits for them.
-fn stop<R: Wait, D: LogDevice, J: RegistryName>(rt: &R, shared: &Shared<D, J>) {
-    let mut routes = shared.routes.lock(rt);
-    for route in routes.as_slice() {
-        sent(rt, &route.to, Post::Stop);
-    }
-    routes.clear();
 }
 
 /// The device of the master, whether or not it holds a log.

@@ -1,12 +1,12 @@
 //! What a worker leaves.
 ghost use Rattle.std.specs.Prelude.{◌≡◌, All, IfOk, IfSome, IfNone, IsTrue, vec_len};
 ghost use Rattle.journal.specs.Lawful.{IsLawful};
-ghost use Rattle.cluster.specs.Journals.{node_of, HasReceipt, IsLegalJournal, IsOfOneCaller, RiseFrom, StandsIn};
+ghost use Rattle.cluster.specs.Journals.{node_of, HasReceipt, IsAllOf, IsLegalJournal, IsOfOneCaller, RiseFrom, StandsIn};
 
 use cell::CopyCell;
 use chronicle::RegistryName;
 use journal::Journal;
-use node::{Held, Pass, Receipt, gathered, stands_in};
+use node::{Heard, Held, Pass, Receipt, gathered, stands_in};
 use std::alloc::{AllocError, Global};
 use std::array;
 use std::marker::Model;
@@ -20,11 +20,12 @@ pub(crate) enum Left<J: RegistryName> {
     Unkept,
 }
 
-/// The journal of a worker's copy, which is legal, and the worker's pass.
+/// The journal of a worker's copy, which is legal, all its entries as callers are told of them, and the worker's pass.
 #[derive(Drop)]
 pub(crate) struct Journaled<J: RegistryName> {
     node: u32,
     journal: Journal,
+    heard: Option<Heard<J>>,
     pass: Pass<J>,
 }
 
@@ -32,13 +33,13 @@ impl<J: RegistryName> Model for Journaled<J> {
     ghost use Rattle.std.specs.Prelude.{◌≡◌};
     ghost use Rattle.journal.specs.Lawful.{IsLawful};
     ghost use Rattle.journal.specs.declared.journal.Journal.{Journal as JournalData};
-    ghost use Rattle.cluster.specs.Journals.{node_of};
+    ghost use Rattle.cluster.specs.Journals.{node_of, IsAllOf};
 
     ghost Value = { JournalData };
 
     ghost view = { λ l. l.journal };
 
-    ghost invariant = { λ l. (l.node ≡ node_of l.journal) × IsLawful l.journal };
+    ghost invariant = { λ l. (l.node ≡ node_of l.journal) × IsLawful l.journal × IsAllOf l.journal l.heard };
 }
 
 impl<J: RegistryName> Left<J> {
@@ -50,26 +51,30 @@ impl<J: RegistryName> Left<J> {
         pass: Pass<J>,
     ) -> Left<J> {
         let node = cell.held().node();
-        Left::of(node, cell.close(rt), pass)
+        let heard = cell.held().heard();
+        Left::of(node, cell.close(rt), heard, pass)
     }
 
     /// What is left of one that wasn't.
     #[tactic(auto, using(crate::proofs::Handed::of_closed))]
     pub(crate) fn unserved<D: LogDevice>(held: Held<D, J>, pass: Pass<J>) -> Left<J> {
         let node = held.node();
-        Left::of(node, held.into_journal(), pass)
+        let heard = held.heard();
+        Left::of(node, held.into_journal(), heard, pass)
     }
 
-    fn of(node: u32, journal: Option<Journal>, pass: Pass<J>) -> Left<J>
-        requires { IfSome journal (λ j. (node ≡ node_of j) × IsLawful j) }
+    fn of(node: u32, journal: Option<Journal>, heard: Option<Heard<J>>, pass: Pass<J>) -> Left<J>
+        requires { IfSome journal (λ j. (node ≡ node_of j) × IsLawful j × IsAllOf j heard) }
     {
         match journal {
             Some(journal) => Left::Kept(Journaled {
                 node,
                 journal,
+                heard,
                 pass,
             }),
             None => {
+                drop(heard);
                 drop(pass);
                 Left::Unkept
             }
@@ -116,10 +121,14 @@ impl<J: RegistryName> Journaled<J> {
     }
 
     /// Whether a receipt stands in the journal, and is of its copy.
+    #[tactic(auto, using(crate::proofs::Handed::has_receipt))]
     fn has(&self, receipt: &Receipt<J>) -> bool
         ensures { IsTrue result → HasReceipt receipt.now self.now }
     {
-        self.node == receipt.node() && stands_in(&self.journal, receipt)
+        match &self.heard {
+            Some(heard) => heard.has(receipt) && stands_in(&self.journal, receipt),
+            None => false,
+        }
     }
 
     /// The journal.
@@ -130,6 +139,7 @@ impl<J: RegistryName> Journaled<J> {
         let Journaled {
             node: _,
             journal,
+            heard: _heard,
             pass: _pass,
         } = self;
         journal

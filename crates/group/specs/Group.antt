@@ -1,5 +1,5 @@
 -- What an index of several copies answers a command.
-use Rattle.std.specs.Prelude.{◌≡◌, ◌⊎◌, ◌<◌, ℕ, true, List, [], ◌∷◌, map, Option, Some, None, option_map, Result, Ok, Err, length, slice_get, unwrap_or, IfSome}
+use Rattle.std.specs.Prelude.{◌≡◌, ◌⊎◌, ◌<◌, ℕ, true, List, [], ◌∷◌, map, Option, Some, None, option_map, Result, Ok, Err, length, slice_get, unwrap_or, All, IfSome}
 use Rattle.doc.specs.Id.{Id}
 use Rattle.op.specs.declared.message.Msg.{Msg}
 use Rattle.query.specs.Page.{PageData}
@@ -14,7 +14,7 @@ use Rattle.master.specs.declared.fault.MasterFault.TheVariants as master
 use Rattle.master.specs.declared.state.Decision.{Decision}
 use Rattle.master.specs.declared.state.Request.TheVariants.{Promote}
 use Rattle.node.specs.Reading.{GotData, IsGot as IsRead}
-use Rattle.node.specs.Heard.{IsAheadOf, IsNotBefore}
+use Rattle.node.specs.Heard.{HasEntry, IsAheadOf, IsNotBefore}
 use Rattle.chronicle.specs.Registered.{PrefixData, prefix}
 use Rattle.journal.specs.declared.journal.Deed.{Deed}
 use Rattle.node.specs.Entry.{Receipt}
@@ -88,11 +88,18 @@ pub record IsBulkTold {J : Type 0} (confirmed : ConfirmedBulk J) (r : Reply) : T
   pub kept : items_in confirmed.bulk.deed.answer ≡ Some items
   pub told : r ≡ bulked (replies_at confirmed.acknowledgements.items items confirmed.places.items)
 
+-- the bulk's entry is among these of a journal, and so is each that acknowledges one of its writes
+pub record HasBulk {J : Type 0} (confirmed : ConfirmedBulk J) (known : PrefixData Deed) : Type 0 where
+  pub bulk : HasEntry known confirmed.bulk
+  pub each : All (HasEntry known) confirmed.acknowledgements.items
+
 -- the bulk has an entry of its copy, and for each write that was kept one that acknowledges it, and the reply tells them
 pub record IsBulkWritten (J : Type 0) (before : Heard) (ws : List Write) (r : Reply) (after : Heard) : Type 0 where
   pub confirmed : ConfirmedBulk J
   pub later : IfSome before (λ h. IsAheadOf h confirmed.bulk)
-  pub heard : after ≡ Some (prefix confirmed.bulk.node confirmed.bulk.deeds)
+  pub known : PrefixData Deed
+  pub heard : after ≡ Some known
+  pub has : HasBulk confirmed known
   pub acknowledged : IsBulkConfirmed (map write_of ws) confirmed
   pub told : IsBulkTold confirmed r
 

@@ -1,17 +1,55 @@
 //! What a bulk is replied that is confirmed.
-ghost use Rattle.std.specs.Prelude.{◌≡◌, IfOk, IfSome, Some, slice_get};
+ghost use Rattle.std.specs.Prelude.{◌≡◌, All, IfOk, IfSome, IsTrue, Some, slice_get};
 ghost use Rattle.cluster.specs.Bulks as cluster;
 ghost use Rattle.front.specs.ReplyView.{reply_view};
-ghost use Rattle.group.specs.Group.{count_by, counted_at, replies_at, IsBulkTold};
+ghost use Rattle.node.specs.Heard.{HasEntry};
+ghost use Rattle.group.specs.Group.{count_by, counted_at, replies_at, HasBulk, IsBulkTold};
 
 use crate::group::counted_in;
 use chronicle::RegistryName;
 use cluster::{ClusterFault, ConfirmedBulk};
 use front::reply::{ItemReply, Reply};
-use node::Receipt;
+use node::{Heard, Receipt};
 use replica::{Answer, CopyFault, Items, Output};
 use shard::answering::item_reply_of;
 use std::alloc::{AllocError, Global};
+
+/// What a client knows behind a bulk: the entries of its journal up to the last that acknowledges a write of it. Nothing where its receipts aren't of
+/// one journal, as those of a cluster are.
+pub(crate) fn heard_behind<J: RegistryName>(confirmed: &ConfirmedBulk<J>) -> Option<Heard<J>>
+    ensures { IfSome result (HasBulk confirmed.now) }
+{
+    let entries = confirmed.acknowledgements.as_slice();
+    let heard = last_heard(&confirmed.bulk, entries);
+    if heard.has(&confirmed.bulk) && has_all(&heard, entries) {
+        Some(heard)
+    } else {
+        None
+    }
+}
+
+/// What the last of some entries tells.
+fn last_heard<J: RegistryName>(first: &Receipt<J>, others: &[Receipt<J>]) -> Heard<J> {
+    let mut heard = Heard::by(first);
+    for other in others {
+        if heard.is_before(other) {
+            heard = Heard::by(other);
+        }
+    }
+    heard
+}
+
+/// Whether each of some entries was heard.
+fn has_all<J: RegistryName>(heard: &Heard<J>, entries: &[Receipt<J>]) -> bool
+    ensures { IsTrue result → All (HasEntry heard.now) entries.now }
+{
+    for entry in entries {
+        if !heard.has(entry) {
+            return false;
+        }
+    }
+    true
+}
 
 /// The reply that tells a bulk that is confirmed.
 pub(crate) fn told_bulk<J: RegistryName>(

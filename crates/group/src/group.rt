@@ -9,10 +9,10 @@ ghost use Rattle.front.specs.ReplyView.{reply_view};
 ghost use Rattle.shard.specs.Answering as spec;
 ghost use Rattle.group.specs.Group.{counted_in, told_by, HasRefreshed, IsBulkWritten, IsCounted, IsDone, IsFound, IsGot, IsRefreshed, IsWritten};
 
-use crate::bulks::told_bulk;
+use crate::bulks::{heard_behind, told_bulk};
 use crate::promoting::{is_promotion, promote, refusal_to};
 use chronicle::RegistryName;
-use cluster::{Client, ClusterFault, Confirmed, WriteFault};
+use cluster::{Client, ClusterFault, Confirmed, ConfirmedBulk, WriteFault};
 use doc::{DocId, Mapping};
 use engine::Hits;
 use front::command::{Command, Write};
@@ -188,11 +188,11 @@ impl<'a, R: Wait, D: LogDevice, J: RegistryName> Group<'a, R, D, J> {
         };
         let confirmed = self.client.bulk(self.rt, writes)?;
         if !self.is_news(&confirmed.bulk) {
-            let place = confirmed.bulk.place();
-            drop(confirmed);
-            return Err(WriteFault::Cluster(ClusterFault::Stray(place)));
+            return Err(stray_bulk(confirmed));
         }
-        let heard = Heard::by(&confirmed.bulk);
+        let Some(heard) = heard_behind(&confirmed) else {
+            return Err(stray_bulk(confirmed));
+        };
         let reply = told_bulk(self.alloc, confirmed)?;
         Ok((reply, Some(heard)))
     }
@@ -288,6 +288,13 @@ fn again<J: RegistryName>(heard: &Option<Heard<J>>) -> Option<Heard<J>>
 /// The fault of a write whose entry stands before what the client knows, as none does.
 fn stray<J: RegistryName>(confirmed: Confirmed<J>) -> WriteFault<J> {
     let place = confirmed.write.place();
+    drop(confirmed);
+    WriteFault::Cluster(ClusterFault::Stray(place))
+}
+
+/// The same of a bulk's entry, or of one that acknowledges it.
+fn stray_bulk<J: RegistryName>(confirmed: ConfirmedBulk<J>) -> WriteFault<J> {
+    let place = confirmed.bulk.place();
     drop(confirmed);
     WriteFault::Cluster(ClusterFault::Stray(place))
 }

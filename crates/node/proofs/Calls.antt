@@ -12,7 +12,7 @@ use Rattle.journal.specs.declared.journal.Deed.{Deed}
 use Rattle.journal.specs.Journal.{Standing, IsLegal, IsLegalAt, after, next, open_at}
 use Rattle.node.specs.declared.fault.NodeFault.{NodeFault}
 use Rattle.node.specs.declared.fault.NodeFault.TheVariants.{NoMemory, NoSeat, Copy as Refused, Stray, Forgotten}
-use Rattle.node.specs.Entry.{Receipt, IsEntry}
+use Rattle.node.specs.Entry.{Receipt, IsEntry, IsJournalOf}
 use Rattle.node.specs.declared.telling.Entered.{Entered}
 use Rattle.node.specs.declared.telling.Told.{Told}
 use Rattle.node.specs.Passes.{PassData}
@@ -46,6 +46,21 @@ pub grown : (r q : LedgerData Deed) (kept : Bool) (entries : List Deed) (opening
     → journal q.kept opening q.entries ≡ record (journal kept opening entries) { deeds = entries ++ d ∷ [] }
 grown r q kept entries opening d k e more =
     ap (λ (l : LedgerData Deed). journal l.kept opening l.entries) more ∙ ap (λ (b : Bool). journal b opening (r.entries ++ d ∷ [])) k ∙ ap (λ (es : List Deed). journal kept opening (es ++ d ∷ [])) e
+
+-- ---- what it tells
+
+pub journal_heard : (h : JournalData) (c : Logged) (number : ℕ) (deeds : List Deed) → IsHeld h c → number ≡ h.opening.id → deeds ≡ h.deeds → IsJournalOf number deeds
+journal_heard h c number deeds is same entries = record {
+  opening = h.opening;
+  sound = is.sound;
+  legal = subst (λ (ds : List Deed). IsLegal (open_at h.opening) 0 ds) (sym entries) is.legal;
+  node_is = sym same;
+}
+
+-- without an entry there is none
+pub none_heard : (deeds : List Deed) → length deeds ≡ 0 → deeds ≡ []
+none_heard [] e = refl
+none_heard (d ∷ ds) e = absurd (omega (arith, e))
 
 -- ---- a step
 

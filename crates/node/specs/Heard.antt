@@ -14,6 +14,11 @@ pub record IsBehindAll (h : PrefixData Deed) (r : Receipt) : Type 0 where
 abbrev pub IsAheadOf : PrefixData Deed → Receipt → Type 0
 IsAheadOf h r = r.node ≡ h.number → IsBehindAll h r
 
+-- the entry is of this copy, and the entries up to it begin these
+pub record HasEntry (h : PrefixData Deed) (r : Receipt) : Type 0 where
+  pub node : r.node ≡ h.number
+  pub entries : IsPrefix r.deeds h.entries
+
 -- what was read is of another copy, or of this one after all of these
 abbrev pub IsNotBefore : PrefixData Deed → GotData → Type 0
 IsNotBefore h g = g.node ≡ h.number → IsPrefix h.entries g.deeds

@@ -3,7 +3,7 @@ ghost use Rattle.std.specs.Prelude.{◌≡◌, ◌+◌, ◌≤◌, length, IsTru
 ghost use mathlib.Core.List.{IsPrefix};
 ghost use Rattle.chronicle.specs.Registered.{prefix};
 ghost use Rattle.node.specs.Entry.{IsJournalOf};
-ghost use Rattle.node.specs.Heard.{IsAheadOf, IsNotBefore};
+ghost use Rattle.node.specs.Heard.{HasEntry, IsAheadOf, IsNotBefore};
 
 use crate::got::Got;
 use crate::receipt::Receipt;
@@ -69,6 +69,17 @@ impl<J: RegistryName> Heard<J> {
         }
         self.upto.agrees(receipt.upto());
         self.place < receipt.place()
+    }
+
+    /// Whether an entry is of this copy, and among those that were heard.
+    pub fn has(&self, receipt: &Receipt<J>) -> bool
+        ensures { IsTrue result → HasEntry self.now receipt.now }
+    {
+        if receipt.node() != self.node || receipt.place() > self.place {
+            return false;
+        }
+        receipt.upto().agrees(&self.upto);
+        true
     }
 
     /// Whether what was read is of another copy, or its journal had all by then that was heard.

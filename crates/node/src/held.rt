@@ -14,6 +14,7 @@ ghost use Rattle.node.specs.Telling.{receipt, IsEntered, IsGivenAs};
 use crate::both::both;
 use crate::fault::NodeFault;
 use crate::got::Got;
+use crate::heard::Heard;
 use crate::on_disk::OnDisk;
 use crate::pass::Pass;
 use crate::reading::read;
@@ -266,6 +267,19 @@ impl<D: LogDevice, J: RegistryName> Held<D, J> {
             answer,
             upto: self.deeds.prefix(),
         })
+    }
+
+    /// All entries of its journal, as a caller is told of them; nothing where there is none.
+    #[tactic(auto, using(crate::proofs::Calls::journal_heard, crate::proofs::Calls::none_heard))]
+    pub fn heard(&self) -> Option<Heard<J>>
+        ensures some { IfSome result (λ h. h ≡ prefix self.now.opening.id self.now.deeds) }
+        ensures none { IfNone result (self.now.deeds ≡ []) }
+    {
+        let entries = self.deeds.ledger().len();
+        match self.deeds.prefix() {
+            Some(upto) if entries > 0 => Some(Heard::of(self.deeds.number(), entries - 1, upto)),
+            _ => None,
+        }
     }
 
     /// Waits until the steps of all entries are there after a crash too; it makes no entry. One that failed isn't tried again: the copy keeps no record

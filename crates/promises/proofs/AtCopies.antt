@@ -3,6 +3,7 @@ use Rattle.std.proofs.Common.{◌≡◌, ◌+◌, ℕ, zero, suc, Bool, true, fa
 use Rattle.std.specs.Prelude.{IfSome, slice_get}
 use mathlib.Core.List.{IsPrefix}
 use Rattle.chronicle.specs.Registered.{PrefixData, prefix}
+use Rattle.chronicle.proofs.Lines.{prefix_trans}
 use Rattle.doc.specs.Id.{Id}
 use Rattle.op.specs.declared.operation.Op.{Op}
 use Rattle.op.specs.declared.record.Record.{Record}
@@ -50,11 +51,11 @@ use Rattle.promises.proofs.Written.{IsItem, fold_kept, get_map, keeps_one, wrote
 -- ---- the entry of a write
 
 -- the records have an operation of this number on the id
-record HasKeptIn (id : Id) (seq : ℕ) (rs : List Record) : Type 0 where
-  op : Op
-  number : op.seq ≡ seq
-  on : is_on id op ≡ true
-  has : Has op rs
+pub record HasKeptIn (id : Id) (seq : ℕ) (rs : List Record) : Type 0 where
+  pub op : Op
+  pub number : op.seq ≡ seq
+  pub on : is_on id op ≡ true
+  pub has : Has op rs
 
 record HasKeptAt (id : Id) (seq : ℕ) (s : Standing) : Type 0 where
   op : Op
@@ -62,11 +63,11 @@ record HasKeptAt (id : Id) (seq : ℕ) (s : Standing) : Type 0 where
   on : is_on id op ≡ true
   there : HasAt op s
 
-written_one : (x y : Written) → (let o : Option Written = Some x in o) ≡ Some y → x ≡ y
+pub written_one : (x y : Written) → (let o : Option Written = Some x in o) ≡ Some y → x ≡ y
 written_one x y e = cc
 
 module _ (c : Copy) (up : IsAscending (operations c)) where
-  wrote_here : (w : taken.Write) (y : Written) (output : Output) → IsOutputOf c (copy_step c (Client w)) output → written_as output.answer ≡ Some y → HasKeptIn w.id y.seq (left_by c (copy_step c (Client w))).records
+  pub wrote_here : (w : taken.Write) (y : Written) (output : Output) → IsOutputOf c (copy_step c (Client w)) output → written_as output.answer ≡ Some y → HasKeptIn w.id y.seq (left_by c (copy_step c (Client w))).records
   wrote_here w y output legal told =
       let s : Stepped = stepped (left_by c (copy_step c (Client w))) output in
       let kept = keeps_one c up w s legal.0 in
@@ -77,7 +78,7 @@ module _ (c : Copy) (up : IsAscending (operations c)) where
   items_one : (xs ys : List Item) → (let o : Option (List Item) = Some xs in o) ≡ Some ys → xs ≡ ys
   items_one xs ys e = cc
 
-  in_bulk : (ws : List taken.Write) (is : List Item) (s : Stepped) (at : ℕ) (w : taken.Write) (y : Written) → slice_get ws at ≡ Some w → slice_get is at ≡ Some (WroteItem y)
+  pub in_bulk : (ws : List taken.Write) (is : List Item) (s : Stepped) (at : ℕ) (w : taken.Write) (y : Written) → slice_get ws at ≡ Some w → slice_get is at ≡ Some (WroteItem y)
       → (role : Role) → bulk_step c ws role ≡ Ok s → bulked_as s.answer ≡ Some is → HasKeptIn w.id y.seq s.copy.records
   in_bulk ws is s at w y there kept Empty e told = absurd cc
   in_bulk ws is s at w y there kept Replica e told = absurd cc
@@ -117,7 +118,7 @@ record IsWriteOf (acked : PrefixData Deed) (id : Id) (seq : ℕ) : Type 0 where
 deed_one : (x y : Deed) → (let o : Option Deed = Some x in o) ≡ Some y → x ≡ y
 deed_one x y e = cc
 
-last_split : (xs : List Deed) (n : ℕ) (x : Deed) → slice_get xs n ≡ Some x → n + 1 ≡ length xs → (front : List Deed) × (xs ≡ front ++ x ∷ [])
+pub last_split : (xs : List Deed) (n : ℕ) (x : Deed) → slice_get xs n ≡ Some x → n + 1 ≡ length xs → (front : List Deed) × (xs ≡ front ++ x ∷ [])
 last_split [] zero x is last = absurd cc
 last_split [] (suc n) x is last = absurd cc
 last_split (y ∷ []) zero x is last = ([], ap (λ (z : Deed). z ∷ []) (deed_one y x is))
@@ -126,10 +127,7 @@ last_split (y ∷ ys) (suc n) x is last =
     let rest = last_split ys n x is (omega (arith, last)) in
     (y ∷ rest.0, ap (λ (zs : List Deed). y ∷ zs) rest.1)
 
-prefix_trans : (xs ys zs : List Deed) → IsPrefix xs ys → IsPrefix ys zs → IsPrefix xs zs
-prefix_trans xs ys zs p q = (p.0 ++ q.0, sym (append_assoc xs p.0 q.0) ∙ (ap (λ w. w ++ q.0) p.1 ∙ q.1))
-
-known_one : (p q : PrefixData Deed) → (let o : Heard = Some p in o) ≡ Some q → p ≡ q
+pub known_one : (p q : PrefixData Deed) → (let o : Heard = Some p in o) ≡ Some q → p ≡ q
 known_one p q e = cc
 
 told_seq : (a : Answer) (n : ℕ) (y : Written) (x : Wrote) → written_as a ≡ Some y → wrote x ≡ reply_of n a → x.seq ≡ y.seq
@@ -146,7 +144,7 @@ told_seq (answer.Found d) n y x is told = absurd cc
 told_seq answer.Missing n y x is told = absurd cc
 told_seq (answer.Point p) n y x is told = absurd cc
 
-seq_by : (a : Result Output CopyFault) (n : ℕ) (y : Written) (x : Wrote) → written_in a ≡ Some y → wrote x ≡ told_by a n → x.seq ≡ y.seq
+pub seq_by : (a : Result Output CopyFault) (n : ℕ) (y : Written) (x : Wrote) → written_in a ≡ Some y → wrote x ≡ told_by a n → x.seq ≡ y.seq
 unfolding told_by
 seq_by (Ok output) n y x is told = told_seq output.answer n y x is told
 seq_by (Err e) n y x is told = absurd cc
@@ -168,7 +166,7 @@ entry_of_write J w x before acked is =
           (λ may. at_write s.copy up.copy s.shut place (write_of w) e.written r.deed.answer may e.kept) legal);
     }
 
-reply_item : (entries : List Receipt) (is : List Item) (places : List ℕ) (at : ℕ) (x : Wrote) → slice_get (replies_at entries is places) at ≡ Some (item.Wrote x) → IsItem is at x
+pub reply_item : (entries : List Receipt) (is : List Item) (places : List ℕ) (at : ℕ) (x : Wrote) → slice_get (replies_at entries is places) at ≡ Some (item.Wrote x) → IsItem is at x
 reply_item entries [] places zero x e = absurd cc
 reply_item entries [] places (suc at) x e = absurd cc
 reply_item entries (WroteItem y ∷ is) [] zero x e = record { written = y; there = refl; number = let same : wrote_of 0 y ≡ x = cc in ap (λ (v : Wrote). v.seq) same }
@@ -178,7 +176,7 @@ reply_item entries (RefusedItem f ∷ is) (p ∷ ps) zero x e = absurd cc
 reply_item entries (i ∷ is) [] (suc at) x e = let one = reply_item entries is [] at x e in record { written = one.written; there = one.there; number = one.number }
 reply_item entries (i ∷ is) (p ∷ ps) (suc at) x e = let one = reply_item entries is ps at x e in record { written = one.written; there = one.there; number = one.number }
 
-replied_same : (xs ys : List ItemReply) → (let r : Reply = bulked xs in r) ≡ bulked ys → xs ≡ ys
+pub replied_same : (xs ys : List ItemReply) → (let r : Reply = bulked xs in r) ≡ bulked ys → xs ≡ ys
 replied_same xs ys e = cc
 
 entry_of_bulk : (J : Type 0) (ws : List Write) (items : List ItemReply) (at : ℕ) (w : Write) (x : Wrote) (before : Heard) (acked : PrefixData Deed) → slice_get ws at ≡ Some w → slice_get items at ≡ Some (item.Wrote x)
@@ -187,13 +185,13 @@ entry_of_bulk J ws items at w x before acked there was is =
     let e = is.acknowledged in
     let r : Receipt = is.confirmed.bulk in
     let split = last_split r.deeds r.place r.deed e.stands.stands e.stands.last in
-    let heard = known_one acked (prefix r.node r.deeds) is.heard in
+    let heard = known_one acked is.known is.heard in
     let told = replied_same items _ is.told.told in
     let one = reply_item is.confirmed.acknowledgements.items is.told.items is.confirmed.places.items at x (sym (ap (λ l. slice_get l at) told) ∙ was) in
     record {
       front = split.0;
       deed = r.deed;
-      known = subst (λ (p : PrefixData Deed). IsPrefix (split.0 ++ r.deed ∷ []) p.entries) (sym heard) (subst (λ (ds : List Deed). IsPrefix ds r.deeds) split.1 ([], append-nil r.deeds));
+      known = subst (λ (p : PrefixData Deed). IsPrefix (split.0 ++ r.deed ∷ []) p.entries) (sym heard) (subst (λ (ds : List Deed). IsPrefix ds is.known.entries) split.1 is.has.bulk.entries);
       keeps = λ s place up legal.
           subst (λ n. HasKeptAt w.id n (next s place r.deed)) one.number
           (subst (λ (i : Input). MayAnswer s.copy s.shut i r.deed.answer → HasKeptAt w.id one.written.seq (answered s.copy s.shut place i r.deed.answer)) (sym e.asked)
@@ -279,9 +277,9 @@ never_back_at_copies J (write w) r before after (inl is) same =
     let node = sym behind.copy ∙ (sym (ap (λ (p : PrefixData Deed). p.number) heard) ∙ same) in
     subst (λ (p : PrefixData Deed). IsPrefix before.entries p.entries) (sym heard) (prefix_trans before.entries is.confirmed.write.deeds is.confirmed.acknowledgement.deeds (is.later node).entries behind.one)
 never_back_at_copies J (bulk ws) r before after (inl is) same =
-    let heard = known_one after (prefix is.confirmed.bulk.node is.confirmed.bulk.deeds) is.heard in
-    let node = sym (ap (λ (p : PrefixData Deed). p.number) heard) ∙ same in
-    subst (λ (p : PrefixData Deed). IsPrefix before.entries p.entries) (sym heard) (is.later node).entries
+    let heard = known_one after is.known is.heard in
+    let node = is.has.bulk.node ∙ (sym (ap (λ (p : PrefixData Deed). p.number) heard) ∙ same) in
+    subst (λ (p : PrefixData Deed). IsPrefix before.entries p.entries) (sym heard) (prefix_trans before.entries is.confirmed.bulk.deeds is.known.entries (is.later node).entries is.has.bulk.entries)
 never_back_at_copies J (get id) r before after (inl is) same = after_get before after is.got.node is.got.deeds is.heard is.later same
 never_back_at_copies J (search q page) r before after (inl is) same = as_before before after is.1
 never_back_at_copies J (count q) r before after (inl is) same = as_before before after is.1

@@ -8,3 +8,7 @@ pub mod Connections
 pub mod Copying
 pub mod Standings
 pub mod AtCopies
+pub mod Leading
+pub mod Leaders
+pub mod Events
+pub mod Held

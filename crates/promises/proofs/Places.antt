@@ -1,6 +1,7 @@
 -- Places of a history, and what stays from one to a later one.
 use Rattle.std.proofs.Common.{◌≡◌, inl, inr, List, [], ◌∷◌, ◌++◌, Option, Some, None, Bool, refl, sym, ap, subst, ◌∙◌, append_assoc, append-nil}
 use mathlib.Core.List.{IsPrefix}
+use Rattle.chronicle.proofs.Lines.{prefix_trans}
 use Rattle.op.specs.declared.operation.Op.{Op}
 use Rattle.front.specs.Command.{Command}
 use Rattle.front.specs.Reply.{Reply}
@@ -90,9 +91,6 @@ runs_behind (b ∷ bs) s ts h = runs_in b bs s ts h.1
 
 some_one : (x y : Stand) → (let o : Option Stand = Some x in o) ≡ Some y → x ≡ y
 some_one x y e = cc
-
-prefix_trans : (xs ys zs : List Stand) → IsPrefix xs ys → IsPrefix ys zs → IsPrefix xs zs
-prefix_trans xs ys zs p q = (p.0 ++ q.0, sym (append_assoc xs p.0 q.0) ∙ (ap (λ w. w ++ q.0) p.1 ∙ q.1))
 
 -- ---- what is there stays
 

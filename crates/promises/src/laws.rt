@@ -1,6 +1,7 @@
 //! What follows of the replies of an index: of one copy, whatever else is asked of it meanwhile, and however often its log fails and its copy restarts; and
 //! of one of several copies, for a client that goes on asking the copy that it heard of.
 ghost use Rattle.promises.specs.Copies.{NeverBackAtCopies, WritesAreFoundAtCopies};
+ghost use Rattle.promises.specs.Runs.{WritesAreHeldInRuns};
 ghost use Rattle.promises.specs.Promises.{WritesAreFound, WritesAreSeen, RefreshedWritesAreSeen, NeverBack, GoesOnAlong};
 
 use chronicle::RegistryName;
@@ -43,4 +44,12 @@ pub fn writes_are_found_at_copies<J: RegistryName>()
 /// Of several copies: of two replies to one client that tell of one copy none is of an earlier place of its journal than the one before it.
 pub fn replies_never_go_back_at_copies<J: RegistryName>()
     ensures { NeverBackAtCopies J }
+{}
+
+/// Of several copies, over promotions, recoveries and restarts: at the end of a run each copy that is in sync has a write that a client was told as done, or
+/// a newer one on its id. A run is a list of events of which the journals of all nodes are made, as an audit finds one; so it is taken for granted that each
+/// message that came was sent before, and nothing else of what is lost, repeated or late. The journal of the copy that confirmed the write goes on in it
+/// from what the client was told then.
+pub fn writes_are_held_in_runs<J: RegistryName>()
+    ensures { WritesAreHeldInRuns J }
 {}

@@ -1,14 +1,8 @@
 -- A query that has been read: its values are converted, and the text of a `match` is cut into tokens.
-use Rattle.std.specs.Prelude.{ℕ, suc, ◌+◌, max, List, [], ◌∷◌, Option}
+use Rattle.std.specs.Prelude.{ℕ, suc, ◌+◌, max, List, [], ◌∷◌}
 use Rattle.doc.specs.Scalar.{Scalar}
+use Rattle.terms.specs.Bounds.{Bounds}
 use Rattle.query.specs.declared.query.Operator.{Operator}
-
--- the bounds of a range, each where it is given
-pub record Bounds : Type 0 where
-  pub gt : Option Scalar
-  pub gte : Option Scalar
-  pub lt : Option Scalar
-  pub lte : Option Scalar
 
 mutual
   pub data Query : Type 0 where

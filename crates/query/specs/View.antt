@@ -1,14 +1,11 @@
 -- A query as it is kept.
-use Rattle.std.specs.Prelude.{option_map, string_bytes}
+use Rattle.std.specs.Prelude.{string_bytes}
 use Rattle.doc.specs.ScalarView.{scalar_view, scalars_view}
-use Rattle.query.specs.declared.query.Bounds.{Bounds}
+use Rattle.terms.specs.BoundsView.{bounds_view}
 use Rattle.query.specs.declared.query.Query.{Query, fold-Query}
 use Rattle.query.specs.declared.query.Query.TheOpen.{Query-F}
 use Rattle.query.specs.Query as spec
 use Rattle.query.specs.Query.{match_all, nothing, term, terms, match_tokens, prefix, range, exists, bool, queries_of}
-
-abbrev pub bounds_view : Bounds → spec.Bounds
-bounds_view b = record { gt = option_map scalar_view b.gt; gte = option_map scalar_view b.gte; lt = option_map scalar_view b.lt; lte = option_map scalar_view b.lte }
 
 -- one level, where each query inside is seen already
 abbrev pub view_step : Query-F spec.Query → spec.Query

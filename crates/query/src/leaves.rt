@@ -13,15 +13,15 @@ ghost use Rattle.query.specs.Shape as shape;
 ghost use Rattle.query.specs.View.{query_view};
 
 use crate::fault::QueryFault;
-use crate::query::{Bounds, Operator, Query};
+use crate::query::{Operator, Query};
 use crate::shape::{
     Keys, bad_at, check_keys, is_value, items_in, only_of, required, text_in, value_of,
 };
-use crate::terms::terms_of_value;
 use doc::scalar::MAX_KEYWORD;
 use doc::{Converted, Kind, Mapping, Scalar, convert};
 use serde_json::Value;
 use std::alloc::Global;
+use terms::{Bounds, terms_of_value};
 
 /// How many values `terms` may have.
 const MAX_TERMS: usize = 65_536;

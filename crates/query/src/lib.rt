@@ -11,9 +11,8 @@ pub mod page;
 pub mod query;
 pub mod reading;
 mod shape;
-mod terms;
 
 pub use body::{CountBody, SearchBody};
 pub use fault::QueryFault;
 pub use page::Page;
-pub use query::{Bounds, Operator, Query};
+pub use query::{Operator, Query};

@@ -5,14 +5,15 @@ ghost use Rattle.doc.specs.Document.{values_at};
 ghost use Rattle.doc.specs.ScalarView.{scalar_view, scalars_view, values_view};
 ghost use Rattle.query.specs.Asked.{passes};
 ghost use Rattle.query.specs.Meaning as spec;
+ghost use Rattle.terms.specs.Terms as of_terms;
 ghost use Rattle.query.specs.Query.{queries_of, count_of};
 ghost use Rattle.query.specs.View.{query_view};
 
 use crate::asked::Asked;
 use crate::query::{Operator, Query};
-use crate::terms::terms_of_value;
 use doc::{Doc, FieldValues, Kind, Mapping, Scalar};
 use std::alloc::{AllocError, Global};
+use terms::terms_of_value;
 
 impl Query {
     /// Whether the query means the document, which was read under the mapping.
@@ -150,7 +151,7 @@ fn some_term(
     name: &str,
     asked: Asked<'_>,
 ) -> Result<bool, AllocError>
-    ensures { IfOk result (λ b. b ≡ list_any (passes asked.entry) (spec.terms_at mapping.now.fields doc.now.values name.now)) }
+    ensures { IfOk result (λ b. b ≡ list_any (passes asked.entry) (of_terms.terms_at mapping.now.fields doc.now.values name.now)) }
 {
     match mapping.kind(name) {
         None => Ok(false),
@@ -168,7 +169,7 @@ fn has_tokens(
     operator: Operator,
     tokens: &[Scalar],
 ) -> Result<bool, AllocError>
-    ensures { IfOk result (λ b. b ≡ spec.has_tokens operator (spec.terms_at mapping.now.fields doc.now.values name.now) (scalars_view tokens.now)) }
+    ensures { IfOk result (λ b. b ≡ spec.has_tokens operator (of_terms.terms_at mapping.now.fields doc.now.values name.now) (scalars_view tokens.now)) }
 {
     match operator {
         Operator::Or => some_term(alloc, mapping, doc, name, Asked::IsOneOf(tokens)),
@@ -189,7 +190,7 @@ fn all_terms(
     name: &str,
     values: &[Scalar],
 ) -> Result<bool, AllocError>
-    ensures { IfOk result (λ b. b ≡ list_all (spec.has (spec.terms_at mapping.now.fields doc.now.values name.now)) (scalars_view values.now)) }
+    ensures { IfOk result (λ b. b ≡ list_all (of_terms.has (of_terms.terms_at mapping.now.fields doc.now.values name.now)) (scalars_view values.now)) }
 {
     for value in values {
         if !some_term(alloc, mapping, doc, name, Asked::Is(value))? {
@@ -230,7 +231,7 @@ fn some_token(
     name: &str,
     asked: Asked<'_>,
 ) -> Result<bool, AllocError>
-    ensures { IfOk result (λ b. b ≡ list_any (passes asked.entry) (flat_map spec.terms_of_value (values_at name.now (values_view fields.now)))) }
+    ensures { IfOk result (λ b. b ≡ list_any (passes asked.entry) (flat_map of_terms.terms_of_value (values_at name.now (values_view fields.now)))) }
 {
     for field in fields {
         if field.name.as_str() == name && some_token_of(alloc, &field.values, asked)? {
@@ -241,7 +242,7 @@ fn some_token(
 }
 
 fn some_token_of(alloc: Global, values: &[Scalar], asked: Asked<'_>) -> Result<bool, AllocError>
-    ensures { IfOk result (λ b. b ≡ list_any (passes asked.entry) (flat_map spec.terms_of_value (scalars_view values.now))) }
+    ensures { IfOk result (λ b. b ≡ list_any (passes asked.entry) (flat_map of_terms.terms_of_value (scalars_view values.now))) }
 {
     for value in values {
         let terms = terms_of_value(alloc, value)?;

@@ -1,21 +1,13 @@
 //! A query that has been read.
 
 use doc::Scalar;
+use terms::Bounds;
 
 /// Whether one of the tokens of a `match` is enough, or all are wanted.
 #[derive(Clone, Copy, Debug, PartialEq, Eq)]
 pub enum Operator {
     Or,
     And,
-}
-
-/// The bounds of a `range`; texts compare by bytes, numbers as numbers.
-#[derive(Drop)]
-pub struct Bounds {
-    pub gt: Option<Scalar>,
-    pub gte: Option<Scalar>,
-    pub lt: Option<Scalar>,
-    pub lte: Option<Scalar>,
 }
 
 /// A query, its values converted under the mapping that it was read with.

@@ -6,7 +6,8 @@ use Rattle.doc.specs.Scalar as spec
 use Rattle.doc.specs.Scalar.{is_scalar}
 use Rattle.doc.specs.ScalarView.{scalar_view, scalars_view}
 use Rattle.doc.specs.declared.scalar.Scalar.{Scalar}
-use Rattle.query.specs.Meaning.{has, has_tokens, is_one_of, terms}
+use Rattle.query.specs.Meaning.{has_tokens}
+use Rattle.terms.specs.Terms.{has, is_one_of, terms}
 use Rattle.query.specs.declared.query.Operator.{Operator}
 use Rattle.query.specs.declared.query.Operator.TheVariants.{Or, And}
 use Rattle.marks.specs.Lists.{zip_with, places, places_from}

@@ -7,6 +7,7 @@ use Rattle.doc.specs.ScalarView.{scalar_view, scalars_view}
 use Rattle.doc.specs.declared.scalar.Scalar.{Scalar}
 use Rattle.query.specs.Query.{queries_of, count_of}
 use Rattle.query.specs.Meaning as spec
+use Rattle.terms.specs.Terms as of_terms
 use Rattle.query.specs.View.{query_view}
 use Rattle.query.specs.declared.query.Query.{Query}
 use Rattle.marks.specs.Lists.{zip_with}
@@ -61,19 +62,19 @@ module _ (m : MappingData) (xs : List (List ℕ)) (qs : List Query) (i : ℕ) (q
       ∙ ap (λ ps. zip_with (λ b s. b || nat_le 1 (spec.matching m.fields (all_values m s) (queries_of (map query_view ps)))) old xs) (sym (next qs i q is lt))
 
 module _ (m : MappingData) (xs : List (List ℕ)) (name : List ℕ) (vs : List Scalar) (i : ℕ) (v : Scalar) (is : v ≡ get_or vs i v) (lt : i < length vs) where
-  pub any-turn : (old new : List Bool) → new ≡ zip_with (λ b s. b || spec.has (spec.terms m s name) (scalar_view v)) old xs
-      → zip_with (λ b s. b || list_any (spec.has (spec.terms m s name)) (scalars_view (drop (i + 1) vs))) new xs ≡ zip_with (λ b s. b || list_any (spec.has (spec.terms m s name)) (scalars_view (drop i vs))) old xs
+  pub any-turn : (old new : List Bool) → new ≡ zip_with (λ b s. b || of_terms.has (of_terms.terms m s name) (scalar_view v)) old xs
+      → zip_with (λ b s. b || list_any (of_terms.has (of_terms.terms m s name)) (scalars_view (drop (i + 1) vs))) new xs ≡ zip_with (λ b s. b || list_any (of_terms.has (of_terms.terms m s name)) (scalars_view (drop i vs))) old xs
   any-turn old new made =
-      ap (λ bs. zip_with (λ b s. b || list_any (spec.has (spec.terms m s name)) (scalars_view (drop (i + 1) vs))) bs xs) made
-      ∙ or-more (λ s. spec.has (spec.terms m s name) (scalar_view v)) (λ s. list_any (spec.has (spec.terms m s name)) (scalars_view (drop (i + 1) vs))) old xs
-      ∙ ap (λ ps. zip_with (λ b s. b || list_any (spec.has (spec.terms m s name)) (scalars_view ps)) old xs) (sym (next vs i v is lt))
+      ap (λ bs. zip_with (λ b s. b || list_any (of_terms.has (of_terms.terms m s name)) (scalars_view (drop (i + 1) vs))) bs xs) made
+      ∙ or-more (λ s. of_terms.has (of_terms.terms m s name) (scalar_view v)) (λ s. list_any (of_terms.has (of_terms.terms m s name)) (scalars_view (drop (i + 1) vs))) old xs
+      ∙ ap (λ ps. zip_with (λ b s. b || list_any (of_terms.has (of_terms.terms m s name)) (scalars_view ps)) old xs) (sym (next vs i v is lt))
 
-  pub all-turn : (old new sel : List Bool) → sel ≡ map (λ s. spec.has (spec.terms m s name) (scalar_view v)) xs → new ≡ zip_with (λ a b. a && b) old sel
-      → zip_with (λ b s. b && list_all (spec.has (spec.terms m s name)) (scalars_view (drop (i + 1) vs))) new xs ≡ zip_with (λ b s. b && list_all (spec.has (spec.terms m s name)) (scalars_view (drop i vs))) old xs
+  pub all-turn : (old new sel : List Bool) → sel ≡ map (λ s. of_terms.has (of_terms.terms m s name) (scalar_view v)) xs → new ≡ zip_with (λ a b. a && b) old sel
+      → zip_with (λ b s. b && list_all (of_terms.has (of_terms.terms m s name)) (scalars_view (drop (i + 1) vs))) new xs ≡ zip_with (λ b s. b && list_all (of_terms.has (of_terms.terms m s name)) (scalars_view (drop i vs))) old xs
   all-turn old new sel found made =
-      ap (λ bs. zip_with (λ b s. b && list_all (spec.has (spec.terms m s name)) (scalars_view (drop (i + 1) vs))) bs xs) (made ∙ ap (zip_with (λ a b. a && b) old) found)
-      ∙ and-more (λ s. spec.has (spec.terms m s name) (scalar_view v)) (λ s. list_all (spec.has (spec.terms m s name)) (scalars_view (drop (i + 1) vs))) old xs
-      ∙ ap (λ ps. zip_with (λ b s. b && list_all (spec.has (spec.terms m s name)) (scalars_view ps)) old xs) (sym (next vs i v is lt))
+      ap (λ bs. zip_with (λ b s. b && list_all (of_terms.has (of_terms.terms m s name)) (scalars_view (drop (i + 1) vs))) bs xs) (made ∙ ap (zip_with (λ a b. a && b) old) found)
+      ∙ and-more (λ s. of_terms.has (of_terms.terms m s name) (scalar_view v)) (λ s. list_all (of_terms.has (of_terms.terms m s name)) (scalars_view (drop (i + 1) vs))) old xs
+      ∙ ap (λ ps. zip_with (λ b s. b && list_all (of_terms.has (of_terms.terms m s name)) (scalars_view ps)) old xs) (sym (next vs i v is lt))
 
 -- past the end nothing is left
 pub done : {A : Type 0} (xs : List A) (i : ℕ) → length xs ≤ i → drop i xs ≡ []

@@ -4,17 +4,20 @@ ghost use Rattle.std.specs.List.{list_any, list_all};
 ghost use Rattle.doc.specs.Document.{all_values};
 ghost use Rattle.doc.specs.ScalarView.{scalar_view, scalars_view};
 ghost use Rattle.query.specs.Meaning as spec;
+ghost use Rattle.terms.specs.Terms as of_terms;
 ghost use Rattle.query.specs.Query.{queries_of, count_of};
-ghost use Rattle.query.specs.View.{query_view, bounds_view};
+ghost use Rattle.query.specs.View.{query_view};
+ghost use Rattle.terms.specs.BoundsView.{bounds_view};
 ghost use Rattle.marks.specs.Lists.{zip_with};
 ghost use Rattle.segment.specs.Indexed.{has_term, has_value};
 
 use crate::counts;
 use doc::Scalar;
 use marks::Marks;
-use query::{Bounds, Operator, Query};
+use query::{Operator, Query};
 use segment::Segment;
 use std::alloc::{AllocError, Global};
+use terms::Bounds;
 
 /// The documents of the segment that the query means.
 #[cycle(select)]
@@ -175,7 +178,7 @@ pub(crate) fn with_term(
     name: &str,
     value: &Scalar,
 ) -> Result<Marks, AllocError>
-    ensures { IfOk result (λ m. m ≡ map (λ s. spec.has (spec.terms segment.now.mapping s name.now) (scalar_view value.now)) segment.now.sources) }
+    ensures { IfOk result (λ m. m ≡ map (λ s. of_terms.has (of_terms.terms segment.now.mapping s name.now) (scalar_view value.now)) segment.now.sources) }
 {
     let mut marks = none(alloc, segment)?;
     segment.mark_term(name, value, &mut marks);
@@ -189,7 +192,7 @@ fn with_any(
     name: &str,
     values: &[Scalar],
 ) -> Result<Marks, AllocError>
-    ensures { IfOk result (λ m. m ≡ map (λ s. list_any (spec.is_one_of (scalars_view values.now)) (spec.terms segment.now.mapping s name.now)) segment.now.sources) }
+    ensures { IfOk result (λ m. m ≡ map (λ s. list_any (of_terms.is_one_of (scalars_view values.now)) (of_terms.terms segment.now.mapping s name.now)) segment.now.sources) }
 {
     let mut marks = none(alloc, segment)?;
     for value in values {
@@ -205,7 +208,7 @@ fn with_each(
     name: &str,
     values: &[Scalar],
 ) -> Result<Marks, AllocError>
-    ensures { IfOk result (λ m. m ≡ map (λ s. list_all (spec.has (spec.terms segment.now.mapping s name.now)) (scalars_view values.now)) segment.now.sources) }
+    ensures { IfOk result (λ m. m ≡ map (λ s. list_all (of_terms.has (of_terms.terms segment.now.mapping s name.now)) (scalars_view values.now)) segment.now.sources) }
 {
     let mut marks = all(alloc, segment)?;
     for value in values {
@@ -222,7 +225,7 @@ pub(crate) fn with_tokens(
     operator: Operator,
     tokens: &[Scalar],
 ) -> Result<Marks, AllocError>
-    ensures { IfOk result (λ m. m ≡ map (λ s. spec.has_tokens operator (spec.terms segment.now.mapping s name.now) (scalars_view tokens.now)) segment.now.sources) }
+    ensures { IfOk result (λ m. m ≡ map (λ s. spec.has_tokens operator (of_terms.terms segment.now.mapping s name.now) (scalars_view tokens.now)) segment.now.sources) }
 {
     match operator {
         Operator::Or => with_any(alloc, segment, name, tokens),
@@ -242,7 +245,7 @@ fn with_prefix(
     name: &str,
     text: &str,
 ) -> Result<Marks, AllocError>
-    ensures { IfOk result (λ m. m ≡ map (λ s. list_any (spec.begins_with text.now) (spec.terms segment.now.mapping s name.now)) segment.now.sources) }
+    ensures { IfOk result (λ m. m ≡ map (λ s. list_any (of_terms.begins_with text.now) (of_terms.terms segment.now.mapping s name.now)) segment.now.sources) }
 {
     let mut marks = none(alloc, segment)?;
     segment.mark_prefix(alloc, name, text, &mut marks)?;
@@ -256,7 +259,7 @@ fn within(
     name: &str,
     bounds: &Bounds,
 ) -> Result<Marks, AllocError>
-    ensures { IfOk result (λ m. m ≡ map (λ s. list_any (spec.is_within (bounds_view bounds.now)) (spec.terms segment.now.mapping s name.now)) segment.now.sources) }
+    ensures { IfOk result (λ m. m ≡ map (λ s. list_any (of_terms.is_within (bounds_view bounds.now)) (of_terms.terms segment.now.mapping s name.now)) segment.now.sources) }
 {
     let mut marks = none(alloc, segment)?;
     segment.mark_within(name, bounds, &mut marks);

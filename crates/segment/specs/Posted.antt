@@ -1,7 +1,7 @@
 -- A column in the making with the terms of one more document.
 use Rattle.std.specs.Prelude.{◌≡◌, ◌<◌, ℕ, ℤ, Bool, true, false, List, [], length, replicate, slice_set, if◌then◌else◌}
 use Rattle.doc.specs.Scalar.{Scalar, text, long, flag}
-use Rattle.query.specs.Meaning.{has}
+use Rattle.terms.specs.Terms.{has}
 use Rattle.segment.specs.Blocks.{AreBlocks}
 use Rattle.segment.specs.Places.{added, places_at, places_in, places_at_long}
 use Rattle.segment.specs.declared.column.Column.{Column}

@@ -7,8 +7,10 @@ use Rattle.std.proofs.lemmas.List.{length-map}
 use Rattle.doc.specs.Document.{all_values}
 use Rattle.doc.specs.ScalarView.{scalar_view, scalars_view}
 use Rattle.query.specs.Meaning as spec
+use Rattle.terms.specs.Terms as of_terms
 use Rattle.query.specs.Query.{queries_of, count_of, exists, nothing, match_all, term as spec_term}
-use Rattle.query.specs.View.{query_view, bounds_view}
+use Rattle.query.specs.View.{query_view}
+use Rattle.terms.specs.BoundsView.{bounds_view}
 use Rattle.marks.specs.Lists.{zip_with}
 use Rattle.segment.specs.Indexed.{has_value}
 use Rattle.segment.proofs.Joins.{const, zip-self, and-end, or-end, count-end, length-zip, few-more}
@@ -130,35 +132,35 @@ select-returns-in-Term t c =
     let m = c.args.segment.now.mapping in
     let xs = c.args.segment.now.sources in
     let is : query_view c.args.query.now ≡ spec_term (string_bytes c.in-Term.field) (scalar_view c.in-Term.value) = ap query_view c.in-Term.is ∙ view-term c.in-Term.field c.in-Term.value in
-    subst (λ q. IfOk c.with_term.result (λ r. r ≡ map (λ s. spec.means m s q) xs)) (sym is) (subst (λ n. IfOk c.with_term.result (λ r. r ≡ map (λ s. spec.has (spec.terms m s n) (scalar_view c.in-Term.value)) xs)) c.deref.ensures c.with_term.ensures)
+    subst (λ q. IfOk c.with_term.result (λ r. r ≡ map (λ s. spec.means m s q) xs)) (sym is) (subst (λ n. IfOk c.with_term.result (λ r. r ≡ map (λ s. of_terms.has (of_terms.terms m s n) (scalar_view c.in-Term.value)) xs)) c.deref.ensures c.with_term.ensures)
 
 pub select-returns-in-Terms : goal.select-returns-in-Terms
 select-returns-in-Terms t c =
     let m = c.args.segment.now.mapping in
     let xs = c.args.segment.now.sources in
     let is : query_view c.args.query.now ≡ Q.terms (string_bytes c.in-Terms.field) (scalars_view c.in-Terms.values.items) = ap query_view c.in-Terms.is ∙ view-terms c.in-Terms.field c.in-Terms.values in
-    subst (λ q. IfOk c.with_any.result (λ r. r ≡ map (λ s. spec.means m s q) xs)) (sym is) (subst (λ v. IfOk c.with_any.result (λ r. r ≡ map (λ s. list_any (spec.is_one_of (scalars_view v)) (spec.terms m s (string_bytes c.in-Terms.field))) xs)) c.deref-in-Terms-2.ensures.value (subst (λ v. IfOk c.with_any.result (λ r. r ≡ map (λ s. list_any (spec.is_one_of (scalars_view c.deref-in-Terms-2.result.now)) (spec.terms m s v)) xs)) c.deref-in-Terms.ensures c.with_any.ensures))
+    subst (λ q. IfOk c.with_any.result (λ r. r ≡ map (λ s. spec.means m s q) xs)) (sym is) (subst (λ v. IfOk c.with_any.result (λ r. r ≡ map (λ s. list_any (of_terms.is_one_of (scalars_view v)) (of_terms.terms m s (string_bytes c.in-Terms.field))) xs)) c.deref-in-Terms-2.ensures.value (subst (λ v. IfOk c.with_any.result (λ r. r ≡ map (λ s. list_any (of_terms.is_one_of (scalars_view c.deref-in-Terms-2.result.now)) (of_terms.terms m s v)) xs)) c.deref-in-Terms.ensures c.with_any.ensures))
 
 pub select-returns-in-Match : goal.select-returns-in-Match
 select-returns-in-Match t c =
     let m = c.args.segment.now.mapping in
     let xs = c.args.segment.now.sources in
     let is : query_view c.args.query.now ≡ Q.match_tokens (string_bytes c.in-Match.field) c.in-Match.operator (scalars_view c.in-Match.tokens.items) = ap query_view c.in-Match.is ∙ view-match c.in-Match.field c.in-Match.operator c.in-Match.tokens in
-    subst (λ q. IfOk c.with_tokens.result (λ r. r ≡ map (λ s. spec.means m s q) xs)) (sym is) (subst (λ v. IfOk c.with_tokens.result (λ r. r ≡ map (λ s. spec.has_tokens c.in-Match.operator (spec.terms m s (string_bytes c.in-Match.field)) (scalars_view v)) xs)) c.deref-in-Match-2.ensures.value (subst (λ v. IfOk c.with_tokens.result (λ r. r ≡ map (λ s. spec.has_tokens c.in-Match.operator (spec.terms m s v) (scalars_view c.deref-in-Match-2.result.now)) xs)) c.deref-in-Match.ensures c.with_tokens.ensures))
+    subst (λ q. IfOk c.with_tokens.result (λ r. r ≡ map (λ s. spec.means m s q) xs)) (sym is) (subst (λ v. IfOk c.with_tokens.result (λ r. r ≡ map (λ s. spec.has_tokens c.in-Match.operator (of_terms.terms m s (string_bytes c.in-Match.field)) (scalars_view v)) xs)) c.deref-in-Match-2.ensures.value (subst (λ v. IfOk c.with_tokens.result (λ r. r ≡ map (λ s. spec.has_tokens c.in-Match.operator (of_terms.terms m s v) (scalars_view c.deref-in-Match-2.result.now)) xs)) c.deref-in-Match.ensures c.with_tokens.ensures))
 
 pub select-returns-in-Prefix : goal.select-returns-in-Prefix
 select-returns-in-Prefix t c =
     let m = c.args.segment.now.mapping in
     let xs = c.args.segment.now.sources in
     let is : query_view c.args.query.now ≡ Q.prefix (string_bytes c.in-Prefix.field) (string_bytes c.in-Prefix.text) = ap query_view c.in-Prefix.is ∙ view-prefix c.in-Prefix.field c.in-Prefix.text in
-    subst (λ q. IfOk c.with_prefix.result (λ r. r ≡ map (λ s. spec.means m s q) xs)) (sym is) (subst (λ v. IfOk c.with_prefix.result (λ r. r ≡ map (λ s. list_any (spec.begins_with v) (spec.terms m s (string_bytes c.in-Prefix.field))) xs)) c.deref-in-Prefix-2.ensures (subst (λ v. IfOk c.with_prefix.result (λ r. r ≡ map (λ s. list_any (spec.begins_with c.deref-in-Prefix-2.result.now) (spec.terms m s v)) xs)) c.deref-in-Prefix.ensures c.with_prefix.ensures))
+    subst (λ q. IfOk c.with_prefix.result (λ r. r ≡ map (λ s. spec.means m s q) xs)) (sym is) (subst (λ v. IfOk c.with_prefix.result (λ r. r ≡ map (λ s. list_any (of_terms.begins_with v) (of_terms.terms m s (string_bytes c.in-Prefix.field))) xs)) c.deref-in-Prefix-2.ensures (subst (λ v. IfOk c.with_prefix.result (λ r. r ≡ map (λ s. list_any (of_terms.begins_with c.deref-in-Prefix-2.result.now) (of_terms.terms m s v)) xs)) c.deref-in-Prefix.ensures c.with_prefix.ensures))
 
 pub select-returns-in-Range : goal.select-returns-in-Range
 select-returns-in-Range t c =
     let m = c.args.segment.now.mapping in
     let xs = c.args.segment.now.sources in
     let is : query_view c.args.query.now ≡ Q.range (string_bytes c.in-Range.field) (bounds_view c.in-Range.bounds) = ap query_view c.in-Range.is ∙ view-range c.in-Range.field c.in-Range.bounds in
-    subst (λ q. IfOk c.within.result (λ r. r ≡ map (λ s. spec.means m s q) xs)) (sym is) (subst (λ v. IfOk c.within.result (λ r. r ≡ map (λ s. list_any (spec.is_within (bounds_view c.in-Range.bounds)) (spec.terms m s v)) xs)) c.deref-in-Range.ensures c.within.ensures)
+    subst (λ q. IfOk c.within.result (λ r. r ≡ map (λ s. spec.means m s q) xs)) (sym is) (subst (λ v. IfOk c.within.result (λ r. r ≡ map (λ s. list_any (of_terms.is_within (bounds_view c.in-Range.bounds)) (of_terms.terms m s v)) xs)) c.deref-in-Range.ensures c.within.ensures)
 
 pub keep_enough-returns-clause-whole : goal.keep_enough-returns-clause-whole
 keep_enough-returns-clause-whole t c =

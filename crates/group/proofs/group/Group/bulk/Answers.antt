@@ -1,15 +1,11 @@
-use Rattle.std.proofs.Common.{true, refl, ap, ◌∙◌}
-use Rattle.std.specs.Prelude.{IsTrue, Some}
-use Rattle.chronicle.specs.Registered.{PrefixData}
-use Rattle.journal.specs.declared.journal.Deed.{Deed}
+use Rattle.std.proofs.Common.{true, refl, ◌∙◌}
+use Rattle.std.specs.Prelude.{IsTrue}
 use Rattle.front.specs.ReplyView.{reply_view}
-use Rattle.group.specs.Group.{Heard}
 use Rattle.group.proofs.Replying.{told_written}
 use Rattle.group.proofs.group.Group.bulk.Goals as goal
 
 pub returns : goal.returns
 returns g c =
     let yes : IsTrue true = refl in
-    let known : Heard = Some c.by-heard.result in
-    told_written c.args.self.now.heard known c.args.writes.items c.in_ok-confirmed.confirmed c.in-Some.writes (reply_view c.in_ok-reply.reply) (c.in-Some.ensures.all ∙ c.in_ok-writes_of.ensures) c.in_ok-confirmed.ensures.confirmed
-    c.in_ok-reply.ensures (c.if-not-is_news.ensures yes) (ap (λ (p : PrefixData Deed). let o : Heard = Some p in o) c.by-heard.ensures)
+    told_written c.args.self.now.heard c.in-Some-heard_behind.heard c.args.writes.items c.in_ok-confirmed.confirmed c.in-Some.writes (reply_view c.in_ok-reply.reply) (c.in-Some.ensures.all ∙ c.in_ok-writes_of.ensures) c.in_ok-confirmed.ensures.confirmed
+    c.in_ok-reply.ensures (c.if-not-is_news.ensures yes) c.in-Some-heard_behind.ensures

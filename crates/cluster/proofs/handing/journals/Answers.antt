@@ -4,7 +4,7 @@ use Rattle.std.proofs.lemmas.List.{length_push}
 use Rattle.std.proofs.lemmas.List.Elements.{All-push}
 use Rattle.journal.specs.declared.journal.Journal.{Journal}
 use Rattle.cluster.specs.Journals.{copies_in, IsLegalJournal}
-use Rattle.cluster.proofs.cluster.journals.Goals as goal
+use Rattle.cluster.proofs.handing.journals.Goals as goal
 
 pub loop-left-preserved : goal.loop-left-preserved
 loop-left-preserved g c =

@@ -1,15 +1,15 @@
-//! Tokens as terms.
+//! Values as terms.
 ghost use Rattle.std.specs.Prelude.{◌≡◌, ◌∷◌, [], IfOk};
 ghost use Rattle.doc.specs.Scalar.{text as spec_text};
 ghost use Rattle.doc.specs.ScalarView.{scalar_view, scalars_view};
-ghost use Rattle.query.specs.Meaning as spec;
+ghost use Rattle.terms.specs.Terms as spec;
 
 use analysis::tokens;
 use doc::Scalar;
 use std::alloc::{AllocError, Global};
 
 /// The terms of one value of a text field: the tokens of a text.
-pub(crate) fn terms_of_value(alloc: Global, value: &Scalar) -> Result<Vec<Scalar>, AllocError>
+pub fn terms_of_value(alloc: Global, value: &Scalar) -> Result<Vec<Scalar>, AllocError>
     ensures { IfOk result (λ v. scalars_view v.items ≡ spec.terms_of_value (scalar_view value.now)) }
 {
     match value {

@@ -1,7 +1,7 @@
 use Rattle.std.specs.Prelude.{◌≡◌, ◌∷◌, ◌+◌, length, All}
 use Rattle.journal.specs.declared.journal.Journal.{Journal}
 use Rattle.cluster.specs.Journals.{copies_in, IsLegalJournal, IsMasters}
-use Rattle.cluster.proofs.cluster.journals.Given as goal
+use Rattle.cluster.proofs.handing.journals.Given as goal
 
 -- the journals so far are legal: that of the master, and that of each worker so far
 abbrev pub invariant-loop-left : goal.invariant-loop-left

@@ -3,7 +3,7 @@ use Rattle.std.specs.Vec.Iter.{into_iter_items}
 use Rattle.analysis.specs.Tokens.{tokens_of}
 use Rattle.doc.specs.Scalar.{text}
 use Rattle.doc.specs.ScalarView.{scalars_view}
-use Rattle.query.proofs.terms.token_terms.Given as goal
+use Rattle.terms.proofs.values.token_terms.Given as goal
 
 -- the terms so far, and the tokens that are left
 abbrev pub invariant-loop-token : goal.invariant-loop-token

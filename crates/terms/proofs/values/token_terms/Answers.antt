@@ -1,8 +1,8 @@
 use Rattle.std.proofs.Common.{map, string_bytes, ap, ◌∙◌}
 use Rattle.std.specs.Vec.Iter.{into_iter_items}
 use Rattle.analysis.specs.Tokens.{tokens_of}
-use Rattle.query.proofs.Tokens.{each_text}
-use Rattle.query.proofs.terms.token_terms.Goals as goal
+use Rattle.terms.proofs.Tokens.{each_text}
+use Rattle.terms.proofs.values.token_terms.Goals as goal
 
 -- all tokens are left at first
 pub loop-token-init : goal.loop-token-init

@@ -1,6 +1,6 @@
 use Rattle.std.specs.Prelude.{vec_len}
 use Rattle.cluster.proofs.Handed.{handed_out}
-use Rattle.cluster.proofs.cluster.looked_at.Goals as goal
+use Rattle.cluster.proofs.handing.looked_at.Goals as goal
 
 pub returns : goal.returns
 returns g c =
