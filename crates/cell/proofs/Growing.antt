@@ -1,6 +1,9 @@
 -- What a call leaves of what is shown.
 use Rattle.std.proofs.Common.{◌≡◌, ℕ, suc, Bool, true, false, List, [], ◌∷◌, ◌++◌, length, refl, sym, ap, subst, ◌∙◌, append-nil, Option, Some, None, Result, Ok, Err, IfOk, OnOk, OnErr, ◌⊎◌, ⊎_elim}
 use Rattle.std.specs.Prelude.{IsOk}
+use Rattle.chronicle.specs.Written as chronicle
+use Rattle.chronicle.specs.Registered.{UptoData, upto}
+use Rattle.op.specs.declared.record.Record.{Record}
 use Rattle.replica.specs.declared.fault.CopyFault.{CopyFault}
 use Rattle.replica.specs.declared.input.Input.{Input}
 use Rattle.replica.specs.declared.input.Input.TheVariants.{Write, Bulk, Take, Report, Refresh, Get, Restart}
@@ -18,7 +21,8 @@ use Rattle.published.specs.declared.listing.Published.{Published}
 use Rattle.published.specs.declared.showing.Showing.{Showing}
 use Rattle.published.specs.Line.{Line, line, line_behind}
 use Rattle.published.specs.Listings.{GoesOn, StartsWith}
-use Rattle.published.specs.Showing.{cell_of, listing}
+use Rattle.published.specs.Places.{IsStanding}
+use Rattle.published.specs.Showing.{cell_of, listing, registry_of}
 use Rattle.published.proofs.Orders.{self-GoesOn, trans-GoesOn, trans-StartsWith}
 use Rattle.journal.specs.declared.journal.Deed.{Deed}
 use Rattle.journal.specs.Journal.{Shut, Standing, after, answered, found, is_kept, left_by, next, open_at, refused_at, reopened}
@@ -112,35 +116,47 @@ open_as c (Some f) l is opened = absurd (let no : true ≡ false = sym is.closed
 pub whole_copy : (h : JournalData) (l : Logged) → IsHeld h l → AllShown (standing h).copy → l.closed ≡ false → l.copy.point ≡ length l.copy.records
 whole_copy h l is whole opened = subst (λ (c : Copy). AllShown c) (sym (open_as (standing h).copy (standing h).shut l is.replayed opened)) whole
 
-pub shown_in : (h : JournalData) (l : Logged) (s : Showing) → IsHeld h l → l.closed ≡ false → IsShownBy l.copy s → IsShownBy (standing h).copy s
-shown_in h l s is opened shown = subst (λ (c : Copy). IsShownBy c s) (open_as (standing h).copy (standing h).shut l is.replayed opened) shown
+pub shown_in : (q r : chronicle.Line) (h : JournalData) (l : Logged) (s : Showing) → IsHeld h l → l.closed ≡ false → q ≡ r → IsShownBy q l.copy s → IsShownBy r (standing h).copy s
+shown_in q r h l s is opened same shown = subst (λ (x : chronicle.Line). IsShownBy x (standing h).copy s) same (subst (λ (c : Copy). IsShownBy q c s) (open_as (standing h).copy (standing h).shut l is.replayed opened) shown)
+
+-- the place at the end of its journal
+pub stands_at : (h : JournalData) (l : Logged) (n : ℕ) (u : UptoData Deed) (r : chronicle.Line) (rs : List Record) → IsHeld h l → l.closed ≡ false → n ≡ h.opening.id → u ≡ upto r h.opening.id h.deeds → rs ≡ l.copy.records → IsStanding n u.entries rs
+stands_at h l n u r rs is opened node same listed =
+    subst (λ (x : UptoData Deed). IsStanding n x.entries rs) (sym same) (record {
+      opening = h.opening;
+      sound = is.sound;
+      legal = is.legal;
+      node_is = sym node;
+      records_is = listed ∙ ap (λ (c : Copy). c.records) (open_as (standing h).copy (standing h).shut l is.replayed opened);
+    })
 
 -- it may be published
-pub may_show : (c : Copy) (p : Line) (s : Showing) → IsPublishedOf c p → IsShownBy c s → GoesOn (listing p.book s) p.top
-may_show c p s is shown = record {
+pub may_show : (r : chronicle.Line) (c : Copy) (p : Line) (s : Showing) → IsPublishedOf c p → p.top.registry ≡ registry_of r → IsShownBy r c s → GoesOn (listing p.book s) p.top
+may_show r c p s is top shown = record {
   cell = sym is.cell;
+  registry = ap registry_of shown.registry ∙ sym top;
   mapping = shown.mapping ∙ sym is.mapping;
   records = subst (λ rs. StartsWith rs p.top.records) (sym shown.records) is.records;
 }
 
-shown_published : (c : Copy) (p : Line) (history : List Listing) (s : Showing) → IsShownBy c s → p ≡ line_behind p.book history (listing p.book s) → IsPublishedOf c p
-shown_published c p history s shown is = let top : p.top ≡ listing p.book s = ap (λ (x : Line). x.top) is in record {
+shown_published : (r : chronicle.Line) (c : Copy) (p : Line) (history : List Listing) (s : Showing) → IsShownBy r c s → p ≡ line_behind p.book history (listing p.book s) → IsPublishedOf c p
+shown_published r c p history s shown is = let top : p.top ≡ listing p.book s = ap (λ (x : Line). x.top) is in record {
   cell = ap (λ (l : Listing). l.cell) top;
   mapping = ap (λ (l : Listing). l.mapping) top ∙ shown.mapping;
   records = ([], sym shown.records ∙ (ap (λ (l : Listing). l.records) (sym top) ∙ sym (append-nil p.top.records)));
   shown = subst (λ (x : Line). GoesOn x.top x.shown.listing) (sym is) (self-GoesOn (listing p.book s));
 }
 
-pub begun_published : (c : Copy) (p : Line) (s : Showing) → IsShownBy c s → p ≡ line p.book (listing p.book s) → IsPublishedOf c p
-begun_published c p s shown is = shown_published c p [] s shown is
+pub begun_published : (r : chronicle.Line) (c : Copy) (p : Line) (s : Showing) → IsShownBy r c s → p ≡ line p.book (listing p.book s) → IsPublishedOf c p × (p.top.registry ≡ registry_of r)
+begun_published r c p s shown is = (shown_published r c p [] s shown is, ap (λ (x : Line). x.top.registry) is ∙ ap registry_of shown.registry)
 
 -- after it was published, or refused
-pub still_published : {A E : Type 0} (c : Copy) (old new : Line) (s : Showing) (r : Result A E) → IsPublishedOf c old → IsShownBy c s → new.book ≡ old.book
+still_published : {A E : Type 0} (l : chronicle.Line) (c : Copy) (old new : Line) (s : Showing) (r : Result A E) → IsPublishedOf c old → old.top.registry ≡ registry_of l → IsShownBy l c s → new.book ≡ old.book
     → OnOk r (new ≡ line_behind old.book old.history (listing old.book s)) → OnErr r (new.shown ≡ old.shown) → OnErr r ((new.top ≡ old.top) ⊎ (new.top ≡ listing old.book s)) → IsPublishedOf c new
-still_published c old new s (Ok x) is shown book ok err top =
-    shown_published c new old.history s shown (ok ∙ ap (λ b. line_behind b old.history (listing b s)) (sym book))
-still_published c old new s (Err e) is shown book ok err top =
-    let on : GoesOn (listing old.book s) old.top = may_show c old s is shown in
+still_published l c old new s (Ok x) is was shown book ok err top =
+    shown_published l c new old.history s shown (ok ∙ ap (λ b. line_behind b old.history (listing b s)) (sym book))
+still_published l c old new s (Err e) is was shown book ok err top =
+    let on : GoesOn (listing old.book s) old.top = may_show l c old s is was shown in
     ⊎_elim (λ same. record {
       cell = ap (λ (l : Listing). l.cell) same ∙ (is.cell ∙ ap cell_of (sym book));
       mapping = ap (λ (l : Listing). l.mapping) same ∙ is.mapping;
@@ -154,16 +170,25 @@ still_published c old new s (Err e) is shown book ok err top =
       shown = subst (λ (p : Published). GoesOn new.top p.listing) (sym err) (subst (λ (l : Listing). GoesOn l old.shown.listing) (sym next) (trans-GoesOn old.shown.listing old.top (listing old.book s) is.shown on));
     }) top
 
-pub whole_after : {A E : Type 0} (c : CellData) (old : Line) (s : Showing) (r : Result A E) → IsShownBy (standing c.journal).copy s → OnOk r (c.line ≡ line_behind old.book old.history (listing old.book s)) → OnOk r (IsAllShown c)
-whole_after c old s (Ok x) shown is = record {
+still_registered : {A E : Type 0} (l : chronicle.Line) (c : Copy) (old new : Line) (s : Showing) (r : Result A E) → old.top.registry ≡ registry_of l → IsShownBy l c s
+    → OnOk r (new ≡ line_behind old.book old.history (listing old.book s)) → OnErr r ((new.top ≡ old.top) ⊎ (new.top ≡ listing old.book s)) → new.top.registry ≡ registry_of l
+still_registered l c old new s (Ok x) was shown ok top = ap (λ (p : Line). p.top.registry) ok ∙ ap registry_of shown.registry
+still_registered l c old new s (Err e) was shown ok top = ⊎_elim (λ same. ap (λ (x : Listing). x.registry) same ∙ was) (λ next. ap (λ (x : Listing). x.registry) next ∙ ap registry_of shown.registry) top
+
+pub still_shown : {A E : Type 0} (l : chronicle.Line) (c : Copy) (old new : Line) (s : Showing) (r : Result A E) → IsPublishedOf c old → old.top.registry ≡ registry_of l → IsShownBy l c s → new.book ≡ old.book
+    → OnOk r (new ≡ line_behind old.book old.history (listing old.book s)) → OnErr r (new.shown ≡ old.shown) → OnErr r ((new.top ≡ old.top) ⊎ (new.top ≡ listing old.book s)) → IsPublishedOf c new × (new.top.registry ≡ registry_of l)
+still_shown l c old new s r is was shown book ok err top = (still_published l c old new s r is was shown book ok err top, still_registered l c old new s r was shown ok top)
+
+pub whole_after : {A E : Type 0} (l : chronicle.Line) (c : CellData) (old : Line) (s : Showing) (r : Result A E) → IsShownBy l (standing c.journal).copy s → OnOk r (c.line ≡ line_behind old.book old.history (listing old.book s)) → OnOk r (IsAllShown c)
+whole_after l c old s (Ok x) shown is = record {
   mapping = ap (λ (p : Line). p.shown.listing.mapping) is ∙ shown.mapping;
   records = ap (λ (p : Line). p.shown.listing.records) is ∙ shown.records;
 }
-whole_after c old s (Err e) shown is = tt
+whole_after l c old s (Err e) shown is = tt
 
 -- what a cell shows that was just made
-pub begun_all : (h : JournalData) (p : Line) (s : Showing) → IsShownBy (standing h).copy s → p ≡ line p.book (listing p.book s) → IsBegun h (record { journal = h; line = p })
-begun_all h p s shown is = record {
+pub begun_all : (l : chronicle.Line) (h : JournalData) (p : Line) (s : Showing) → IsShownBy l (standing h).copy s → p ≡ line p.book (listing p.book s) → IsBegun h (record { journal = h; line = p })
+begun_all l h p s shown is = record {
   journal = refl;
   whole = record { mapping = ap (λ (x : Line). x.shown.listing.mapping) is ∙ shown.mapping; records = ap (λ (x : Line). x.shown.listing.records) is ∙ shown.records };
 }

@@ -1,5 +1,5 @@
 -- A write with the refresh behind it.
-use Rattle.std.proofs.Common.{◌≡◌, ℕ, Bool, true, List, refl, sym, ap, subst, ◌∙◌, inl, inr}
+use Rattle.std.proofs.Common.{◌≡◌, ℕ, Bool, List, refl, sym, ap, subst, ◌∙◌, inl, inr}
 use Rattle.std.specs.Prelude.{IsOk}
 use Rattle.replica.specs.declared.input.Input.TheVariants.{Write as Client, Refresh}
 use Rattle.replica.specs.declared.input.Write.{Write}
@@ -9,6 +9,7 @@ use Rattle.query.specs.Query.{Query}
 use Rattle.published.specs.declared.listing.Published.{Published}
 use Rattle.published.specs.Fresh.{FindsAfter}
 use Rattle.published.specs.Listings.{ComesAfter}
+use Rattle.published.specs.Places.{PlaceData}
 use Rattle.published.specs.Search.{Finds, IsFloor}
 use Rattle.published.specs.Line.{Line}
 use Rattle.published.specs.Showing.{cell_of}
@@ -18,8 +19,8 @@ use Rattle.node.specs.declared.fault.NodeFault.TheVariants.{NoMemory}
 use Rattle.node.specs.Entry.{Receipt}
 use Rattle.node.specs.Passes.{PassData}
 use Rattle.node.specs.Held.{IsCall, JournalData}
-use Rattle.cell.specs.Publishing.{CellData, IsAllShown, IsPublished, IsRefusedCall, IsShownAfter}
-use Rattle.cell.specs.Refreshing.{IsRefreshed, IsUnnoted, IsUnrefreshed, IsWithoutNote, IsWriteAlone, IsWriteRefreshed}
+use Rattle.cell.specs.Publishing.{CellData, IsPublished, IsRefusedCall, IsShownAfter}
+use Rattle.cell.specs.Refreshing.{IsRefreshed, IsUnnoted, IsUnrefreshed, IsWriteRefreshed}
 
 -- what is shown is of the same cell as long as its book is the same
 pub still_named : (named : Bool) (cell : ℕ × ℕ × ℕ) (h g : JournalData) (old new : Line) → IsPublished h old → IsPublished g new → new.book ≡ old.book → IsOf named cell old.shown → IsOf named cell new.shown
@@ -44,9 +45,9 @@ pub write_stands : (old mid new : CellData) (p m q : PassData) (w : Write) (r : 
 write_stands old mid new p m q w r e call rest = inr (record { between = mid; passed = m; receipt = r; write = call.0; rest = rest })
 
 -- what is found by a searcher that has learned the note
-pub note_found : (old new : CellData) (p q : PassData) (w : Write) (r : Receipt) (note : Published) (before after : List Published) (query : Query) (page : PageData) (h : Answer)
-    → IsWriteRefreshed old new p q w r note → IsFloor note before → Finds before after query page h → FindsAfter new.line.shown query page h
-note_found old new p q w r note before after query page h told floor found = record {
+pub note_found : (old new : CellData) (p q : PassData) (w : Write) (r : Receipt) (note : Published) (before after : List Published) (query : Query) (page : PageData) (h : Answer) (at : PlaceData)
+    → IsWriteRefreshed old new p q w r note → IsFloor note before → Finds before after query page h at → FindsAfter new.line.shown query page h at
+note_found old new p q w r note before after query page h at told floor found = record {
   now = found.now;
   later = subst (λ (p : Published). ComesAfter found.now p) told.refresh.note_is (floor found.now found.later);
   found = found.found;

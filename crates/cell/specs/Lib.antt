@@ -1,2 +1,3 @@
 pub mod Publishing
 pub mod Refreshing
+pub mod Points

@@ -4,6 +4,7 @@ use Rattle.std.specs.Arc.{arc_value}
 use Rattle.replica.specs.Copy.{Copy}
 use Rattle.replica.specs.declared.input.Input.{Input}
 use Rattle.replica.specs.Logged.{is_refresh}
+use Rattle.chronicle.specs.Written as chronicle
 use Rattle.published.specs.Line.{Line}
 use Rattle.published.specs.Listings.{GoesOn, StartsWith}
 use Rattle.published.specs.Showing.{cell_of}
@@ -65,10 +66,11 @@ pub record IsBegun (h : JournalData) (c : CellData) : Type 0 where
   pub journal : c.journal ≡ h
   pub whole : IsAllShown c
 
--- the showing is of all records of the copy
-pub record IsShownBy (c : Copy) (s : Showing) : Type 0 where
+-- the showing is of all records of the copy, whose journal is of this registry
+pub record IsShownBy (l : chronicle.Line) (c : Copy) (s : Showing) : Type 0 where
   pub mapping : (arc_value s.snapshot).mapping ≡ c.mapping
-  pub records : s.listed ≡ c.records
+  pub records : s.place.records ≡ c.records
+  pub registry : s.place.registry ≡ l
 
 -- after a refresh or a restart searches show all records, and after another call what they showed
 pub record IsShownAfter (input : Input) (old new : CellData) : Type 0 where

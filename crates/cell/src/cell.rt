@@ -6,19 +6,20 @@ ghost use Rattle.replica.specs.Logged.{is_refresh};
 ghost use Rattle.translog.specs.declared.fault.LogFault.TheVariants.{Device};
 ghost use Rattle.replica.specs.declared.fault.CopyFault.TheVariants.{Log};
 ghost use Rattle.node.specs.declared.fault.NodeFault.TheVariants.{Copy as Refused};
-ghost use Rattle.node.specs.Held.{IsCall};
+ghost use Rattle.node.specs.Held.{IsCall, IsHeld};
 ghost use Rattle.cell.specs.Publishing.{IsBegun, IsKept, IsPublished, IsRefusedCall, IsShownAfter, IsShownBy, IsStepped, IsAllShown};
 ghost use Rattle.cell.specs.Refreshing.{IsRefreshed, IsUnnoted, IsUnrefreshed, IsWriteRefreshed};
 ghost use Rattle.published.specs.Told.{IsOf};
 ghost use Rattle.node.specs.Reading.{standing, IsGotFrom, IsUngot};
 ghost use Rattle.node.specs.Stands.{LastStands};
 
+use crate::searching::CopySearcher;
 use chronicle::RegistryName;
 use doc::DocId;
 use engine::Merged;
 use journal::Journal;
 use node::{Got, Held, NodeFault, OnDisk, Pass, Receipt};
-use published::{Name, Note, Publisher, Searcher, Showing, ShownRecords};
+use published::{Name, Note, Place, Publisher, Searcher, Showing, ShownRecords, Unnamed};
 use replica::{Copy, Input, Write};
 use std::alloc::{AllocError, Global};
 use std::marker::Model;
@@ -33,41 +34,65 @@ pub struct CopyCell<D: LogDevice, J: RegistryName> {
 }
 
 impl<D: LogDevice, J: RegistryName> Model for CopyCell<D, J> {
+    ghost use Rattle.std.specs.Prelude.{◌≡◌};
     ghost use Rattle.cell.specs.Publishing.{CellData, IsPublished};
+    ghost use Rattle.published.specs.Showing.{registry_of};
 
     ghost Value = { CellData };
 
     ghost view = { λ c. record { journal = c.held; line = c.publisher } };
 
-    ghost invariant = { λ c. IsPublished c.held c.publisher };
+    ghost invariant = { λ c. IsPublished c.held c.publisher × (c.publisher.top.registry ≡ registry_of J.registry) };
 }
 
-/// What an open copy shows, where that is all of its records; nothing while it is closed.
-fn showing_of<D: LogDevice>(copy: &Copy<D>) -> Result<Option<Showing>, AllocError>
-    requires { copy.now.closed ≡ false → copy.now.copy.point ≡ length copy.now.copy.records }
-    ensures shown { IfOk result (λ o. IfSome o (IsShownBy copy.now.copy)) }
+/// What an open copy shows at the end of its journal, where that is all of its records; nothing while it is closed.
+fn showing_of<D: LogDevice>(copy: &Copy<D>, place: Place) -> Result<Option<Showing>, AllocError>
+    requires whole { copy.now.closed ≡ false → copy.now.copy.point ≡ length copy.now.copy.records }
+    requires records { place.records ≡ copy.now.copy.records }
+    ensures shown { IfOk result (λ o. IfSome o (IsShownBy place.registry copy.now.copy)) }
     ensures open { IfOk result (λ o. IfSome o (λ s. copy.now.closed ≡ false)) }
 {
     let Some(snapshot) = copy.snapshot() else {
         return Ok(None);
     };
-    let Some(listed) = ShownRecords::of(copy.listed()) else {
-        return Err(AllocError);
-    };
     Ok(Some(Showing {
         snapshot: Arc::try_clone(snapshot)?,
-        listed,
+        place,
     }))
 }
 
+/// The place behind all entries of a copy's journal. Nothing while the copy is closed.
+#[tactic(auto, using(crate::proofs::Growing::stands_at))]
+fn place_of<D: LogDevice, J: RegistryName>(held: &Held<D, J>, copy: &Copy<D>) -> Option<Place>
+    requires { IsHeld held.now copy.now }
+    ensures registry { IfSome result (λ p. p.registry ≡ J.registry) }
+    ensures records { IfSome result (λ p. p.records ≡ copy.now.copy.records) }
+{
+    let Some(_) = copy.snapshot() else {
+        return None;
+    };
+    let Some(records) = ShownRecords::of(copy.listed()) else {
+        return None;
+    };
+    Some(Place::of(held.node(), held.len(), records, held.upto()))
+}
+
 /// The same of a copy with its journal.
+#[tactic(auto, using(crate::proofs::Growing::shown_in, crate::proofs::Growing::whole_copy))]
 fn showing_in<D: LogDevice, J: RegistryName>(
     held: &Held<D, J>,
 ) -> Result<Option<Showing>, AllocError>
     requires { (standing held.now).copy.point ≡ length (standing held.now).copy.records }
-    ensures { IfOk result (λ o. IfSome o (IsShownBy (standing held.now).copy)) }
+    ensures { IfOk result (λ o. IfSome o (IsShownBy J.registry (standing held.now).copy)) }
 {
-    showing_of(held.copy())
+    let copy = held.copy();
+    let Some(place) = place_of(held, copy) else {
+        return Ok(None);
+    };
+    let Some(showing) = showing_of(copy, place)? else {
+        return Ok(None);
+    };
+    Ok(Some(showing))
 }
 
 /// Whether a step of the input makes searches show all records.
@@ -182,7 +207,7 @@ impl<D: LogDevice, J: RegistryName> CopyCell<D, J> {
     }
 
     /// Shows all records of the copy.
-    #[tactic(auto, using(crate::proofs::Growing::still_published))]
+    #[tactic(auto, using(crate::proofs::Growing::still_shown))]
     fn show<R: Wait>(&mut self, rt: &R, alloc: Global) -> Result<(), AllocError>
         requires { (standing self.old.journal).copy.point ≡ length (standing self.old.journal).copy.records }
         ensures journal { self.new.journal ≡ self.old.journal }
@@ -271,6 +296,16 @@ impl<D: LogDevice, J: RegistryName> CopyCell<D, J> {
         ensures knows { IfOk result (λ s. s ≡ self.old.line.shown ∷ []) }
     {
         self.publisher.searcher()
+    }
+
+    /// One more reader of what is shown, for whoever asks the copies of the cluster. It is refused where eight are given out.
+    #[tactic(auto, using(crate::proofs::Pointing::shown_leads))]
+    pub fn copy_searcher(&mut self) -> Result<CopySearcher<J>, AllocError>
+        ensures same { self.new ≡ self.old }
+        ensures knows { IfOk result (λ s. s ≡ self.old.line.shown ∷ []) }
+    {
+        let searcher = self.publisher.searcher::<Unnamed>()?;
+        Ok(CopySearcher::of(searcher))
     }
 
     /// The journal where memory has it, for which the copy is given up. Searches show nothing any more, which waits for those that are just taking

@@ -8,9 +8,8 @@ ghost use Rattle.cell.specs.Publishing.{IsAllShown};
 
 use crate::cell::CopyCell;
 use chronicle::RegistryName;
-use engine::Hits;
 use node::{NodeFault, Pass};
-use published::Name;
+use published::{Found, Name};
 use query::{Page, Query};
 use replica::Write;
 use std::alloc::Global;
@@ -28,10 +27,10 @@ fn found_behind<N: Name, R: Wait, D: LogDevice, J: RegistryName>(
     write: Write,
     query: &Query,
     page: Page,
-) -> Result<Hits, NodeFault>
+) -> Result<Found, NodeFault>
     requires named { N.named ≡ true }
     requires cell { IsOf N.named N.cell cell.old.line.shown }
-    ensures found { IfOk result (λ h. FindsAfter cell.new.line.shown (query_view query.now) page (hits_view h)) }
+    ensures found { IfOk result (λ f. FindsAfter cell.new.line.shown (query_view query.now) page (hits_view f.hits) f.place) }
     ensures whole { OnOk result (IsAllShown cell.new) }
 {
     let Ok(mut searcher) = cell.searcher::<N>() else {
@@ -41,7 +40,7 @@ fn found_behind<N: Name, R: Wait, D: LogDevice, J: RegistryName>(
     drop(receipt);
     searcher.learn(note);
     match searcher.search(alloc, query, page) {
-        Ok(hits) => Ok(hits),
+        Ok(found) => Ok(found),
         Err(_) => Err(NodeFault::NoMemory),
     }
 }
@@ -56,8 +55,8 @@ pub fn write_is_found<R: Wait, D: LogDevice, J: RegistryName>(
     write: Write,
     query: &Query,
     page: Page,
-) -> Result<Hits, NodeFault>
-    ensures found { IfOk result (λ h. FindsAfter cell.new.line.shown (query_view query.now) page (hits_view h)) }
+) -> Result<Found, NodeFault>
+    ensures found { IfOk result (λ f. FindsAfter cell.new.line.shown (query_view query.now) page (hits_view f.hits) f.place) }
     ensures whole { OnOk result (IsAllShown cell.new) }
 {
     found_behind::<Brand, R, D, J>(rt, alloc, cell, pass, write, query, page)

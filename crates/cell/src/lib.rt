@@ -3,5 +3,9 @@
 
 mod cell;
 pub mod following;
+pub mod point;
+pub mod searching;
 
 pub use cell::CopyCell;
+pub use point::JournalPoint;
+pub use searching::{CopySearcher, FoundAt};

@@ -3,3 +3,4 @@ pub mod Cells
 pub mod Steps
 pub mod Memories
 pub mod Registries
+pub mod Uptos

@@ -1,9 +1,9 @@
 -- Ledgers whose numbers rise.
-use Rattle.std.proofs.Common.{◌≡◌, ℕ, ◌+◌, ◌<◌, ◌≤◌, List, [], ◌∷◌, ◌++◌, length, refl, ap, sym, subst, ◌∙◌, ⊎_elim, inl, inr, arith, append-nil}
+use Rattle.std.proofs.Common.{◌≡◌, ℕ, ◌<◌, ◌≤◌, List, [], ◌∷◌, ◌++◌, length, refl, ap, sym, subst, ◌∙◌, ⊎_elim, arith, append-nil}
 use Rattle.std.proofs.lemmas.Bool.{cases_lt}
 use mathlib.Core.List.{IsPrefix}
 use Rattle.chronicle.specs.declared.registry.Numbered.{Numbered}
-use Rattle.chronicle.specs.Registered.{SeatData, seat_of, last_seat, AreAbove, AreRising, IsAny}
+use Rattle.chronicle.specs.Registered.{seat_of, last_seat, AreAbove, AreRising, IsAny}
 
 module _ {E : Type 0} where
   -- one that comes last has a greater number than all before it

@@ -1,7 +1,7 @@
 -- Ledgers that are registered, each under a number of its own.
-use Rattle.std.specs.Prelude.{◌≡◌, ℕ, ◌<◌, List, [], ◌∷◌}
+use Rattle.std.specs.Prelude.{ℕ, ◌<◌, List, [], ◌∷◌, Option, Some, None}
 use base.Stored.{Coded, coded×, coded_ℕ, coded_list, coded_via}
-use Rattle.chronicle.specs.Written.{Line, line, line_coded}
+use Rattle.chronicle.specs.Written.{Line, Written, line, line_coded}
 use Rattle.chronicle.specs.Ledger.{LedgerData}
 use Rattle.chronicle.specs.declared.registry.Numbered.{Numbered}
 
@@ -26,6 +26,20 @@ prefix number entries = record { number = number; entries = entries }
 
 abbrev pub prefix_coded : {E : Type 0} → Coded E → Coded (PrefixData E)
 prefix_coded {E} c = coded_via (coded× coded_ℕ (coded_list c)) (λ (p : PrefixData E). (p.number, p.entries)) (λ x y e i. record { number = (e i).0; entries = (e i).1 })
+
+-- which registry it is, and the first entries of its ledger with this number
+pub record UptoData (E : Type 0) : Type 0 where
+  pub registry : Line
+  pub number : ℕ
+  pub entries : List E
+
+abbrev pub upto : {E : Type 0} → Line → ℕ → List E → UptoData E
+upto registry number entries = record { registry = registry; number = number; entries = entries }
+
+-- the entries up to a mark; none without one
+abbrev pub entries_of : {E : Type 0} → Option (Written E) → List E
+entries_of None = []
+entries_of (Some w) = w.entries
 
 -- a ledger with its number
 pub record RegisteredData (E : Type 0) : Type 0 where

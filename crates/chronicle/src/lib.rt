@@ -10,6 +10,7 @@ mod prefix;
 mod registered;
 mod registry;
 mod seat;
+mod upto;
 mod writer;
 
 pub use chronicle::Chronicle;
@@ -19,4 +20,5 @@ pub use name::RegistryName;
 pub use prefix::Prefix;
 pub use registered::Registered;
 pub use registry::{Numbered, Registry, Unnamed};
+pub use upto::Upto;
 pub use writer::Writer;

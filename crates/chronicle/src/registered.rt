@@ -1,12 +1,13 @@
 //! A ledger of a registry.
 ghost use Rattle.std.specs.Prelude.{◌≡◌, ◌+◌, ◌∷◌, ◌++◌, [], length, true, false, Some, None, slice_get, OnOk, IfSome, IfNone};
 ghost use Rattle.chronicle.specs.Ledger.{recorded};
-ghost use Rattle.chronicle.specs.Registered.{prefix, registered};
+ghost use Rattle.chronicle.specs.Registered.{prefix, registered, upto};
 
 use crate::ledger::Ledger;
 use crate::name::RegistryName;
 use crate::prefix::Prefix;
 use crate::seat::Seat;
+use crate::upto::Upto;
 use std::alloc::AllocError;
 use std::marker::Model;
 
@@ -87,6 +88,14 @@ impl<E: Drop, N: RegistryName> Registered<E, N> {
             Some(mark) => Some(Prefix::of(self.seat.again(), mark)),
             None => None,
         }
+    }
+
+    /// All entries, without the name of the registry.
+    #[tactic(auto, using(crate::proofs::Uptos::upto_is, crate::proofs::Uptos::mark_line))]
+    pub fn upto(&self) -> Upto<E>
+        ensures { result ≡ upto N.registry self.now.number self.now.ledger.entries }
+    {
+        Upto::of(self.seat.mark().again(), self.ledger.mark())
     }
 
     /// The ledger alone, which nothing tells of any more.

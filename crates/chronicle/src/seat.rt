@@ -50,6 +50,16 @@ impl<E, N: RegistryName> Seat<E, N> {
         }
     }
 
+    /// The mark that it is.
+    pub(crate) fn mark(&self) -> &Mark<Numbered<E>>
+        ensures line { result.now.line ≡ N.registry }
+        ensures rising { AreRising result.now.entries }
+        ensures any { IsAny result.now.entries }
+        ensures same { last_seat result.now.entries ≡ self.now }
+    {
+        &self.mark
+    }
+
     /// Under one number there is one ledger.
     pub(crate) fn agrees(&self, other: &Seat<E, N>)
         requires { other.now.number ≡ self.now.number }

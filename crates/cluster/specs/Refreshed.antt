@@ -1,5 +1,5 @@
 -- Copies that were refreshed.
-use Rattle.std.specs.Prelude.{◌≡◌, ◌<◌, ℕ, true, List, [], ◌∷◌, length, IsOk}
+use Rattle.std.specs.Prelude.{◌≡◌, ◌<◌, ℕ, true, List, [], ◌∷◌, IsOk}
 use Rattle.master.specs.declared.state.State.{State}
 use Rattle.node.specs.Entry.{Receipt, IsEntry}
 use Rattle.op.specs.Ids.{has}
@@ -13,28 +13,24 @@ pub record IsRefreshOf (copy : ℕ) (r : Receipt) : Type 0 where
   pub stands : IsEntry r
   pub accepted : IsOk r.deed.answer
 
--- so it was
-pub record HasRefresh (copy : ℕ) : Type 0 where
-  pub entry : Receipt
-  pub refreshes : IsRefreshOf copy entry
+-- entries of copies that the master knows to be in sync, each of a greater id than the one before it, and than this
+abbrev pub AreAbove : State → ℕ → List Receipt → Type 0
+AreAbove s id [] = Unit {0}
+AreAbove s id (r ∷ rs) = (id < r.node) × (has s.in_sync r.node ≡ true) × IsRefreshOf r.node r × AreAbove s r.node rs
 
--- entries of copies that the master knows to be in sync, each of a smaller id than the one before it, which are below this
-abbrev pub AreBelow : State → ℕ → List Receipt → Type 0
-AreBelow s id [] = Unit {0}
-AreBelow s id (r ∷ rs) = (r.node < id) × (has s.in_sync r.node ≡ true) × IsRefreshOf r.node r × AreBelow s r.node rs
-
--- so many copies in sync were refreshed, each with an entry of its own
-pub record AreRefreshed (copies : ℕ) : Type 0 where
+-- copies in sync were refreshed, each by one of these entries
+pub record AreRefreshed (entries : List Receipt) : Type 0 where
   pub state : State
   pub known : IsKnown state
-  pub entries : List Receipt
-  pub bound : ℕ
-  pub each : AreBelow state bound entries
-  pub many : length entries ≡ copies
+  pub each : AreAbove state 0 entries
 
--- so many of the copies with smaller ids were
-pub record AreSoFar (s : State) (id : ℕ) (copies : ℕ) : Type 0 where
-  pub entries : List Receipt
-  pub each : AreBelow s id entries
-  pub many : length entries ≡ copies
-  pub fewer : copies < id
+-- each is of a copy with a smaller id than this
+abbrev pub AreBelow : ℕ → List Receipt → Type 0
+AreBelow id [] = Unit {0}
+AreBelow id (r ∷ rs) = (r.node < id) × AreBelow id rs
+
+-- those of the copies with smaller ids were
+pub record AreSoFar (s : State) (id : ℕ) (entries : List Receipt) : Type 0 where
+  pub some : 0 < id
+  pub each : AreAbove s 0 entries
+  pub below : AreBelow id entries

@@ -1,10 +1,10 @@
 //! What callers ask the copies of a cluster by.
-ghost use Rattle.std.specs.Prelude.{◌≡◌, ◌+◌, false, IsOk, IsTrue, IfOk, IfErr};
+ghost use Rattle.std.specs.Prelude.{◌≡◌, ◌+◌, None, IsOk, IfOk, IfErr, IfSome, OnOk};
 ghost use Rattle.master.specs.declared.state.Request.TheVariants.{Promote};
 ghost use Rattle.master.specs.declared.state.State.{State as MasterState};
 ghost use Rattle.node.specs.Entry.{IsEntry};
 ghost use Rattle.node.specs.Reading.{IsGot};
-ghost use Rattle.cluster.specs.Refreshed.{AreRefreshed, AreSoFar, HasRefresh};
+ghost use Rattle.cluster.specs.Refreshed.{AreRefreshed, AreSoFar, IsRefreshOf};
 ghost use Rattle.cluster.specs.Ruled.{IsDecided, IsKnown};
 ghost use Rattle.cluster.specs.Confirmed.{IsAcknowledgedWrite, IsAnswerTo, IsConfirmed, IsEndOf, IsRefusalBy, IsWriteRefused};
 
@@ -16,14 +16,14 @@ use crate::confirmed::Confirmed;
 use crate::fault::{ClusterFault, WriteFault};
 use crate::post::{Answered, Ending, Post};
 use crate::shared::Shared;
+use cell::CopySearcher;
 use chronicle::RegistryName;
 use crossbeam_channel::{Receiver, bounded};
 use doc::DocId;
 use master::{Decision, MasterFault, Request, State};
 use node::{Got, Receipt};
-use published::{Searcher, Unnamed};
 use replica::{Input, Write, Written};
-use std::alloc::Global;
+use std::alloc::{AllocError, Global};
 use std::sync::{Arc, Wait};
 use translog::LogDevice;
 
@@ -118,7 +118,7 @@ impl<D: LogDevice, J: RegistryName> Client<D, J> {
 
     /// A searcher of a copy, which sees what the copy shows from then on, and waits for nobody. Eight are given out at once, else `NoSeat`; one that
     /// is dropped makes room.
-    pub fn searcher<R: Wait>(&self, rt: &R, copy: u32) -> Result<Searcher<Unnamed>, ClusterFault> {
+    pub fn searcher<R: Wait>(&self, rt: &R, copy: u32) -> Result<CopySearcher<J>, ClusterFault> {
         let (to, answers) = bounded(self.alloc, 1)?;
         if !self.shared.hand(rt, copy, Post::Seat(to)) {
             return Err(ClusterFault::Master(MasterFault::NotInSync));
@@ -129,48 +129,51 @@ impl<D: LogDevice, J: RegistryName> Client<D, J> {
         Ok(answer?)
     }
 
-    /// Refreshes each copy that isn't gone, and tells how many of those in sync are. One that is closed is passed over.
+    /// Refreshes each copy that isn't gone, and gives the entries of those in sync, in the order of their ids. One that is closed is passed over.
     #[tactic(auto, using(crate::proofs::Refreshes::none_so_far, crate::proofs::Refreshes::all_so_far))]
-    pub fn refresh<R: Wait>(&self, rt: &R) -> Result<u64, ClusterFault>
-        ensures { IfOk result AreRefreshed }
+    pub fn refresh<R: Wait>(&self, rt: &R) -> Result<Vec<Receipt<J>>, ClusterFault>
+        ensures { IfOk result (λ rs. AreRefreshed rs.items) }
     {
         let state = self.state(rt)?;
-        let mut refreshed: u64 = 0;
+        let mut entries = Vec::new(self.alloc);
         for copy in 1..state.next {
-            refreshed = self.with_refresh(rt, &state, copy, refreshed)?;
+            self.add_refresh(rt, &state, copy, &mut entries)?;
         }
-        Ok(refreshed)
+        Ok(entries)
     }
 
-    /// Refreshes a copy that isn't gone, and tells how many of those in sync are by then.
-    #[tactic(auto, using(crate::proofs::Refreshes::one_more, crate::proofs::Refreshes::no_more))]
-    fn with_refresh<R: Wait>(
+    /// Refreshes a copy that isn't gone, and adds its entry where it is in sync.
+    #[tactic(auto, using(crate::proofs::Refreshes::no_more))]
+    fn add_refresh<R: Wait>(
         &self,
         rt: &R,
         state: &State,
         copy: u64,
-        refreshed: u64,
-    ) -> Result<u64, ClusterFault>
-        requires { AreSoFar state.now copy refreshed }
-        ensures { IfOk result (AreSoFar state.now (copy + 1)) }
+        entries: &mut Vec<Receipt<J>>,
+    ) -> Result<(), ClusterFault>
+        requires { AreSoFar state.now copy entries.old.items }
+        ensures { OnOk result (AreSoFar state.now (copy + 1) entries.new.items) }
     {
         let Ok(id) = u32::try_from(copy) else {
-            return Ok(refreshed);
+            return Ok(());
         };
-        if !state.gone.has(id) && self.is_refreshed(rt, id)? && state.in_sync.has(id) {
-            Ok(refreshed + 1)
-        } else {
-            Ok(refreshed)
+        if state.gone.has(id) {
+            return Ok(());
         }
+        let Some(entry) = self.refreshed(rt, id)? else {
+            return Ok(());
+        };
+        add_entry(state, id, entry, entries)?;
+        Ok(())
     }
 
-    /// Refreshes a copy, and tells whether it is.
+    /// The entry by which a copy is refreshed; nothing where it refuses.
     #[tactic(auto, using(crate::proofs::Refreshes::refreshed_by))]
-    fn is_refreshed<R: Wait>(&self, rt: &R, copy: u32) -> Result<bool, ClusterFault>
-        ensures { IfOk result (λ b. IsTrue b → HasRefresh copy) }
+    fn refreshed<R: Wait>(&self, rt: &R, copy: u32) -> Result<Option<Receipt<J>>, ClusterFault>
+        ensures { IfOk result (λ o. IfSome o (IsRefreshOf copy)) }
     {
         match self.call(rt, copy, Input::Refresh) {
-            Ok(_receipt) => Ok(true),
+            Ok(receipt) => Ok(Some(receipt)),
             Err(fault) => passed_over(fault),
         }
     }
@@ -204,15 +207,35 @@ struct Begun<J: RegistryName> {
     endings: Receiver<Ending<J>, Global>,
 }
 
+/// Adds the entry by which a copy was refreshed, where it is in sync.
+#[tactic(auto, using(crate::proofs::Refreshes::no_more))]
+fn add_entry<J: RegistryName>(
+    state: &State,
+    copy: u32,
+    entry: Receipt<J>,
+    entries: &mut Vec<Receipt<J>>,
+) -> Result<(), AllocError>
+    requires so_far { AreSoFar state.now copy entries.old.items }
+    requires refreshed { IsRefreshOf copy entry }
+    ensures { OnOk result (AreSoFar state.now (copy + 1) entries.new.items) }
+{
+    if !state.in_sync.has(copy) {
+        drop(entry);
+        return Ok(());
+    }
+    entries.push(entry)?;
+    Ok(())
+}
+
 /// A copy that refused is passed over, as not refreshed; want of memory is told.
-fn passed_over(fault: ClusterFault) -> Result<bool, ClusterFault>
-    ensures { IfOk result (λ b. b ≡ false) }
+fn passed_over<J: RegistryName>(fault: ClusterFault) -> Result<Option<Receipt<J>>, ClusterFault>
+    ensures { IfOk result (λ o. o ≡ None) }
 {
     if let ClusterFault::NoMemory = &fault {
         return Err(fault);
     }
     drop(fault);
-    Ok(false)
+    Ok(None)
 }
 
 /// The entry that a worker answers with.

@@ -1,13 +1,13 @@
 //! What a worker is sent.
 
 use crate::durable::Durable;
+use cell::CopySearcher;
 use chronicle::RegistryName;
 use crossbeam_channel::Sender;
 use doc::DocId;
 use engine::Merged;
 use node::{Got, NodeFault, Receipt};
 use op::Msg;
-use published::{Searcher, Unnamed};
 use replica::{Input, Write, Writes};
 use std::alloc::Global;
 
@@ -15,7 +15,7 @@ use std::alloc::Global;
 pub(crate) type Answered<J> = Result<Durable<Receipt<J>>, NodeFault>;
 
 /// A searcher, or why there is none.
-pub(crate) type Seated = Result<Searcher<Unnamed>, NodeFault>;
+pub(crate) type Seated<J> = Result<CopySearcher<J>, NodeFault>;
 
 /// How the waiting for a write's acknowledgement ended.
 #[derive(Drop)]
@@ -54,7 +54,7 @@ pub(crate) enum Post<J: RegistryName> {
     /// A merge that was built, to be put in place; nothing where there was no memory for it.
     Merged(Option<Merged>),
     /// To hand out a searcher of the copy.
-    Seat(Sender<Seated, Global>),
+    Seat(Sender<Seated<J>, Global>),
     Stop,
 }
 

@@ -348,8 +348,8 @@ impl<D: LogDevice, G: Gate, J: RegistryName> Worker<D, G, J> {
     }
 
     /// Hands out a searcher of the copy.
-    fn seat<R: Wait>(&mut self, rt: &R, to: Sender<Seated, Global>) {
-        let searcher = match self.cell.searcher() {
+    fn seat<R: Wait>(&mut self, rt: &R, to: Sender<Seated<J>, Global>) {
+        let searcher = match self.cell.copy_searcher() {
             Ok(searcher) => Ok(searcher),
             Err(_) => Err(NodeFault::NoSeat),
         };

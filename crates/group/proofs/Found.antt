@@ -1,5 +1,6 @@
 -- What a search found, as it is replied.
-use Rattle.std.proofs.Common.{◌≡◌, ◌<◌, ℕ, List, [], ◌∷◌, map, refl, ap, ◌∙◌}
+use Rattle.std.proofs.Common.{◌≡◌, ℕ, List, [], ◌∷◌, map, refl, sym, ap, subst, ◌∙◌}
+use Rattle.std.specs.Prelude.{IfSome}
 use Rattle.engine.specs.declared.snapshot.Hit.{Hit}
 use Rattle.engine.specs.Shown.{hit_view}
 use Rattle.engine.specs.Answer.{Answer}
@@ -7,24 +8,43 @@ use Rattle.query.specs.Page.{PageData}
 use Rattle.query.specs.Query.{Query}
 use Rattle.published.specs.declared.listing.Published.{Published}
 use Rattle.published.specs.Search.{Finds}
-use Rattle.cluster.specs.Refreshed.{AreRefreshed}
-use Rattle.front.specs.Reply.{Reply, counted, refreshed}
+use Rattle.chronicle.specs.Written.{Line}
+use Rattle.cell.specs.Points.{IsPoint, IsShownBehind, PointData, place_in}
+use Rattle.front.specs.Reply.{Reply, counted}
 use Rattle.shard.specs.Answering.{hit_of, hits_of}
-use Rattle.group.specs.Group.{HasRefreshed, IsCounted, IsFound, IsRefreshed}
+use Rattle.group.specs.Known.{KnownData, IsLed, seen_at}
+use Rattle.group.specs.Searching.{IsCounted, IsFound, IsFoundAt}
 
 pub each_in_turn : (found : List Hit) → map hit_of (map hit_view found) ≡ map (λ h. hit_of (hit_view h)) found
 each_in_turn [] = refl
 each_in_turn (h ∷ found) = ap (λ l. hit_of (hit_view h) ∷ l) (each_in_turn found)
 
-pub has_refreshed : (n : ℕ) → (0 < n) × AreRefreshed n → HasRefreshed
-has_refreshed n is = record { copies = n; some = is.0; entries = is.1 }
+-- what a searcher of the primary finds
+pub found_at : (l : Line) (before after : List Published) (q : Query) (page : PageData) (h : Answer) (at : PointData) (copy : ℕ) → Finds before after q page h (place_in l at) → IsPoint at → at.node ≡ copy → IsLed copy → IsFoundAt q page h at
+found_at l before after q page h at copy f stands is led = record {
+  listing = f.now.listing;
+  shown = record {
+    history = f.now.history;
+    chain = f.found.chain;
+    last = f.found.last;
+    records = f.found.records;
+    stands = stands;
+    led = subst IsLed (sym is) led;
+  };
+  found = f.found.found;
+}
 
-pub is_refreshed : (n : ℕ) → (0 < n) × AreRefreshed n → IsRefreshed (refreshed n)
-is_refreshed n is = record { done = record { copies = n; some = is.0; entries = is.1 }; told = refl }
+-- the reply tells it
+pub found_seen : (before after : KnownData) (q : Query) (page : PageData) (h : Answer) (at : PointData) (r : Reply) → IsFoundAt q page h at → IfSome before.seen (λ x. IsShownBehind x at) → after ≡ seen_at before at → r ≡ hits_of h → IsFound before q page r after
+found_seen before after q page h at r is later now told = record {
+  listing = is.listing;
+  seen = record { at = at; shown = is.shown; later = later; now = now };
+  hits_are = told ∙ ap hits_of is.found;
+}
 
--- the reply tells what a searcher found
-pub found_in : (before after : List Published) (q : Query) (page : PageData) (h : Answer) (r : Reply) → Finds before after q page h → r ≡ hits_of h → IsFound q page r
-found_in before after q page h r f e = record { shown = f.now; chain = f.found.chain; last = f.found.last; hits_are = e ∙ ap hits_of f.found.found }
-
-pub counted_in : (before after : List Published) (q : Query) (page : PageData) (h : Answer) (r : Reply) → Finds before after q page h → r ≡ counted h.total → IsCounted q r
-counted_in before after q page h r f e = record { shown = f.now; chain = f.found.chain; last = f.found.last; total_is = e ∙ ap (λ (a : Answer). counted a.total) f.found.found }
+pub counted_seen : (before after : KnownData) (q : Query) (page : PageData) (h : Answer) (at : PointData) (r : Reply) → IsFoundAt q page h at → IfSome before.seen (λ x. IsShownBehind x at) → after ≡ seen_at before at → r ≡ counted h.total → IsCounted before q r after
+counted_seen before after q page h at r is later now told = record {
+  listing = is.listing;
+  seen = record { at = at; shown = is.shown; later = later; now = now };
+  total_is = told ∙ ap (λ (a : Answer). counted a.total) is.found;
+}

@@ -13,7 +13,8 @@ use Rattle.front.specs.declared.command.Write.{Write}
 use Rattle.front.specs.declared.reply.ItemReply.{ItemReply}
 use Rattle.front.specs.Reply.{Reply}
 use Rattle.shard.specs.Answering.{item_reply_of, write_of}
-use Rattle.group.specs.Group.{count_by, counted_at, replies_at, HasBulk, Heard, IsBulkTold, IsBulkWritten}
+use Rattle.group.specs.Group.{count_by, counted_at, replies_at, HasBulk, IsBulkTold, IsBulkWritten}
+use Rattle.group.specs.Known.{KnownData, known}
 
 pub as_many : (entries : List Receipt) (items : List Item) (places : List ℕ) → length (replies_at entries items places) ≡ length items
 as_many entries [] places = refl
@@ -31,14 +32,14 @@ pub has_bulk : {J : Type 0} (confirmed : ConfirmedBulk J) (known : PrefixData De
 has_bulk confirmed known bulk each = record { bulk = bulk; each = each }
 
 -- a bulk that is confirmed and told is done
-pub told_written : {J : Type 0} (before : Heard) (known : PrefixData Deed) (ws : List Write) (confirmed : ConfirmedBulk J) (asked : List taken.Write) (r : Reply) → asked ≡ map write_of ws → IsBulkConfirmed asked confirmed → IsBulkTold confirmed r
-    → IfSome before (λ h. IsAheadOf h confirmed.bulk) → HasBulk confirmed known → IsBulkWritten J before ws r (Some known)
-told_written before known ws confirmed asked r is acknowledged told later has = record {
+pub told_written : {J : Type 0} (before after : KnownData) (heard : PrefixData Deed) (ws : List Write) (confirmed : ConfirmedBulk J) (asked : List taken.Write) (r : Reply) → asked ≡ map write_of ws → IsBulkConfirmed asked confirmed → IsBulkTold confirmed r
+    → IfSome before.heard (λ h. IsAheadOf h confirmed.bulk) → HasBulk confirmed heard → after ≡ known (Some heard) before.seen → IsBulkWritten J before ws r after
+told_written before after heard ws confirmed asked r is acknowledged told later has now = record {
   confirmed = confirmed;
   later = later;
-  known = known;
-  heard = refl;
+  heard = heard;
   has = has;
+  now = now;
   acknowledged = subst (λ (writes : List taken.Write). IsBulkConfirmed writes confirmed) is acknowledged;
   told = told;
 }

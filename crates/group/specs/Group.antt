@@ -1,10 +1,7 @@
 -- What an index of several copies answers a command.
-use Rattle.std.specs.Prelude.{◌≡◌, ◌⊎◌, ◌<◌, ℕ, true, List, [], ◌∷◌, map, Option, Some, None, option_map, Result, Ok, Err, length, slice_get, unwrap_or, All, IfSome}
+use Rattle.std.specs.Prelude.{◌≡◌, ◌⊎◌, ℕ, Bool, true, false, List, [], ◌∷◌, map, Option, Some, None, option_map, Result, Ok, Err, slice_get, unwrap_or, All, IfSome}
 use Rattle.doc.specs.Id.{Id}
 use Rattle.op.specs.declared.message.Msg.{Msg}
-use Rattle.query.specs.Page.{PageData}
-use Rattle.query.specs.Query.{Query}
-use Rattle.engine.specs.Answer.{SnapshotData, answer_of, found}
 use Rattle.replica.specs.declared.fault.CopyFault.{CopyFault}
 use Rattle.replica.specs.declared.output.Answer.{Answer}
 use Rattle.replica.specs.declared.output.Item.{Item}
@@ -22,24 +19,16 @@ use Rattle.cluster.specs.declared.confirmed.Confirmed.{Confirmed}
 use Rattle.cluster.specs.declared.confirmed.ConfirmedBulk.{ConfirmedBulk}
 use Rattle.cluster.specs.Bulks.{bulked as items_in, IsBulkConfirmed}
 use Rattle.cluster.specs.Confirmed.{IsConfirmed}
-use Rattle.cluster.specs.Refreshed.{AreRefreshed}
 use Rattle.cluster.specs.Ruled.{IsDecided}
-use Rattle.op.specs.Documents.{documents}
-use Rattle.op.specs.Records.{operations}
-use Rattle.published.specs.declared.listing.Listing.{Listing}
-use Rattle.published.specs.declared.listing.Published.{Published}
-use Rattle.published.specs.Chain.{IsChain, IsLast}
 use Rattle.front.specs.declared.command.Write.{Write}
 use Rattle.front.specs.declared.reply.Refusal.{Refusal}
 use Rattle.front.specs.declared.reply.Refusal.TheVariants.{OldTerm, NotInSync, IsPrimary, Gone, Log, NoMemory, Full}
 use Rattle.front.specs.declared.reply.ItemReply.{ItemReply}
 use Rattle.front.specs.Command.{Command, write, bulk, get, search, count, refresh, promote}
-use Rattle.front.specs.Reply.{Reply, bulked, counted, refreshed, promoted, refused}
-use Rattle.shard.specs.Answering.{hits_of, item_reply_of, refusal_of, reply_of, write_of}
-
--- what a client knows: the first entries of the journal of the copy that it heard of last
-abbrev pub Heard : Type 0
-Heard = Option (PrefixData Deed)
+use Rattle.front.specs.Reply.{Reply, bulked, promoted, refused}
+use Rattle.shard.specs.Answering.{item_reply_of, refusal_of, reply_of, write_of}
+use Rattle.group.specs.Known.{Heard, KnownData, HasRefreshed, heard_by, known}
+use Rattle.group.specs.Searching.{IsCounted, IsFound, IsRefreshed}
 
 -- how many copies an entry counts
 abbrev pub counted_in : Result Output CopyFault → ℕ
@@ -51,21 +40,19 @@ unfoldable pub told_by : Result Output CopyFault → ℕ → Reply
 told_by (Ok output) copies = reply_of copies output.answer
 told_by (Err fault) copies = refused (refusal_of fault)
 
--- copies in sync were refreshed, one at least, each with an entry of its own
-pub record HasRefreshed : Type 0 where
-  pub copies : ℕ
-  pub some : 0 < copies
-  pub entries : AreRefreshed copies
+-- behind a write that was to be refreshed at once copies were refreshed, and behind another one none was
+pub record IsRefreshedAs (wanted : Bool) (heard before after : Heard) : Type 0 where
+  pub refreshed : wanted ≡ true → (copies : ℕ) × HasRefreshed heard before copies after
+  pub unrefreshed : wanted ≡ false → after ≡ before
 
--- the write has an entry of its copy and one that acknowledges it; the reply tells the first, and the copies that the second counts. Where it was to be
--- refreshed at once, copies were
-pub record IsWritten (J : Type 0) (before : Heard) (w : Write) (r : Reply) (after : Heard) : Type 0 where
+-- the write has an entry of its copy and one that acknowledges it; the reply tells the first, and the copies that the second counts
+pub record IsWritten (J : Type 0) (before : KnownData) (w : Write) (r : Reply) (after : KnownData) : Type 0 where
   pub confirmed : Confirmed J
-  pub later : IfSome before (λ h. IsAheadOf h confirmed.write)
-  pub heard : after ≡ Some (prefix confirmed.acknowledgement.node confirmed.acknowledgement.deeds)
+  pub later : IfSome before.heard (λ h. IsAheadOf h confirmed.write)
+  pub heard : after.heard ≡ Some (prefix confirmed.acknowledgement.node confirmed.acknowledgement.deeds)
   pub acknowledged : IsConfirmed (write_of w) confirmed
   pub told : r ≡ told_by confirmed.write.deed.answer (counted_in confirmed.acknowledgement.deed.answer)
-  pub refreshed : w.refresh ≡ true → HasRefreshed
+  pub seen : IsRefreshedAs w.refresh after.heard before.seen after.seen
 
 -- how many copies the entry at a place counts
 abbrev pub counted_at : List Receipt → ℕ → ℕ
@@ -94,51 +81,23 @@ pub record HasBulk {J : Type 0} (confirmed : ConfirmedBulk J) (known : PrefixDat
   pub each : All (HasEntry known) confirmed.acknowledgements.items
 
 -- the bulk has an entry of its copy, and for each write that was kept one that acknowledges it, and the reply tells them
-pub record IsBulkWritten (J : Type 0) (before : Heard) (ws : List Write) (r : Reply) (after : Heard) : Type 0 where
+pub record IsBulkWritten (J : Type 0) (before : KnownData) (ws : List Write) (r : Reply) (after : KnownData) : Type 0 where
   pub confirmed : ConfirmedBulk J
-  pub later : IfSome before (λ h. IsAheadOf h confirmed.bulk)
-  pub known : PrefixData Deed
-  pub heard : after ≡ Some known
-  pub has : HasBulk confirmed known
+  pub later : IfSome before.heard (λ h. IsAheadOf h confirmed.bulk)
+  pub heard : PrefixData Deed
+  pub has : HasBulk confirmed heard
+  pub now : after ≡ known (Some heard) before.seen
   pub acknowledged : IsBulkConfirmed (map write_of ws) confirmed
   pub told : IsBulkTold confirmed r
 
--- what is known once this was read: its journal, where that had entries
-abbrev pub heard_by : Heard → ℕ → List Deed → Heard
-heard_by before node [] = before
-heard_by before node (d ∷ ds) = Some (prefix node (d ∷ ds))
-
 -- the reply tells what a copy has of the id, after a journal that isn't shorter than what was known of it
-pub record IsGot (before : Heard) (id : Id) (r : Reply) (after : Heard) : Type 0 where
+pub record IsGot (before : KnownData) (id : Id) (r : Reply) (after : KnownData) : Type 0 where
   pub got : GotData
   pub is_got : IsRead got
   pub id_is : got.id ≡ id
-  pub later : IfSome before (λ h. IsNotBefore h got)
+  pub later : IfSome before.heard (λ h. IsNotBefore h got)
   pub told : r ≡ reply_of 0 got.answer
-  pub heard : after ≡ heard_by before got.node got.deeds
-
--- what searches of a published list see
-abbrev pub shown_in : Listing → SnapshotData
-shown_in l = record { mapping = l.mapping; documents = documents (operations l.records) }
-
--- the reply has the hits among the documents of the last list of a history, in which each list goes on from the one before it
-pub record IsFound (q : Query) (page : PageData) (r : Reply) : Type 0 where
-  pub shown : Published
-  pub chain : IsChain shown.history
-  pub last : IsLast shown.history shown.listing
-  pub hits_are : r ≡ hits_of (answer_of (shown_in shown.listing) q page)
-
--- the reply has the number of the documents that the query means in such a list
-pub record IsCounted (q : Query) (r : Reply) : Type 0 where
-  pub shown : Published
-  pub chain : IsChain shown.history
-  pub last : IsLast shown.history shown.listing
-  pub total_is : r ≡ counted (length (found (shown_in shown.listing) q))
-
--- the reply tells how many copies were refreshed
-pub record IsRefreshed (r : Reply) : Type 0 where
-  pub done : HasRefreshed
-  pub told : r ≡ refreshed done.copies
+  pub now : after ≡ known (heard_by before.heard got.node got.deeds) before.seen
 
 -- the master has decided that the copy is the primary, and the reply tells the term in which it is
 pub record IsMadePrimary (copy : ℕ) (r : Reply) : Type 0 where
@@ -159,13 +118,13 @@ master_refusal master.NoMemory = NoMemory
 master_refusal master.Full = Full
 
 -- what is asked was done
-abbrev pub IsDone : Type 0 → Heard → Command → Reply → Heard → Type 0
+abbrev pub IsDone : Type 0 → KnownData → Command → Reply → KnownData → Type 0
 IsDone J before (write w) r after = IsWritten J before w r after
 IsDone J before (bulk ws) r after = IsBulkWritten J before ws r after
 IsDone J before (get id) r after = IsGot before id r after
-IsDone J before (search q page) r after = IsFound q page r × (after ≡ before)
-IsDone J before (count q) r after = IsCounted q r × (after ≡ before)
-IsDone J before refresh r after = IsRefreshed r × (after ≡ before)
+IsDone J before (search q page) r after = IsFound before q page r after
+IsDone J before (count q) r after = IsCounted before q r after
+IsDone J before refresh r after = IsRefreshed before r after
 IsDone J before (promote copy) r after = IsMadePrimary copy r × (after ≡ before)
 
 -- what is asked was refused
@@ -174,5 +133,5 @@ pub record IsRefused (r : Reply) : Type 0 where
   pub told : r ≡ refused refusal
 
 -- a reply of copies whose journals are those of one registry, and what the client knows then
-abbrev pub IsTold : Type 0 → Heard → Command → Reply → Heard → Type 0
+abbrev pub IsTold : Type 0 → KnownData → Command → Reply → KnownData → Type 0
 IsTold J before c r after = IsDone J before c r after ⊎ (IsRefused r × (after ≡ before))

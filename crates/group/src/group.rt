@@ -1,64 +1,31 @@
 //! An index of several copies, each on a thread of its own.
-ghost use Rattle.std.specs.Prelude.{◌≡◌, ◌<◌, true, IfOk, IfSome, IsTrue, OnOk};
-ghost use Rattle.node.specs.Heard.{IsAheadOf, IsNotBefore};
-ghost use Rattle.cluster.specs.Refreshed.{AreRefreshed};
+ghost use Rattle.std.specs.Prelude.{◌≡◌, IfOk, IfSome};
 ghost use Rattle.query.specs.View.{query_view};
 ghost use Rattle.engine.specs.Shown.{hits_view};
 ghost use Rattle.front.specs.CommandView.{command_view};
 ghost use Rattle.front.specs.ReplyView.{reply_view};
-ghost use Rattle.shard.specs.Answering as spec;
-ghost use Rattle.group.specs.Group.{counted_in, told_by, HasRefreshed, IsBulkWritten, IsCounted, IsDone, IsFound, IsGot, IsRefreshed, IsWritten};
+ghost use Rattle.cell.specs.Points.{IsShownBehind};
+ghost use Rattle.group.specs.Group.{counted_in, told_by, IsBulkWritten, IsDone, IsGot, IsWritten};
+ghost use Rattle.group.specs.Searching.{IsCounted, IsFound, IsFoundAt};
 
 use crate::bulks::{heard_behind, told_bulk};
+use crate::known::{Known, is_ahead};
 use crate::promoting::{is_promotion, promote, refusal_to};
+use crate::searching::{Chair, reply_with};
+use cell::FoundAt;
 use chronicle::RegistryName;
 use cluster::{Client, ClusterFault, Confirmed, ConfirmedBulk, WriteFault};
 use doc::{DocId, Mapping};
-use engine::Hits;
 use front::command::{Command, Write};
 use front::reply::{Refusal, Reply};
 use front::{Resumable, Service};
-use node::{Got, Heard, Receipt};
-use published::{SearchFault, Searcher, Unnamed};
+use node::{Heard, Receipt};
 use query::{Page, Query, SearchBody};
 use replica::{CopyFault, Output, Writes};
-use shard::answering::{hits_of, refusal_of, reply_in, write_of, writes_of};
-use std::alloc::{AllocError, Global};
-use std::sync::{Mutex, Wait};
+use shard::answering::{refusal_of, reply_in, write_of, writes_of};
+use std::alloc::Global;
+use std::sync::Wait;
 use translog::LogDevice;
-
-/// A searcher of a copy.
-#[derive(Drop)]
-struct Seat {
-    copy: u32,
-    searcher: Searcher<Unnamed>,
-}
-
-/// A place for a searcher. A copy has eight seats, so where there are more threads some share a place, and one of them waits for the search of another
-/// there, and for no write.
-#[derive(Drop)]
-pub struct Chair {
-    seat: Mutex<Option<Seat>>,
-}
-
-impl Chair {
-    /// A place with a searcher of the primary where that can be had; else the first search there asks for it.
-    pub fn new<R: Wait, D: LogDevice, J: RegistryName>(rt: &R, client: &Client<D, J>) -> Chair {
-        Chair {
-            seat: Mutex::new(seat_of(rt, client).ok()),
-        }
-    }
-}
-
-/// A searcher of the primary.
-fn seat_of<R: Wait, D: LogDevice, J: RegistryName>(
-    rt: &R,
-    client: &Client<D, J>,
-) -> Result<Seat, ClusterFault> {
-    let copy = client.primary(rt);
-    let searcher = client.searcher(rt, copy)?;
-    Ok(Seat { copy, searcher })
-}
 
 /// An index of several copies, as one thread has it. Writes and gets are the primary's; searches are of what the primary has published, by a
 /// searcher that waits for no copy; a refresh is of each copy.
@@ -70,9 +37,9 @@ pub struct Group<'a, R: Wait, D: LogDevice, J: RegistryName> {
     pub mapping: &'a Mapping,
     pub client: &'a Client<D, J>,
     /// Where the searcher of the last search is kept.
-    pub chair: &'a Chair,
-    /// What the client that is served knows of the copy that it heard of last.
-    pub heard: Option<Heard<J>>,
+    pub chair: &'a Chair<J>,
+    /// What the client knows that is served.
+    pub known: Known<J>,
 }
 
 impl<'a, R: Wait, D: LogDevice, J: RegistryName> Service for Group<'a, R, D, J> {
@@ -82,7 +49,7 @@ impl<'a, R: Wait, D: LogDevice, J: RegistryName> Service for Group<'a, R, D, J> 
 
     ghost fields = { λ g. g.mapping.now };
 
-    ghost answers = { λ g c r h. IsTold J g.heard c r h.heard };
+    ghost answers = { λ g c r h. IsTold J g.known c r h.known };
 
     fn index(&self) -> &str {
         self.name
@@ -95,8 +62,8 @@ impl<'a, R: Wait, D: LogDevice, J: RegistryName> Service for Group<'a, R, D, J> 
     fn call(&mut self, command: Command) -> Reply {
         let promotes = is_promotion(&command);
         match self.answer(command) {
-            Ok((reply, heard)) => {
-                self.heard = heard;
+            Ok((reply, known)) => {
+                self.known = known;
                 reply
             }
             Err(fault) => Reply::Refused(refusal_of_write(promotes, &fault)),
@@ -105,52 +72,52 @@ impl<'a, R: Wait, D: LogDevice, J: RegistryName> Service for Group<'a, R, D, J> 
 }
 
 impl<'a, R: Wait, D: LogDevice, J: RegistryName> Resumable for Group<'a, R, D, J> {
-    type Known = Option<Heard<J>>;
+    type Known = Known<J>;
 
-    ghost knows = { λ g. g.heard };
+    ghost knows = { λ g. g.known };
 
-    fn known(&self) -> Option<Heard<J>> {
-        again(&self.heard)
+    fn known(&self) -> Known<J> {
+        self.known.again()
     }
 
-    fn resume(&mut self, known: &Option<Option<Heard<J>>>) {
+    fn resume(&mut self, known: &Option<Known<J>>) {
         if let Some(known) = known {
-            self.heard = again(known);
+            self.known = known.again();
         }
     }
 }
 
 impl<'a, R: Wait, D: LogDevice, J: RegistryName> Group<'a, R, D, J> {
     /// Has the copies do a command; and what the client knows then.
-    fn answer(&self, command: Command) -> Result<(Reply, Option<Heard<J>>), WriteFault<J>>
-        ensures { IfOk result (λ r. IsDone J self.now.heard (command_view command) (reply_view r.0) r.1) }
+    fn answer(&self, command: Command) -> Result<(Reply, Known<J>), WriteFault<J>>
+        ensures { IfOk result (λ r. IsDone J self.now.known (command_view command) (reply_view r.0) r.1) }
     {
         match command {
             Command::Write(write) => self.write(write),
             Command::Bulk(writes) => self.bulk(writes),
             Command::Get(id) => Ok(self.get(id)?),
-            Command::Search(body) => Ok((self.search(&body)?, again(&self.heard))),
-            Command::Count(query) => Ok((self.count(&query)?, again(&self.heard))),
-            Command::Refresh => Ok((self.refresh()?, again(&self.heard))),
+            Command::Search(body) => Ok(self.search(&body)?),
+            Command::Count(query) => Ok(self.count(&query)?),
+            Command::Refresh => Ok(self.refresh()?),
             Command::Promote(copy) => Ok((
                 promote(self.rt, self.client, copy)?,
-                again(&self.heard),
+                self.known.again(),
             )),
         }
     }
 
     /// Has the primary do a write, and waits until each member has it; then come the refreshes that are wanted.
-    fn write(&self, write: Write) -> Result<(Reply, Option<Heard<J>>), WriteFault<J>>
-        ensures { IfOk result (λ r. IsWritten J self.now.heard write (reply_view r.0) r.1) }
+    fn write(&self, write: Write) -> Result<(Reply, Known<J>), WriteFault<J>>
+        ensures { IfOk result (λ r. IsWritten J self.now.known write (reply_view r.0) r.1) }
     {
         let refresh = write.refresh;
         let confirmed = self.client.write(self.rt, write_of(write))?;
-        if !self.is_news(&confirmed.write) {
+        if !is_ahead(self.known.heard(), &confirmed.write) {
             return Err(stray(confirmed));
         }
-        let heard = Heard::by(&confirmed.acknowledgement);
-        match self.refresh_where(refresh) {
-            Ok(()) => Ok((told(confirmed), Some(heard))),
+        let heard = Some(Heard::by(&confirmed.acknowledgement));
+        match self.refresh_where(refresh, &heard) {
+            Ok(seen) => Ok((told(confirmed), Known::of(heard, seen))),
             Err(fault) => {
                 drop(confirmed);
                 Err(WriteFault::Cluster(fault))
@@ -158,130 +125,74 @@ impl<'a, R: Wait, D: LogDevice, J: RegistryName> Group<'a, R, D, J> {
         }
     }
 
-    /// Whether an entry stands behind all that the client knows, where it is of that copy.
-    fn is_news(&self, receipt: &Receipt<J>) -> bool
-        ensures { IsTrue result → IfSome self.now.heard (λ h. IsAheadOf h receipt.now) }
-    {
-        match &self.heard {
-            Some(heard) => heard.is_before(receipt),
-            None => true,
-        }
-    }
-
-    /// Refreshes the copies where that is wanted.
-    #[tactic(auto, using(crate::proofs::Found::has_refreshed))]
-    fn refresh_where(&self, wanted: bool) -> Result<(), ClusterFault>
-        ensures { OnOk result (wanted ≡ true → HasRefreshed) }
-    {
-        if wanted {
-            self.refresh_copies()?;
-        }
-        Ok(())
-    }
-
     /// Has the primary do the writes of a bulk with one step, and waits until each member has those that were kept.
-    fn bulk(&self, writes: Vec<Write>) -> Result<(Reply, Option<Heard<J>>), WriteFault<J>>
-        ensures { IfOk result (λ r. IsBulkWritten J self.now.heard writes.items (reply_view r.0) r.1) }
+    fn bulk(&self, writes: Vec<Write>) -> Result<(Reply, Known<J>), WriteFault<J>>
+        ensures { IfOk result (λ r. IsBulkWritten J self.now.known writes.items (reply_view r.0) r.1) }
     {
         let Some(writes) = Writes::of(writes_of(self.alloc, writes)?) else {
             return Err(WriteFault::Cluster(ClusterFault::Copy(CopyFault::Mismatch)));
         };
         let confirmed = self.client.bulk(self.rt, writes)?;
-        if !self.is_news(&confirmed.bulk) {
+        if !is_ahead(self.known.heard(), &confirmed.bulk) {
             return Err(stray_bulk(confirmed));
         }
         let Some(heard) = heard_behind(&confirmed) else {
             return Err(stray_bulk(confirmed));
         };
         let reply = told_bulk(self.alloc, confirmed)?;
-        Ok((reply, Some(heard)))
+        Ok((reply, self.known.hears(heard)))
     }
 
-    fn get(&self, id: DocId) -> Result<(Reply, Option<Heard<J>>), ClusterFault>
-        ensures { IfOk result (λ r. IsGot self.now.heard id (reply_view r.0) r.1) }
+    fn get(&self, id: DocId) -> Result<(Reply, Known<J>), ClusterFault>
+        ensures { IfOk result (λ r. IsGot self.now.known id (reply_view r.0) r.1) }
     {
         let primary = self.client.primary(self.rt);
         let got = self.client.get(self.rt, primary, id)?;
-        if !self.is_later(&got) {
+        if !self.known.is_in(&got) {
             return Err(ClusterFault::Stray(got.place()));
         }
-        let heard = match got.heard() {
-            Some(heard) => Some(heard),
-            None => again(&self.heard),
+        let known = match got.heard() {
+            Some(heard) => self.known.hears(heard),
+            None => self.known.again(),
         };
-        Ok((reply_in(got.into_answer(), 0), heard))
+        Ok((reply_in(got.into_answer(), 0), known))
     }
 
-    /// Whether what was read is of a journal that has all that the client knows of it.
-    fn is_later(&self, got: &Got<J>) -> bool
-        ensures { IsTrue result → IfSome self.now.heard (λ h. IsNotBefore h got.now) }
+    #[tactic(auto, using(crate::proofs::Found::found_seen))]
+    fn search(&self, body: &SearchBody) -> Result<(Reply, Known<J>), ClusterFault>
+        ensures { IfOk result (λ r. IsFound self.now.known (query_view body.now.query) body.now.page (reply_view r.0) r.1) }
     {
-        match &self.heard {
-            Some(heard) => heard.is_in(got),
-            None => true,
-        }
+        let FoundAt { hits, point } = self.look(&body.query, body.page)?;
+        let known = self.known.sees(&point);
+        Ok((reply_with(self.alloc, hits)?, known))
     }
 
-    fn search(&self, body: &SearchBody) -> Result<Reply, ClusterFault>
-        ensures { IfOk result (λ r. IsFound (query_view body.now.query) body.now.page (reply_view r)) }
+    /// How many documents a query means.
+    #[tactic(auto, using(crate::proofs::Found::counted_seen))]
+    fn count(&self, query: &Query) -> Result<(Reply, Known<J>), ClusterFault>
+        ensures { IfOk result (λ r. IsCounted self.now.known (query_view query.now) (reply_view r.0) r.1) }
     {
-        let mut held = self.chair.seat.lock(self.rt);
-        let mut seat = self.seated(held.take())?;
-        let reply = hits_in(self.alloc, &mut seat.searcher, &body.query, body.page);
-        if reply.is_ok() {
-            *held = Some(seat);
-        }
-        reply
+        let Ok(page) = Page::new(0, 0) else {
+            return Err(ClusterFault::NoMemory);
+        };
+        let FoundAt { hits, point } = self.look(query, page)?;
+        let known = self.known.sees(&point);
+        Ok((Reply::Counted(hits.total), known))
     }
 
-    fn count(&self, query: &Query) -> Result<Reply, ClusterFault>
-        ensures { IfOk result (λ r. IsCounted (query_view query.now) (reply_view r)) }
+    /// What a search finds, of no place of the journal before the one that was seen last, as none does.
+    fn look(&self, query: &Query, page: Page) -> Result<FoundAt<J>, ClusterFault>
+        ensures found { IfOk result (λ f. IsFoundAt (query_view query.now) page (hits_view f.hits) f.point) }
+        ensures later { IfOk result (λ f. IfSome self.now.known.seen (λ h. IsShownBehind h f.point)) }
     {
-        let mut held = self.chair.seat.lock(self.rt);
-        let mut seat = self.seated(held.take())?;
-        let reply = count_in(self.alloc, &mut seat.searcher, query);
-        if reply.is_ok() {
-            *held = Some(seat);
+        let found = self
+            .chair
+            .search(self.rt, self.alloc, self.client, query, page)?;
+        if self.known.is_shown_by(&found.point) {
+            Ok(found)
+        } else {
+            Err(ClusterFault::Stray(found.point.entries()))
         }
-        reply
-    }
-
-    /// A searcher of the primary: the one of before, or where another copy leads now a new one.
-    fn seated(&self, before: Option<Seat>) -> Result<Seat, ClusterFault> {
-        if let Some(seat) = before {
-            if seat.copy == self.client.primary(self.rt) {
-                return Ok(seat);
-            }
-        }
-        seat_of(self.rt, self.client)
-    }
-
-    fn refresh(&self) -> Result<Reply, ClusterFault>
-        ensures { IfOk result (λ r. IsRefreshed (reply_view r)) }
-    {
-        let copies = self.refresh_copies()?;
-        Ok(Reply::Refreshed(copies))
-    }
-
-    /// Refreshes the copies, and tells how many are. Where each was passed over, nothing was refreshed, and that is refused.
-    fn refresh_copies(&self) -> Result<u64, ClusterFault>
-        ensures { IfOk result (λ copies. (0 < copies) × AreRefreshed copies) }
-    {
-        let copies = self.client.refresh(self.rt)?;
-        if copies == 0 {
-            return Err(ClusterFault::Copy(CopyFault::Closed));
-        }
-        Ok(copies)
-    }
-}
-
-/// What a client knows, once more.
-fn again<J: RegistryName>(heard: &Option<Heard<J>>) -> Option<Heard<J>>
-    ensures { result ≡ heard.now }
-{
-    match heard {
-        Some(heard) => Some(heard.again()),
-        None => None,
     }
 }
 
@@ -337,58 +248,6 @@ fn reply_to(answer: Result<Output, CopyFault>, copies: u64) -> Reply
     match answer {
         Ok(output) => reply_in(output.answer, copies),
         Err(fault) => Reply::Refused(refusal_of(&fault)),
-    }
-}
-
-/// The hits of a page.
-#[tactic(auto, using(crate::proofs::Found::found_in))]
-fn hits_in(
-    alloc: Global,
-    searcher: &mut Searcher<Unnamed>,
-    query: &Query,
-    page: Page,
-) -> Result<Reply, ClusterFault>
-    ensures { IfOk result (λ r. IsFound (query_view query.now) page (reply_view r)) }
-{
-    match searcher.search(alloc, query, page) {
-        Ok(found) => Ok(reply_with(alloc, found)?),
-        Err(fault) => Err(unsearched(fault)),
-    }
-}
-
-/// The reply that tells the hits.
-#[tactic(auto, using(crate::proofs::Found::each_in_turn))]
-fn reply_with(alloc: Global, found: Hits) -> Result<Reply, AllocError>
-    ensures { IfOk result (λ r. reply_view r ≡ spec.hits_of (hits_view found)) }
-{
-    let Hits { total, hits } = found;
-    let hits = hits_of(alloc, hits)?;
-    Ok(Reply::Hits(total, hits))
-}
-
-/// How many documents a query means.
-#[tactic(auto, using(crate::proofs::Found::counted_in))]
-fn count_in(
-    alloc: Global,
-    searcher: &mut Searcher<Unnamed>,
-    query: &Query,
-) -> Result<Reply, ClusterFault>
-    ensures { IfOk result (λ r. IsCounted (query_view query.now) (reply_view r)) }
-{
-    let Ok(page) = Page::new(0, 0) else {
-        return Err(ClusterFault::NoMemory);
-    };
-    match searcher.search(alloc, query, page) {
-        Ok(found) => Ok(Reply::Counted(found.total)),
-        Err(fault) => Err(unsearched(fault)),
-    }
-}
-
-/// Why a search has no hits. A searcher is let in no more once its copy has ended.
-fn unsearched(fault: SearchFault) -> ClusterFault {
-    match fault {
-        SearchFault::NoMemory => ClusterFault::NoMemory,
-        SearchFault::Ended => ClusterFault::Copy(CopyFault::Closed),
     }
 }
 

@@ -3,6 +3,11 @@
 
 mod bulks;
 pub mod group;
+pub mod known;
 mod promoting;
+mod refreshing;
+pub mod searching;
 
-pub use group::{Chair, Group};
+pub use group::Group;
+pub use known::Known;
+pub use searching::Chair;

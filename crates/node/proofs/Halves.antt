@@ -21,10 +21,9 @@ use Rattle.replica.specs.Logged.{Logged, IsPrepared, IsReady, IsRefused, IsUntou
 use Rattle.replica.specs.Step.{Step, copy_step, members_of, stepped}
 use Rattle.replica.proofs.Accepted.{restart_keeps}
 use Rattle.replica.proofs.Failures.{refused_at_once, refused_in}
-use Rattle.published.specs.Listings.{StartsWith}
 use Rattle.journal.specs.Journal.{keeps_record, left_by}
 use Rattle.node.specs.Acting.{IsCommitted}
-use Rattle.node.specs.Replay.{IsIdle, IsStep, MayFail}
+use Rattle.node.specs.Replay.{IsIdle, IsStep, MayFail, StartsWith}
 
 and_false : (a b : Bool) → (a ≡ true → b ≡ false) → (a && b) ≡ false
 and_false false b h = refl

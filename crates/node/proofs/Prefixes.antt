@@ -1,6 +1,6 @@
 -- Entries of one journal, seen at two moments.
-use Rattle.std.proofs.Common.{◌≡◌, ℕ, ◌+◌, ◌<◌, ◌≤◌, List, [], length, refl, ap, sym, subst, ◌∙◌, arith}
-use Rattle.std.specs.Prelude.{Option, Some, None}
+use Rattle.std.proofs.Common.{◌≡◌, ◌<◌, ◌≤◌, List, [], length, refl, ap, sym, subst, ◌∙◌, arith}
+use Rattle.std.specs.Prelude.{Option, Some}
 use mathlib.Core.List.{IsPrefix}
 use Rattle.chronicle.specs.Registered.{PrefixData}
 use Rattle.journal.specs.declared.journal.Deed.{Deed}

@@ -17,10 +17,9 @@ use Rattle.replica.specs.Copy.{Copy, opened}
 use Rattle.replica.specs.Fault.{fault_of, is_log}
 use Rattle.replica.specs.Logged.{Logged, IsFailed, IsLogged, IsReopened, IsRefusal, IsSame, IsSameCopy, IsUnread, is_restart}
 use Rattle.replica.specs.Step.{Step, copy_step, members_of, stepped}
-use Rattle.published.specs.Listings.{StartsWith}
 use Rattle.journal.specs.declared.journal.Deed.{Deed}
 use Rattle.journal.specs.Journal.{Shut, Standing, left_by, reopened, found, is_kept, is_point, answered, refused_at, may_shut, MayAnswer, MayRefuse, next, IsLegalAt}
-use Rattle.node.specs.Replay.{IsIdle, IsReplayed, IsReplayedAs, IsShutAs, IsStep, MayFail}
+use Rattle.node.specs.Replay.{IsIdle, IsReplayed, IsReplayedAs, IsShutAs, IsStep, MayFail, StartsWith}
 
 itself : (c : Copy) → IsSameCopy c c
 itself c = record { id = refl; birth = refl; mapping = refl }

@@ -6,7 +6,6 @@ use Rattle.op.specs.declared.record.Record.TheVariants.{Op as Kept, Resync as Re
 use Rattle.op.specs.Records.{AreOfOneFrame, IsOfGroup, IsRecord}
 use Rattle.translog.specs.Kept.{IsTranslog}
 use Rattle.translog.specs.Pieces.{Piece, some_records, upgrade, records_in, HasRules, IsSpeltPiece}
-use Rattle.replica.specs.Copy.{Copy}
 use Rattle.replica.specs.Logged.{Logged, IsLogged}
 use Rattle.journal.specs.declared.journal.Deed.{Deed}
 use Rattle.node.specs.Entry.{HasSoundRecords}

@@ -33,7 +33,8 @@ impl<J: RegistryName> Model for Heard<J> {
 }
 
 impl<J: RegistryName> Heard<J> {
-    pub(crate) fn of(node: u32, place: u64, upto: Prefix<Deed, J>) -> Heard<J>
+    /// The entries of a copy's journal up to the one at a place.
+    pub fn of(node: u32, place: u64, upto: Prefix<Deed, J>) -> Heard<J>
         requires number { upto.number ≡ node }
         requires last { place + 1 ≡ length upto.entries }
         requires journal { IsJournalOf node upto.entries }
@@ -80,6 +81,23 @@ impl<J: RegistryName> Heard<J> {
         }
         receipt.upto().agrees(&self.upto);
         true
+    }
+
+    /// Whether these first entries of the copy's journal, which are so many, have all that was heard.
+    pub fn is_within(&self, upto: &Prefix<Deed, J>, entries: u64) -> bool
+        requires number { upto.now.number ≡ self.now.number }
+        requires entries { entries ≡ length upto.now.entries }
+        ensures { IsTrue result → IsPrefix self.now.entries upto.now.entries }
+    {
+        self.upto.agrees(upto);
+        self.place < entries
+    }
+
+    /// The id of the copy.
+    pub fn node(&self) -> u32
+        ensures { result ≡ self.now.number }
+    {
+        self.node
     }
 
     /// Whether what was read is of another copy, or its journal had all by then that was heard.

@@ -5,7 +5,7 @@ ghost use Rattle.journal.specs.declared.journal.Journal.TheVariants.{OfCopy};
 ghost use Rattle.translog.specs.declared.fault.LogFault.TheVariants.{Device};
 ghost use Rattle.replica.specs.declared.fault.CopyFault.TheVariants.{Log};
 ghost use Rattle.node.specs.declared.fault.NodeFault.TheVariants.{Copy as Refused};
-ghost use Rattle.chronicle.specs.Registered.{last_seat, prefix};
+ghost use Rattle.chronicle.specs.Registered.{last_seat, prefix, upto};
 ghost use Rattle.node.specs.Reading.{IsGotFrom, IsUngot};
 ghost use Rattle.node.specs.Stands.{IsBarred, IsDenied, LastStands};
 ghost use Rattle.node.specs.Held.{journal, IsCall, IsHeld, IsLastOf, IsRefusal};
@@ -22,7 +22,7 @@ use crate::receipt::Receipt;
 use crate::standing::equal_deed;
 use crate::syncing::synced;
 use crate::telling::{Entered, Inputs, Told, tell};
-use chronicle::{Chronicle, Ledger, Mark, Prefix, Registered, Registry, RegistryName};
+use chronicle::{Chronicle, Ledger, Mark, Prefix, Registered, Registry, RegistryName, Upto};
 use doc::DocId;
 use engine::Merged;
 use journal::{Deed, Deeds, Journal, Opening};
@@ -267,6 +267,20 @@ impl<D: LogDevice, J: RegistryName> Held<D, J> {
             answer,
             upto: self.deeds.prefix(),
         })
+    }
+
+    /// How many entries its journal has.
+    pub fn len(&self) -> u64
+        ensures { result ≡ length self.now.deeds }
+    {
+        self.deeds.ledger().len()
+    }
+
+    /// All entries of its journal, without the name of the cluster.
+    pub fn upto(&self) -> Upto<Deed>
+        ensures { result ≡ upto J.registry self.now.opening.id self.now.deeds }
+    {
+        self.deeds.upto()
     }
 
     /// All entries of its journal, as a caller is told of them; nothing where there is none.

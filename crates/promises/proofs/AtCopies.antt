@@ -37,12 +37,13 @@ use Rattle.front.specs.declared.reply.Found.{Found}
 use Rattle.front.specs.declared.reply.Wrote.{Wrote}
 use Rattle.front.specs.declared.reply.ItemReply.{ItemReply}
 use Rattle.front.specs.declared.reply.ItemReply.TheVariants as item
-use Rattle.front.specs.Command.{Command, write, bulk, get, search, count, refresh, promote}
+use Rattle.front.specs.Command.{Command, write, bulk, get}
 use Rattle.front.specs.Reply.{Reply, wrote, bulked, got, refused}
 use Rattle.shard.specs.Answering.{item_reply_of, reply_of, write_of, wrote_of}
-use Rattle.group.specs.Group.{Heard, IsBulkWritten, IsGot, IsTold, IsWritten, counted_at, heard_by, replies_at, told_by}
+use Rattle.group.specs.Group.{IsBulkWritten, IsGot, IsTold, IsWritten, counted_at, replies_at, told_by}
+use Rattle.group.specs.Known.{Heard, KnownData, heard_by}
 use Rattle.promises.specs.Promises.{HasWrite, IsAcknowledged, alone, among}
-use Rattle.promises.specs.Copies.{AreWithoutReset, IsFoundFrom, Knows, NeverBackAtCopies, WritesAreFoundAtCopies}
+use Rattle.promises.specs.Copies.{AreWithoutReset, HasFrom, Knows, WritesAreFoundAtCopies}
 use Rattle.promises.proofs.Lists.{has_write}
 use Rattle.promises.proofs.Standings.{HasAt, RisesAt, goes_on_at, has_after, rises_after}
 use Rattle.promises.proofs.Steps.{Has}
@@ -57,11 +58,11 @@ pub record HasKeptIn (id : Id) (seq : ℕ) (rs : List Record) : Type 0 where
   pub on : is_on id op ≡ true
   pub has : Has op rs
 
-record HasKeptAt (id : Id) (seq : ℕ) (s : Standing) : Type 0 where
-  op : Op
-  number : op.seq ≡ seq
-  on : is_on id op ≡ true
-  there : HasAt op s
+pub record HasKeptAt (id : Id) (seq : ℕ) (s : Standing) : Type 0 where
+  pub op : Op
+  pub number : op.seq ≡ seq
+  pub on : is_on id op ≡ true
+  pub there : HasAt op s
 
 pub written_one : (x y : Written) → (let o : Option Written = Some x in o) ≡ Some y → x ≡ y
 written_one x y e = cc
@@ -109,11 +110,11 @@ at_bulk c up (Some f) place ws is (Ok output) legal told at w y there kept = abs
 at_bulk c up (Some f) place ws is (Err e) legal told at w y there kept = absurd cc
 
 -- the entry of a write, among those that were known when it was acknowledged
-record IsWriteOf (acked : PrefixData Deed) (id : Id) (seq : ℕ) : Type 0 where
-  front : List Deed
-  deed : Deed
-  known : IsPrefix (front ++ deed ∷ []) acked.entries
-  keeps : (s : Standing) (place : ℕ) → RisesAt s → IsLegalAt s deed → HasKeptAt id seq (next s place deed)
+pub record IsWriteOf (acked : PrefixData Deed) (id : Id) (seq : ℕ) : Type 0 where
+  pub front : List Deed
+  pub deed : Deed
+  pub known : IsPrefix (front ++ deed ∷ []) acked.entries
+  pub keeps : (s : Standing) (place : ℕ) → RisesAt s → IsLegalAt s deed → HasKeptAt id seq (next s place deed)
 
 deed_one : (x y : Deed) → (let o : Option Deed = Some x in o) ≡ Some y → x ≡ y
 deed_one x y e = cc
@@ -149,12 +150,12 @@ unfolding told_by
 seq_by (Ok output) n y x is told = told_seq output.answer n y x is told
 seq_by (Err e) n y x is told = absurd cc
 
-entry_of_write : (J : Type 0) (w : Write) (x : Wrote) (before : Heard) (acked : PrefixData Deed) → IsWritten J before w (wrote x) (Some acked) → IsWriteOf acked w.id x.seq
-entry_of_write J w x before acked is =
+entry_of_write : (J : Type 0) (w : Write) (x : Wrote) (before after : KnownData) (acked : PrefixData Deed) → after.heard ≡ Some acked → IsWritten J before w (wrote x) after → IsWriteOf acked w.id x.seq
+entry_of_write J w x before after acked upto is =
     let e = is.acknowledged in
     let r : Receipt = is.confirmed.write in
     let split = last_split r.deeds r.place r.deed e.stands.stands e.stands.last in
-    let heard = known_one acked (prefix is.confirmed.acknowledgement.node is.confirmed.acknowledgement.deeds) is.heard in
+    let heard = known_one acked (prefix is.confirmed.acknowledgement.node is.confirmed.acknowledgement.deeds) (sym upto ∙ is.heard) in
     let seq = seq_by r.deed.answer _ e.written x e.kept is.told in
     record {
       front = split.0;
@@ -179,34 +180,34 @@ reply_item entries (i ∷ is) (p ∷ ps) (suc at) x e = let one = reply_item ent
 pub replied_same : (xs ys : List ItemReply) → (let r : Reply = bulked xs in r) ≡ bulked ys → xs ≡ ys
 replied_same xs ys e = cc
 
-entry_of_bulk : (J : Type 0) (ws : List Write) (items : List ItemReply) (at : ℕ) (w : Write) (x : Wrote) (before : Heard) (acked : PrefixData Deed) → slice_get ws at ≡ Some w → slice_get items at ≡ Some (item.Wrote x)
-    → IsBulkWritten J before ws (bulked items) (Some acked) → IsWriteOf acked w.id x.seq
-entry_of_bulk J ws items at w x before acked there was is =
+entry_of_bulk : (J : Type 0) (ws : List Write) (items : List ItemReply) (at : ℕ) (w : Write) (x : Wrote) (before after : KnownData) (acked : PrefixData Deed) → after.heard ≡ Some acked → slice_get ws at ≡ Some w → slice_get items at ≡ Some (item.Wrote x)
+    → IsBulkWritten J before ws (bulked items) after → IsWriteOf acked w.id x.seq
+entry_of_bulk J ws items at w x before after acked upto there was is =
     let e = is.acknowledged in
     let r : Receipt = is.confirmed.bulk in
     let split = last_split r.deeds r.place r.deed e.stands.stands e.stands.last in
-    let heard = known_one acked is.known is.heard in
+    let heard = known_one acked is.heard (sym upto ∙ ap (λ (k : KnownData). k.heard) is.now) in
     let told = replied_same items _ is.told.told in
     let one = reply_item is.confirmed.acknowledgements.items is.told.items is.confirmed.places.items at x (sym (ap (λ l. slice_get l at) told) ∙ was) in
     record {
       front = split.0;
       deed = r.deed;
-      known = subst (λ (p : PrefixData Deed). IsPrefix (split.0 ++ r.deed ∷ []) p.entries) (sym heard) (subst (λ (ds : List Deed). IsPrefix ds is.known.entries) split.1 is.has.bulk.entries);
+      known = subst (λ (p : PrefixData Deed). IsPrefix (split.0 ++ r.deed ∷ []) p.entries) (sym heard) (subst (λ (ds : List Deed). IsPrefix ds is.heard.entries) split.1 is.has.bulk.entries);
       keeps = λ s place up legal.
           subst (λ n. HasKeptAt w.id n (next s place r.deed)) one.number
           (subst (λ (i : Input). MayAnswer s.copy s.shut i r.deed.answer → HasKeptAt w.id one.written.seq (answered s.copy s.shut place i r.deed.answer)) (sym e.asked)
           (λ may. at_bulk s.copy up.copy s.shut place (map write_of ws) is.told.items r.deed.answer may is.told.kept at (write_of w) one.written (get_map write_of ws at w there) one.there) legal);
     }
 
-entry_of : (J : Type 0) (w : Write) (x : Wrote) (asked : Command) (reply : Reply) (before : Heard) (acked : PrefixData Deed) → IsAcknowledged w x asked reply → IsTold J before asked reply (Some acked) → IsWriteOf acked w.id x.seq
-entry_of J w x _ _ before acked alone (inl done) = entry_of_write J w x before acked done
-entry_of J w x _ _ before acked alone (inr refusal) = absurd (let never : wrote x ≡ refused refusal.0.refusal = refusal.0.told in cc)
-entry_of J w x _ _ before acked (among ws items at there was) (inl done) = entry_of_bulk J ws items at w x before acked there was done
-entry_of J w x _ _ before acked (among ws items at there was) (inr refusal) = absurd (let never : bulked items ≡ refused refusal.0.refusal = refusal.0.told in cc)
+pub entry_of : (J : Type 0) (w : Write) (x : Wrote) (asked : Command) (reply : Reply) (before after : KnownData) (acked : PrefixData Deed) → IsAcknowledged w x asked reply → IsTold J before asked reply after → after.heard ≡ Some acked → IsWriteOf acked w.id x.seq
+entry_of J w x _ _ before after acked alone (inl done) upto = entry_of_write J w x before after acked upto done
+entry_of J w x _ _ before after acked alone (inr refusal) upto = absurd (let never : wrote x ≡ refused refusal.0.refusal = refusal.0.told in cc)
+entry_of J w x _ _ before after acked (among ws items at there was) (inl done) upto = entry_of_bulk J ws items at w x before after acked upto there was done
+entry_of J w x _ _ before after acked (among ws items at there was) (inr refusal) upto = absurd (let never : bulked items ≡ refused refusal.0.refusal = refusal.0.told in cc)
 
 -- ---- a get
 
-got_in : (J : Type 0) (id : Id) (o : Option Found) (later new : Heard) → IsTold J later (get id) (got o) new → IsGot later id (got o) new
+got_in : (J : Type 0) (id : Id) (o : Option Found) (later new : KnownData) → IsTold J later (get id) (got o) new → IsGot later id (got o) new
 got_in J id o later new (inl done) = done
 got_in J id o later new (inr refusal) = absurd (let never : got o ≡ refused refusal.0.refusal = refusal.0.told in cc)
 
@@ -225,13 +226,23 @@ module _ (opening : Copy) (sound : RisesAt (open_at opening)) (acked : PrefixDat
       let has : Has kept.op end.copy.records = subst (λ (u : Standing). Has kept.op u.copy.records) (sym first.end) at_end.copy in
       subst (λ n. HasWrite id n (operations end.copy)) kept.number (has_write (operations end.copy) id kept.op (rises_after (open_at opening) 0 ((e.front ++ e.deed ∷ []) ++ more) sound).copy has kept.on)
 
-  found_still : (deeds more : List Deed) → IsLegal (open_at opening) 0 deeds → deeds ≡ (e.front ++ e.deed ∷ []) ++ more → AreWithoutReset more → HasWrite id seq (operations (after (open_at opening) 0 deeds).copy)
+  pub found_still : (deeds more : List Deed) → IsLegal (open_at opening) 0 deeds → deeds ≡ (e.front ++ e.deed ∷ []) ++ more → AreWithoutReset more → HasWrite id seq (operations (after (open_at opening) 0 deeds).copy)
   found_still deeds more legal is own =
       subst (λ (ds : List Deed). HasWrite id seq (operations (after (open_at opening) 0 ds).copy)) (sym is) (has_still more (subst (λ (ds : List Deed). IsLegal (open_at opening) 0 ds) is legal) own)
 
+-- what is known of a copy behind the write goes on from what was known then, and has the write
+pub has_from : (acked known : PrefixData Deed) (id : Id) (seq : ℕ) (e : IsWriteOf acked id seq) (opening : Copy) (node : ℕ) (deeds : List Deed) → RisesAt (open_at opening) → IsLegal (open_at opening) 0 deeds
+    → IsPrefix acked.entries known.entries → known.number ≡ acked.number → (node ≡ known.number → IsPrefix known.entries deeds) → HasFrom acked id seq node deeds (operations (after (open_at opening) 0 deeds).copy)
+has_from acked known id seq e opening node deeds sound legal begins copy later = record {
+  goes_on = λ same. prefix_trans acked.entries known.entries deeds begins (later (same ∙ sym copy));
+  upto = e.front ++ e.deed ∷ [];
+  known = e.known;
+  has = λ same more is own. found_still opening sound acked id seq e deeds more legal is own;
+}
+
 pub writes_are_found_at_copies : (J : Type 0) → WritesAreFoundAtCopies J
-writes_are_found_at_copies J w x asked reply o acked before later new is told knows then =
-    let e = entry_of J w x asked reply before acked is told in
+writes_are_found_at_copies J w x asked reply o acked before after' later new is told upto knows then =
+    let e = entry_of J w x asked reply before after' acked is told upto in
     let g = got_in J w.id o later new then in
     let j = g.is_got in
     let opening : Copy = j.journal.opening in
@@ -249,40 +260,6 @@ writes_are_found_at_copies J w x asked reply o acked before later new is told kn
         left = refl;
         told = g.told ∙ ap (reply_of 0) (j.read.has ∙ (ap (λ (c : Copy). got_by c g.got.id) copy ∙ (ap (λ (i : Id). get_answer (document_at (documents os) i)) g.id_is ∙ ap get_answer (document_at-documents os w.id))));
       };
-      goes_on = λ same.
-          prefix_trans acked.entries knows.known.entries g.got.deeds knows.entries (subst (λ (h : Heard). IfSome h (λ p. IsNotBefore p g.got)) knows.is g.later (same ∙ sym knows.copy));
-      upto = e.front ++ e.deed ∷ [];
-      known = e.known;
-      has = λ same more is own. found_still opening (record { copy = IsAscending-operations opening.records j.sound; other = tt }) acked w.id x.seq e g.got.deeds more legal is own;
+      from = has_from acked knows.known w.id x.seq e opening g.got.node g.got.deeds (record { copy = IsAscending-operations opening.records j.sound; other = tt }) legal knows.entries knows.copy
+          (subst (λ (h : Heard). IfSome h (λ p. IsNotBefore p g.got)) knows.is g.later);
     }
-
--- ---- in order
-
-self : (xs : List Deed) → IsPrefix xs xs
-self xs = ([], append-nil xs)
-
-as_before : (before after : PrefixData Deed) → (let o : Heard = Some after in o) ≡ Some before → IsPrefix before.entries after.entries
-as_before before after e = subst (λ (p : PrefixData Deed). IsPrefix before.entries p.entries) (sym (known_one after before e)) (self before.entries)
-
-after_get : (before after : PrefixData Deed) (node : ℕ) (deeds : List Deed) → (let o : Heard = Some after in o) ≡ heard_by (Some before) node deeds → (node ≡ before.number → IsPrefix before.entries deeds) → after.number ≡ before.number → IsPrefix before.entries after.entries
-after_get before after node [] e grows same = as_before before after e
-after_get before after node (d ∷ ds) e grows same =
-    let is = known_one after (prefix node (d ∷ ds)) e in
-    subst (λ (p : PrefixData Deed). IsPrefix before.entries p.entries) (sym is) (grows (sym (ap (λ (p : PrefixData Deed). p.number) is) ∙ same))
-
-pub never_back_at_copies : (J : Type 0) → NeverBackAtCopies J
-never_back_at_copies J (write w) r before after (inl is) same =
-    let heard = known_one after (prefix is.confirmed.acknowledgement.node is.confirmed.acknowledgement.deeds) is.heard in
-    let behind = is.acknowledged.behind in
-    let node = sym behind.copy ∙ (sym (ap (λ (p : PrefixData Deed). p.number) heard) ∙ same) in
-    subst (λ (p : PrefixData Deed). IsPrefix before.entries p.entries) (sym heard) (prefix_trans before.entries is.confirmed.write.deeds is.confirmed.acknowledgement.deeds (is.later node).entries behind.one)
-never_back_at_copies J (bulk ws) r before after (inl is) same =
-    let heard = known_one after is.known is.heard in
-    let node = is.has.bulk.node ∙ (sym (ap (λ (p : PrefixData Deed). p.number) heard) ∙ same) in
-    subst (λ (p : PrefixData Deed). IsPrefix before.entries p.entries) (sym heard) (prefix_trans before.entries is.confirmed.bulk.deeds is.known.entries (is.later node).entries is.has.bulk.entries)
-never_back_at_copies J (get id) r before after (inl is) same = after_get before after is.got.node is.got.deeds is.heard is.later same
-never_back_at_copies J (search q page) r before after (inl is) same = as_before before after is.1
-never_back_at_copies J (count q) r before after (inl is) same = as_before before after is.1
-never_back_at_copies J refresh r before after (inl is) same = as_before before after is.1
-never_back_at_copies J (promote copy) r before after (inl is) same = as_before before after is.1
-never_back_at_copies J c r before after (inr is) same = as_before before after is.1

@@ -47,7 +47,8 @@ use Rattle.front.specs.declared.reply.ItemReply.{ItemReply}
 use Rattle.front.specs.declared.reply.ItemReply.TheVariants as item
 use Rattle.front.specs.Reply.{bulked, refused, wrote}
 use Rattle.shard.specs.Answering.{write_of}
-use Rattle.group.specs.Group.{Heard, IsBulkWritten, IsTold, IsWritten}
+use Rattle.group.specs.Group.{IsBulkWritten, IsTold, IsWritten}
+use Rattle.group.specs.Known.{KnownData}
 use Rattle.promises.specs.Promises.{HasWrite, alone, among}
 use Rattle.promises.specs.Runs.{IsHeldIn, IsKnownOf, WritesAreHeldInRuns}
 use Rattle.promises.proofs.AtCopies.{HasKeptIn, in_bulk, known_one, last_split, replied_same, reply_item, seq_by, written_one, wrote_here}
@@ -296,13 +297,13 @@ held_known mapping n js es made acked known id y seq same led a stands up acks =
       primary = some_primary (world_of mapping n es) (always_in_sync mapping n es made.size.0);
     }
 
-held_write : (J : Type 0) (w : Write) (x : Wrote) (before : Heard) (acked : PrefixData Deed) → IsWritten J before w (wrote x) (Some acked)
+held_write : (J : Type 0) (w : Write) (x : Wrote) (before after : KnownData) (acked : PrefixData Deed) → after.heard ≡ Some acked → IsWritten J before w (wrote x) after
     → (mapping : MappingData) (n : ℕ) (js : List Journal) (es : List Event) → IsMadeOf mapping n js es → IsKnownOf js acked → IsHeldIn (world_of mapping n es) w.id x.seq
-held_write J w x before acked is mapping n js es made known =
+held_write J w x before after acked upto is mapping n js es made known =
     let e = is.acknowledged in
     let r : Receipt = is.confirmed.write in
     let a : Receipt = is.confirmed.acknowledgement in
-    let heard = known_one acked (prefix a.node a.deeds) is.heard in
+    let heard = known_one acked (prefix a.node a.deeds) (sym upto ∙ is.heard) in
     let all : IsPrefix a.deeds acked.entries = subst (λ (p : PrefixData Deed). IsPrefix a.deeds p.entries) (sym heard) ([], append-nil a.deeds) in
     let legal : IsLegal (open_at known.opening) 0 known.deeds = (made.pass acked.number (of_copy known.opening known.deeds) known.journal).1 in
     let split = last_split r.deeds r.place r.deed e.stands.stands e.stands.last in
@@ -311,14 +312,14 @@ held_write J w x before acked is mapping n js es made known =
     held_known mapping n js es made acked known w.id e.written x.seq (seq_by r.deed.answer _ e.written x e.kept is.told)
     (led_at_write mapping n js es made acked.number known.opening known.deeds known.journal legal (write_of w) e.written r.deed at e.asked e.kept) a e.behind.stands all e.acknowledged
 
-held_bulk : (J : Type 0) (ws : List Write) (items : List ItemReply) (place : ℕ) (w : Write) (x : Wrote) (before : Heard) (acked : PrefixData Deed) → slice_get ws place ≡ Some w → slice_get items place ≡ Some (item.Wrote x)
-    → IsBulkWritten J before ws (bulked items) (Some acked)
+held_bulk : (J : Type 0) (ws : List Write) (items : List ItemReply) (place : ℕ) (w : Write) (x : Wrote) (before after : KnownData) (acked : PrefixData Deed) → after.heard ≡ Some acked → slice_get ws place ≡ Some w → slice_get items place ≡ Some (item.Wrote x)
+    → IsBulkWritten J before ws (bulked items) after
     → (mapping : MappingData) (n : ℕ) (js : List Journal) (es : List Event) → IsMadeOf mapping n js es → IsKnownOf js acked → IsHeldIn (world_of mapping n es) w.id x.seq
-held_bulk J ws items place w x before acked there was is mapping n js es made known =
+held_bulk J ws items place w x before after acked upto there was is mapping n js es made known =
     let e = is.acknowledged in
     let r : Receipt = is.confirmed.bulk in
     let acks = is.confirmed.acknowledgements.items in
-    let heard = known_one acked is.known is.heard in
+    let heard = known_one acked is.heard (sym upto ∙ ap (λ (k : KnownData). k.heard) is.now) in
     let told = replied_same items _ is.told.told in
     let one = reply_item acks is.told.items is.confirmed.places.items place x (sym (ap (λ l. slice_get l place) told) ∙ was) in
     let kept : is.told.items ≡ e.settled.items = items_same is.told.items e.settled.items (sym is.told.kept ∙ e.settled.kept) in
@@ -328,7 +329,7 @@ held_bulk J ws items place w x before acked there was is mapping n js es made kn
     let legal : IsLegal (open_at known.opening) 0 known.deeds = (made.pass acked.number (of_copy known.opening known.deeds) known.journal).1 in
     let split = last_split r.deeds r.place r.deed e.stands.stands e.stands.last in
     let first : IsPrefix r.deeds acked.entries = subst (λ (p : PrefixData Deed). IsPrefix r.deeds p.entries) (sym heard) is.has.bulk.entries in
-    let second : IsPrefix a.deeds acked.entries = subst (λ (p : PrefixData Deed). IsPrefix a.deeds p.entries) (sym heard) (All-contains (HasEntry is.known) acks a is.has.each inside).entries in
+    let second : IsPrefix a.deeds acked.entries = subst (λ (p : PrefixData Deed). IsPrefix a.deeds p.entries) (sym heard) (All-contains (HasEntry is.heard) acks a is.has.each inside).entries in
     let at = is_in mapping n js es made acked.number known.opening known.deeds known.journal legal split.0 r.deed
     (subst (λ (ds : List Deed). IsPrefix ds known.deeds) split.1 (prefix_trans r.deeds acked.entries known.deeds first known.goes_on)) in
     held_known mapping n js es made acked known w.id one.written x.seq (sym one.number)
@@ -336,7 +337,7 @@ held_bulk J ws items place w x before acked there was is mapping n js es made kn
     a (All-contains (IsBehind r) acks a e.behind inside).stands second settled.1.acknowledges
 
 pub writes_are_held_in_runs : (J : Type 0) → WritesAreHeldInRuns J
-writes_are_held_in_runs J w x _ _ before acked alone (inl done) = held_write J w x before acked done
-writes_are_held_in_runs J w x _ _ before acked alone (inr refusal) = absurd (let never : wrote x ≡ refused refusal.0.refusal = refusal.0.told in cc)
-writes_are_held_in_runs J w x _ _ before acked (among ws items place there was) (inl done) = held_bulk J ws items place w x before acked there was done
-writes_are_held_in_runs J w x _ _ before acked (among ws items place there was) (inr refusal) = absurd (let never : bulked items ≡ refused refusal.0.refusal = refusal.0.told in cc)
+writes_are_held_in_runs J w x _ _ before after acked alone (inl done) upto = held_write J w x before after acked upto done
+writes_are_held_in_runs J w x _ _ before after acked alone (inr refusal) upto = absurd (let never : wrote x ≡ refused refusal.0.refusal = refusal.0.told in cc)
+writes_are_held_in_runs J w x _ _ before after acked (among ws items place there was) (inl done) upto = held_bulk J ws items place w x before after acked upto there was done
+writes_are_held_in_runs J w x _ _ before after acked (among ws items place there was) (inr refusal) upto = absurd (let never : bulked items ≡ refused refusal.0.refusal = refusal.0.told in cc)

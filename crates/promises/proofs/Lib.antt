@@ -8,6 +8,8 @@ pub mod Connections
 pub mod Copying
 pub mod Standings
 pub mod AtCopies
+pub mod InOrder
+pub mod SeenAtCopies
 pub mod Leading
 pub mod Leaders
 pub mod Events

@@ -1,8 +1,9 @@
 -- What a client of an index of several copies may rely on. It knows the first entries of the journal of the copy that it heard of last.
-use Rattle.std.specs.Prelude.{◌≡◌, ◌++◌, ℕ, Bool, true, false, List, [], ◌∷◌, Option, Some}
+use Rattle.std.specs.Prelude.{◌≡◌, ◌⊎◌, ◌++◌, ℕ, Bool, true, false, List, [], ◌∷◌, Option, Some, IfSome}
 use mathlib.Core.List.{IsPrefix}
 use Rattle.chronicle.specs.Registered.{PrefixData}
 use Rattle.doc.specs.Id.{Id}
+use Rattle.doc.specs.Mapping.{MappingData}
 use Rattle.op.specs.declared.operation.Op as one
 use Rattle.op.specs.declared.message.Content.{Content}
 use Rattle.op.specs.declared.message.Content.TheVariants.{Op, Ack, Promoted, Resync, Track, Recover, Synced, Fail, Removed}
@@ -17,11 +18,12 @@ use Rattle.journal.specs.Journal.{IsLegal, after, open_at}
 use Rattle.front.specs.declared.command.Write.{Write}
 use Rattle.front.specs.declared.reply.Found.{Found}
 use Rattle.front.specs.declared.reply.Wrote.{Wrote}
-use Rattle.front.specs.Command.{Command, get}
+use Rattle.front.specs.Command.{Command, write, bulk, get, search, count, refresh, promote}
 use Rattle.front.specs.Reply.{Reply, got}
 use Rattle.shard.specs.Answering.{reply_of}
-use Rattle.group.specs.Group.{Heard, IsTold}
-use Rattle.promises.specs.Promises.{HasWrite, IsAcknowledged}
+use Rattle.group.specs.Group.{IsTold}
+use Rattle.group.specs.Known.{Heard, KnownData}
+use Rattle.promises.specs.Promises.{HasWrite, IsAcknowledged, IsOver, is_refused, is_search}
 
 -- whether another primary tells by it what the copy has from then on
 abbrev pub resets : Content → Bool
@@ -57,17 +59,54 @@ pub record IsReadAfter (id : Id) (r : Reply) (node : ℕ) (deeds : List Deed) (o
   pub left : os ≡ operations (after (open_at opening) 0 deeds).copy
   pub told : r ≡ reply_of 0 (get_answer (document_of (last_on os id)))
 
--- what a copy has of the id. Where it's the copy that confirmed the write, its entries go on from those that were known then; and where none behind that of
--- the write is a reset, it has the write or a newer one
+-- what a copy has after these entries, which leave it these operations. Where it's the copy that confirmed the write, they go on from those that were known
+-- then; and where none behind that of the write is a reset, it has the write or a newer one
+pub record HasFrom (acked : PrefixData Deed) (id : Id) (seq node : ℕ) (deeds : List Deed) (os : List one.Op) : Type 0 where
+  pub goes_on : node ≡ acked.number → IsPrefix acked.entries deeds
+  pub upto : List Deed
+  pub known : IsPrefix upto acked.entries
+  pub has : node ≡ acked.number → (more : List Deed) → deeds ≡ upto ++ more → AreWithoutReset more → HasWrite id seq os
+
+-- the reply tells what such a copy has of the id
 pub record IsFoundFrom (acked : PrefixData Deed) (id : Id) (seq : ℕ) (r : Reply) : Type 0 where
   pub node : ℕ
   pub deeds : List Deed
   pub os : List one.Op
   pub read : IsReadAfter id r node deeds os
-  pub goes_on : node ≡ acked.number → IsPrefix acked.entries deeds
-  pub upto : List Deed
-  pub known : IsPrefix upto acked.entries
-  pub has : node ≡ acked.number → (more : List Deed) → deeds ≡ upto ++ more → AreWithoutReset more → HasWrite id seq os
+  pub from : HasFrom acked id seq node deeds os
+
+-- the reply tells what a search finds in the copy of this id after these entries of a journal, which leave it these operations
+pub record IsSoughtAfter (c : Command) (r : Reply) (node : ℕ) (deeds : List Deed) (os : List one.Op) : Type 0 where
+  pub opening : Copy
+  pub legal : IsLegal (open_at opening) 0 deeds
+  pub node_is : opening.id ≡ node
+  pub left : os ≡ operations (after (open_at opening) 0 deeds).copy
+  pub mapping : MappingData
+  pub over : IsOver mapping os c r
+
+-- the reply tells what it finds in such a copy
+pub record IsSeenFrom (acked : PrefixData Deed) (id : Id) (seq : ℕ) (c : Command) (r : Reply) : Type 0 where
+  pub node : ℕ
+  pub deeds : List Deed
+  pub os : List one.Op
+  pub sought : IsSoughtAfter c r node deeds os
+  pub from : HasFrom acked id seq node deeds os
+
+-- what was seen of a copy is as it was; or a refresh of a copy was seen, and where the client heard of that copy last, behind all that it heard
+pub record IsRefreshSeen (after : KnownData) : Type 0 where
+  pub seen : PrefixData Deed
+  pub is : after.seen ≡ Some seen
+  pub behind : IfSome after.heard (λ h. seen.number ≡ h.number → IsPrefix h.entries seen.entries)
+
+-- whether a command has copies refreshed
+abbrev pub refreshes : Command → Bool
+refreshes refresh = true
+refreshes (write w) = w.refresh
+refreshes (bulk ws) = false
+refreshes (get id) = false
+refreshes (search q page) = false
+refreshes (count q) = false
+refreshes (promote copy) = false
 
 -- a client knows all that, of that copy
 pub record Knows (p : PrefixData Deed) (heard : Heard) : Type 0 where
@@ -81,9 +120,28 @@ pub record Knows (p : PrefixData Deed) (heard : Heard) : Type 0 where
 -- a client that knows of a write that it is confirmed, and gets the id from that copy, is told the write or a newer one, unless the copy was reset since
 abbrev pub WritesAreFoundAtCopies : Type 0 → Type 0
 WritesAreFoundAtCopies J =
-    (w : Write) (x : Wrote) (asked : Command) (reply : Reply) (o : Option Found) (acked : PrefixData Deed) (before later new : Heard)
-    → IsAcknowledged w x asked reply → IsTold J before asked reply (Some acked) → Knows acked later → IsTold J later (get w.id) (got o) new → IsFoundFrom acked w.id x.seq (got o)
+    (w : Write) (x : Wrote) (asked : Command) (reply : Reply) (o : Option Found) (acked : PrefixData Deed) (before after later new : KnownData)
+    → IsAcknowledged w x asked reply → IsTold J before asked reply after → after.heard ≡ Some acked → Knows acked later.heard → IsTold J later (get w.id) (got o) new → IsFoundFrom acked w.id x.seq (got o)
+
+-- a client that knows of a write that it is confirmed, and has seen that copy since, by a refresh or a search, is told by a search of it what it finds among
+-- documents with the write or a newer one, unless the copy was reset since
+abbrev pub WritesAreSeenAtCopies : Type 0 → Type 0
+WritesAreSeenAtCopies J =
+    (w : Write) (x : Wrote) (asked : Command) (reply : Reply) (c : Command) (r : Reply) (acked : PrefixData Deed) (before after later new : KnownData)
+    → IsAcknowledged w x asked reply → IsTold J before asked reply after → after.heard ≡ Some acked → Knows acked later.seen → IsTold J later c r new
+    → is_search c ≡ true → is_refused r ≡ false → IsSeenFrom acked w.id x.seq c r
+
+-- a client that was told that copies were refreshed, alone or behind a write, has seen that of the primary, unless this was passed over
+abbrev pub RefreshesAreSeenAtCopies : Type 0 → Type 0
+RefreshesAreSeenAtCopies J =
+    (c : Command) (r : Reply) (before after : KnownData) → IsTold J before c r after → refreshes c ≡ true → is_refused r ≡ false → (after.seen ≡ before.seen) ⊎ IsRefreshSeen after
 
 -- what a client knows of a copy by one reply begins what it knows of it by the next
 abbrev pub NeverBackAtCopies : Type 0 → Type 0
-NeverBackAtCopies J = (c : Command) (r : Reply) (before after : PrefixData Deed) → IsTold J (Some before) c r (Some after) → after.number ≡ before.number → IsPrefix before.entries after.entries
+NeverBackAtCopies J =
+    (c : Command) (r : Reply) (before after : KnownData) (p q : PrefixData Deed) → IsTold J before c r after → before.heard ≡ Some p → after.heard ≡ Some q → q.number ≡ p.number → IsPrefix p.entries q.entries
+
+-- and so does what it saw of a copy
+abbrev pub SearchesNeverBackAtCopies : Type 0 → Type 0
+SearchesNeverBackAtCopies J =
+    (c : Command) (r : Reply) (before after : KnownData) (p q : PrefixData Deed) → IsTold J before c r after → before.seen ≡ Some p → after.seen ≡ Some q → q.number ≡ p.number → IsPrefix p.entries q.entries

@@ -17,7 +17,8 @@ use Rattle.front.specs.declared.command.Write.{Write}
 use Rattle.front.specs.declared.reply.Wrote.{Wrote}
 use Rattle.front.specs.Command.{Command}
 use Rattle.front.specs.Reply.{Reply}
-use Rattle.group.specs.Group.{Heard, IsTold}
+use Rattle.group.specs.Group.{IsTold}
+use Rattle.group.specs.Known.{KnownData}
 use Rattle.promises.specs.Promises.{HasWrite, IsAcknowledged}
 
 -- the journal of that copy is among these, and goes on from what is known of it
@@ -37,5 +38,5 @@ pub record IsHeldIn (w : World) (id : Id) (seq : ℕ) : Type 0 where
 -- a write that a client was told as done is held at the end of each run of whose journals one goes on from what the client knows by that
 abbrev pub WritesAreHeldInRuns : Type 0 → Type 0
 WritesAreHeldInRuns J =
-    (w : Write) (x : Wrote) (asked : Command) (reply : Reply) (before : Heard) (acked : PrefixData Deed) → IsAcknowledged w x asked reply → IsTold J before asked reply (Some acked)
+    (w : Write) (x : Wrote) (asked : Command) (reply : Reply) (before after : KnownData) (acked : PrefixData Deed) → IsAcknowledged w x asked reply → IsTold J before asked reply after → after.heard ≡ Some acked
     → (mapping : MappingData) (n : ℕ) (js : List Journal) (es : List Event) → IsMadeOf mapping n js es → IsKnownOf js acked → IsHeldIn (world_of mapping n es) w.id x.seq

@@ -1,6 +1,6 @@
 //! What follows of the replies of an index: of one copy, whatever else is asked of it meanwhile, and however often its log fails and its copy restarts; and
 //! of one of several copies, for a client that goes on asking the copy that it heard of.
-ghost use Rattle.promises.specs.Copies.{NeverBackAtCopies, WritesAreFoundAtCopies};
+ghost use Rattle.promises.specs.Copies.{NeverBackAtCopies, RefreshesAreSeenAtCopies, SearchesNeverBackAtCopies, WritesAreFoundAtCopies, WritesAreSeenAtCopies};
 ghost use Rattle.promises.specs.Runs.{WritesAreHeldInRuns};
 ghost use Rattle.promises.specs.Promises.{WritesAreFound, WritesAreSeen, RefreshedWritesAreSeen, NeverBack, GoesOnAlong};
 
@@ -39,6 +39,24 @@ pub fn connections_go_on<D: LogDevice, N: HistoryName, S: Resumable<Known = Reac
 /// has from then on, by a resync or a recovery. Over one journal, whatever else the copy was asked meanwhile, and however often its log failed.
 pub fn writes_are_found_at_copies<J: RegistryName>()
     ensures { WritesAreFoundAtCopies J }
+{}
+
+/// Of several copies: a search or a count of the copy that confirmed a write, by a client that has seen a refresh of it behind the write, is over documents
+/// in which it is done, or a newer one on its id; unless another primary has told that copy since what it has from then on.
+pub fn writes_are_seen_at_copies<J: RegistryName>()
+    ensures { WritesAreSeenAtCopies J }
+{}
+
+/// Of several copies: a client that is told a refresh, or a write with `refresh=true`, has seen that of the primary then, behind all that it heard of it; unless
+/// the primary's was passed over.
+pub fn refreshes_are_seen_at_copies<J: RegistryName>()
+    ensures { RefreshesAreSeenAtCopies J }
+{}
+
+/// Of several copies: of two searches of one client that are of one copy none is of an earlier place of its journal than the one before it, nor than a
+/// refresh of that copy that it was told.
+pub fn searches_never_go_back_at_copies<J: RegistryName>()
+    ensures { SearchesNeverBackAtCopies J }
 {}
 
 /// Of several copies: of two replies to one client that tell of one copy none is of an earlier place of its journal than the one before it.

@@ -13,10 +13,10 @@ pub trans-StartsWith : (xs ys zs : List Record) → StartsWith ys xs → StartsW
 trans-StartsWith xs ys zs p q = (p.0 ++ q.0, q.1 ∙ (ap (λ w. w ++ q.0) p.1 ∙ append_assoc xs p.0 q.0))
 
 pub self-GoesOn : (a : Listing) → GoesOn a a
-self-GoesOn a = record { cell = refl; mapping = refl; records = self-StartsWith a.records }
+self-GoesOn a = record { cell = refl; registry = refl; mapping = refl; records = self-StartsWith a.records }
 
 pub trans-GoesOn : (a b c : Listing) → GoesOn b a → GoesOn c b → GoesOn c a
-trans-GoesOn a b c p q = record { cell = q.cell ∙ p.cell; mapping = q.mapping ∙ p.mapping; records = trans-StartsWith a.records b.records c.records p.records q.records }
+trans-GoesOn a b c p q = record { cell = q.cell ∙ p.cell; registry = q.registry ∙ p.registry; mapping = q.mapping ∙ p.mapping; records = trans-StartsWith a.records b.records c.records p.records q.records }
 
 pub self-IsPrefix : {A : Type 0} (xs : List A) → IsPrefix xs xs
 self-IsPrefix xs = ([], append-nil xs)

@@ -5,14 +5,15 @@ use Rattle.query.specs.Page.{PageData}
 use Rattle.query.specs.Query.{Query}
 use Rattle.published.specs.declared.listing.Published.{Published}
 use Rattle.published.specs.Listings.{ComesAfter, ComesAfterAll}
+use Rattle.published.specs.Places.{PlaceData}
 use Rattle.published.specs.Told.{listed, IsLatest}
 use Rattle.published.specs.Search.{Finds, FindsIn, IsFloor, IsFoundIn, IsNoLess}
 use Rattle.published.specs.Fresh.{FindsAfter}
 use Rattle.published.proofs.Orders.{self-ComesAfter, trans-ComesAfter, trans-ComesAfterAll, append-ComesAfterAll}
 
-module _ {H E : Type 0} (shown : H → Answer) (q : Query) (page : PageData) where
-  pub found_told : (taken told now : Published) → IsLatest taken told now → (r : Result H E) → IfOk r (λ h. IsFoundIn now q page (shown h))
-      → IfOk r (λ h. FindsIn taken (Some told) q page (shown h))
+module _ {H E : Type 0} (shown : H → Answer) (given : H → PlaceData) (q : Query) (page : PageData) where
+  pub found_told : (taken told now : Published) → IsLatest taken told now → (r : Result H E) → IfOk r (λ h. IsFoundIn now q page (shown h) (given h))
+      → IfOk r (λ h. FindsIn taken (Some told) q page (shown h) (given h))
   found_told taken told now is (Ok h) e = record {
     now = now;
     fresh = is.first;
@@ -22,12 +23,12 @@ module _ {H E : Type 0} (shown : H → Answer) (q : Query) (page : PageData) whe
   }
   found_told taken told now is (Err e') e = tt
 
-  pub found_taken : (taken : Published) → (r : Result H E) → IfOk r (λ h. IsFoundIn taken q page (shown h)) → IfOk r (λ h. FindsIn taken None q page (shown h))
+  pub found_taken : (taken : Published) → (r : Result H E) → IfOk r (λ h. IsFoundIn taken q page (shown h) (given h)) → IfOk r (λ h. FindsIn taken None q page (shown h) (given h))
   found_taken taken (Ok h) e = record { now = taken; fresh = self-ComesAfter taken; later = tt; known = λ later on. on.0; found = e }
   found_taken taken (Err e') e = tt
 
   pub looks_found : (known after : List Published) (taken : Published) (told : Option Published) → ComesAfterAll taken known → after ≡ taken ∷ [] → (r : Result H E)
-      → IfOk r (λ h. FindsIn taken told q page (shown h)) → IfOk r (λ h. Finds (known ++ listed told) (after ++ listed told) q page (shown h))
+      → IfOk r (λ h. FindsIn taken told q page (shown h) (given h)) → IfOk r (λ h. Finds (known ++ listed told) (after ++ listed told) q page (shown h) (given h))
   looks_found known after taken told on is (Ok h) f = record {
     now = f.now;
     later = append-ComesAfterAll known (listed told) f.now (trans-ComesAfterAll known taken f.now on f.fresh) f.later;
@@ -60,7 +61,7 @@ learned-no_less known old t on = record {
       let both = split-ComesAfterAll known t later h in append-ComesAfterAll known (listed old) later both.0 (trans-ComesAfterAll (listed old) t later on both.1);
 }
 
-pub finds_after : {H E : Type 0} (shown : H → Answer) (q : Query) (page : PageData) (before after : List Published) (told : Published) (r : Result H E)
-    → IsFloor told before → IfOk r (λ h. Finds before after q page (shown h)) → IfOk r (λ h. FindsAfter told q page (shown h))
-finds_after shown q page before after told (Ok h) is f = record { now = f.now; later = is f.now f.later; found = f.found }
-finds_after shown q page before after told (Err e) is f = tt
+pub finds_after : {H E : Type 0} (shown : H → Answer) (given : H → PlaceData) (q : Query) (page : PageData) (before after : List Published) (told : Published) (r : Result H E)
+    → IsFloor told before → IfOk r (λ h. Finds before after q page (shown h) (given h)) → IfOk r (λ h. FindsAfter told q page (shown h) (given h))
+finds_after shown given q page before after told (Ok h) is f = record { now = f.now; later = is f.now f.later; found = f.found }
+finds_after shown given q page before after told (Err e) is f = tt

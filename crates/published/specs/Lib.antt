@@ -1,4 +1,5 @@
 pub mod Listings
+pub mod Places
 pub mod Showing
 pub mod Beginning
 pub mod Chain

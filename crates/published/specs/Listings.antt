@@ -12,6 +12,7 @@ StartsWith rs start = (rest : List Record) × (rs ≡ start ++ rest)
 -- a listing goes on from another of its cell
 pub record GoesOn (new old : Listing) : Type 0 where
   pub cell : new.cell ≡ old.cell
+  pub registry : new.registry ≡ old.registry
   pub mapping : new.mapping ≡ old.mapping
   pub records : StartsWith new.records old.records
 

@@ -10,9 +10,8 @@ ghost use Rattle.published.specs.Told.{IsOf};
 
 use crate::name::Name;
 use crate::publisher::Publisher;
-use crate::searcher::SearchFault;
+use crate::searcher::{Found, SearchFault};
 use crate::showing::Showing;
-use engine::Hits;
 use query::{Page, Query};
 use std::alloc::Global;
 use std::marker::Brand;
@@ -26,12 +25,12 @@ fn found_after<N: Name, R: Wait>(
     next: Showing,
     query: &Query,
     page: Page,
-) -> Result<Hits, SearchFault>
+) -> Result<Found, SearchFault>
     requires named { N.named ≡ true }
     requires cell { IsOf N.named N.cell publisher.old.shown }
     requires later { GoesOn (listing publisher.old.book next) publisher.old.top }
     requires next { IsOf N.named N.cell (line_behind publisher.old.book publisher.old.history (listing publisher.old.book next)).shown }
-    ensures { IfOk result (λ h. FindsAfter (line_behind publisher.old.book publisher.old.history (listing publisher.old.book next)).shown (query_view query.now) page (hits_view h)) }
+    ensures { IfOk result (λ f. FindsAfter (line_behind publisher.old.book publisher.old.history (listing publisher.old.book next)).shown (query_view query.now) page (hits_view f.hits) f.place) }
 {
     let Ok(mut searcher) = publisher.searcher::<N>() else {
         return Err(SearchFault::NoMemory);
@@ -54,10 +53,10 @@ pub fn fresh<R: Wait>(
     next: Showing,
     query: &Query,
     page: Page,
-) -> Result<Hits, SearchFault>
+) -> Result<Found, SearchFault>
     requires cell { publisher.old.top.cell ≡ publisher.old.shown.listing.cell }
     requires later { GoesOn (listing publisher.old.book next) publisher.old.top }
-    ensures { IfOk result (λ h. FindsAfter (line_behind publisher.old.book publisher.old.history (listing publisher.old.book next)).shown (query_view query.now) page (hits_view h)) }
+    ensures { IfOk result (λ f. FindsAfter (line_behind publisher.old.book publisher.old.history (listing publisher.old.book next)).shown (query_view query.now) page (hits_view f.hits) f.place) }
 {
     found_after::<Brand, R>(rt, alloc, publisher, next, query, page)
 }

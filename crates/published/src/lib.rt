@@ -7,6 +7,7 @@ pub mod latest;
 pub mod listing;
 pub mod name;
 pub mod note;
+pub mod place;
 pub mod publisher;
 pub mod rule;
 pub mod searcher;
@@ -15,7 +16,8 @@ pub mod shown_records;
 
 pub use name::{Name, Unnamed};
 pub use note::Note;
+pub use place::Place;
 pub use publisher::Publisher;
-pub use searcher::{SearchFault, Searcher};
+pub use searcher::{Found, SearchFault, Searcher};
 pub use showing::Showing;
 pub use shown_records::ShownRecords;

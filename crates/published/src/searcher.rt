@@ -13,6 +13,7 @@ use crate::front::Entry;
 use crate::latest::Latest;
 use crate::name::Name;
 use crate::note::Note;
+use crate::place::Place;
 use crate::rule::{Known, Sees, Shows};
 use core::mem::replace_with;
 use engine::Hits;
@@ -30,16 +31,26 @@ pub enum SearchFault {
     Ended,
 }
 
+/// What a search found, and the place of the copy's journal that it was of.
+#[derive(Drop)]
+pub struct Found {
+    pub hits: Hits,
+    pub place: Place,
+}
+
 pub(crate) type Line = Reader<Latest, Known, Shows>;
 
 /// Searches what is shown.
-fn hits_in(entry: &Entry, alloc: Global, query: &Query, page: Page) -> Result<Hits, SearchFault>
-    ensures found { IfOk result (λ h. IsFoundIn (published_of entry.now) (query_view query.now) page (hits_view h)) }
+fn hits_in(entry: &Entry, alloc: Global, query: &Query, page: Page) -> Result<Found, SearchFault>
+    ensures found { IfOk result (λ f. IsFoundIn (published_of entry.now) (query_view query.now) page (hits_view f.hits) f.place) }
     ensures refused { IfErr result (λ e. e ≡ SearchFault.NoMemory) }
 {
     let _listings = entry.front.count();
     match entry.showing.snapshot.search(alloc, query, page) {
-        Ok(hits) => Ok(hits),
+        Ok(hits) => Ok(Found {
+            hits,
+            place: entry.showing.place.again(),
+        }),
         Err(_) => Err(SearchFault::NoMemory),
     }
 }
@@ -51,9 +62,9 @@ fn hits_of<N: Name>(
     alloc: Global,
     query: &Query,
     page: Page,
-) -> Result<Hits, SearchFault>
+) -> Result<Found, SearchFault>
     requires one { IsOne (published_of taken.now) told.now }
-    ensures found { IfOk result (λ h. FindsIn (published_of taken.now) told.now (query_view query.now) page (hits_view h)) }
+    ensures found { IfOk result (λ f. FindsIn (published_of taken.now) told.now (query_view query.now) page (hits_view f.hits) f.place) }
     ensures refused { IfErr result (λ e. e ≡ SearchFault.NoMemory) }
 {
     match told {
@@ -69,11 +80,11 @@ fn look<N: Name>(
     alloc: Global,
     query: &Query,
     page: Page,
-) -> (Line, Result<Hits, SearchFault>)
+) -> (Line, Result<Found, SearchFault>)
     requires at { IsAt N.named N.cell (view reader.place) }
     requires told { IsTold N.named N.cell told.now }
     ensures at { IsAt N.named N.cell (view result.0.place) }
-    ensures found { IfOk result.1 (λ h. Finds (view reader.place ++ listed told.now) (view result.0.place ++ listed told.now) (query_view query.now) page (hits_view h)) }
+    ensures found { IfOk result.1 (λ f. Finds (view reader.place ++ listed told.now) (view result.0.place ++ listed told.now) (query_view query.now) page (hits_view f.hits) f.place) }
     ensures refused { IfErr result.1 (λ _. IsNoLess (view reader.place ++ listed told.now) (view result.0.place ++ listed told.now)) }
     ensures ended { IsErrOf result.1 Ended → view result.0.place ≡ view reader.place }
 {
@@ -145,8 +156,8 @@ impl<N: Name> Searcher<N> {
     }
 
     /// Searches what is published now: no less than all that is known.
-    pub fn search(&mut self, alloc: Global, query: &Query, page: Page) -> Result<Hits, SearchFault>
-        ensures found { IfOk result (λ h. Finds self.old self.new (query_view query.now) page (hits_view h)) }
+    pub fn search(&mut self, alloc: Global, query: &Query, page: Page) -> Result<Found, SearchFault>
+        ensures found { IfOk result (λ f. Finds self.old self.new (query_view query.now) page (hits_view f.hits) f.place) }
         ensures refused { IfErr result (λ _. IsNoLess self.old self.new) }
         ensures ended { IsErrOf result Ended → self.new ≡ self.old }
     {

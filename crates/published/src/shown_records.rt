@@ -39,4 +39,13 @@ impl ShownRecords {
         };
         Some(ShownRecords { written })
     }
+
+    /// The same once more.
+    pub fn again(&self) -> ShownRecords
+        ensures { result ≡ self.now }
+    {
+        ShownRecords {
+            written: self.written.again(),
+        }
+    }
 }

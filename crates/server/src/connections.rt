@@ -4,8 +4,7 @@ use chronicle::RegistryName;
 use clients::{Clients, Watcher};
 use cluster::Client;
 use doc::Mapping;
-use group::{Chair, Group};
-use node::Heard;
+use group::{Chair, Group, Known};
 use shard::{Desk, HistoryName, Reached, SharedShard};
 use std::alloc::Global;
 use std::sync::Wait;
@@ -86,7 +85,7 @@ pub(crate) struct Index<'a, D: LogDevice, J: RegistryName> {
 pub(crate) fn serve_group<R, D, W, J>(
     rt: &R,
     alloc: Global,
-    clients: &Clients<'_, W, Option<Heard<J>>>,
+    clients: &Clients<'_, W, Known<J>>,
     index: &Index<'_, D, J>,
 ) -> io::Result<()>
 where
@@ -102,9 +101,9 @@ where
 fn serve_chairs<R, D, W, J>(
     rt: &R,
     alloc: Global,
-    clients: &Clients<'_, W, Option<Heard<J>>>,
+    clients: &Clients<'_, W, Known<J>>,
     index: &Index<'_, D, J>,
-    chairs: &[Chair; 8],
+    chairs: &[Chair<J>; 8],
 ) -> io::Result<()>
 where
     R: Threads + Wait + Clock + Sync,
@@ -124,7 +123,7 @@ where
                 mapping: index.mapping,
                 client: index.client,
                 chair: &chairs[lane % CHAIRS],
-                heard: None,
+                known: Known::nothing(),
             };
             clients.run(rt, lane, group)
         },
@@ -135,7 +134,10 @@ where
     Ok(())
 }
 
-fn chairs_of<R: Wait, D: LogDevice, J: RegistryName>(rt: &R, client: &Client<D, J>) -> [Chair; 8] {
+fn chairs_of<R: Wait, D: LogDevice, J: RegistryName>(
+    rt: &R,
+    client: &Client<D, J>,
+) -> [Chair<J>; 8] {
     [
         Chair::new(rt, client),
         Chair::new(rt, client),

@@ -1,4 +1,4 @@
-use Rattle.promises.proofs.AtCopies.{never_back_at_copies}
+use Rattle.promises.proofs.InOrder.{never_back_at_copies}
 use Rattle.promises.proofs.laws.replies_never_go_back_at_copies.Goals as goal
 
 pub returns : goal.returns

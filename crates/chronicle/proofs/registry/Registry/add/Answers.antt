@@ -1,4 +1,4 @@
-use Rattle.std.proofs.Common.{◌≡◌, ◌<◌, ◌∷◌, ◌++◌, [], ℕ, sym, ◌∙◌, ap, subst, rules}
+use Rattle.std.proofs.Common.{◌<◌, ℕ, sym, ◌∙◌, ap, subst, rules}
 use Rattle.chronicle.specs.Ledger.{LedgerData}
 use Rattle.chronicle.specs.declared.registry.Numbered.{Numbered}
 use Rattle.chronicle.specs.Registered.{last_seat, AreRising}

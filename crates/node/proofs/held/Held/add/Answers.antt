@@ -1,9 +1,9 @@
-use Rattle.std.proofs.Common.{◌≡◌, ℕ, List, [], ◌∷◌, ◌++◌, refl, sym, ap, subst, ◌∙◌}
+use Rattle.std.proofs.Common.{◌≡◌, ℕ, List, [], ◌∷◌, ◌++◌, ap, subst, ◌∙◌}
 use Rattle.replica.specs.declared.input.Input.{Input}
 use Rattle.node.specs.Passes.{PassData}
 use Rattle.node.specs.Entry.{Receipt}
 use Rattle.node.specs.Telling.{IsEntered}
-use Rattle.node.proofs.Calls.{entered_there, entered_last_place, call_made, call_refused, call_last}
+use Rattle.node.proofs.Calls.{entered_there, call_made, call_refused, call_last}
 use Rattle.node.proofs.held.Held.add.Goals as goal
 
 pub receipts-kept-requires-clause-there : goal.receipts-kept-requires-clause-there

@@ -1,0 +1,45 @@
+-- Places of a cluster's journals.
+use Rattle.std.proofs.Common.{◌≡◌, ℕ, List, [], ◌∷◌, sym, ap, subst, ◌∙◌}
+use Rattle.chronicle.specs.Registered.{PrefixData, prefix}
+use Rattle.chronicle.specs.Written as chronicle
+use Rattle.engine.specs.Answer.{Answer}
+use Rattle.query.specs.Page.{PageData}
+use Rattle.query.specs.Query.{Query}
+use Rattle.journal.specs.declared.journal.Deed.{Deed}
+use Rattle.node.specs.Entry.{IsJournalOf}
+use Rattle.published.specs.declared.listing.Published.{Published}
+use Rattle.published.specs.Line.{Line}
+use Rattle.published.specs.Listings.{GoesOn}
+use Rattle.published.specs.Places.{PlaceData, place_at}
+use Rattle.published.specs.Search.{Finds, IsNoLess}
+use Rattle.published.specs.Showing.{registry_of}
+use Rattle.cell.specs.Points.{IsPoint, LeadsTo, PointData, place_in, point_of}
+
+-- a place tells a journal of its copy
+pub is_journal : (p : PointData) (u : PrefixData Deed) (n : ℕ) → IsPoint p → u ≡ prefix p.node p.deeds → n ≡ p.node → IsJournalOf n u.entries
+is_journal p u n is same node =
+    subst (λ (w : PrefixData Deed). IsJournalOf n w.entries) (sym same)
+    (subst (λ m. IsJournalOf m p.deeds) (sym node) (record { opening = is.opening; sound = is.sound; legal = is.legal; node_is = is.node_is }))
+
+-- its numbers tell a registry
+pub same_line : (l m : chronicle.Line) → registry_of l ≡ registry_of m → l ≡ m
+same_line l m e = λ i. record { book = record { number = (e i).0; log_name = (e i).1; cells_name = (e i).2 }; first = (e i).3 }
+
+-- what a searcher of a cluster's copy finds is of its journal
+pub found_registry : (l : chronicle.Line) (before after : List Published) (q : Query) (page : PageData) (h : Answer) (at : PlaceData) → LeadsTo l before → Finds before after q page h at → at.registry ≡ l
+found_registry l before after q page h at leads f = same_line at.registry l (f.found.registry ∙ leads f.now f.later)
+
+pub found_leads : (l : chronicle.Line) (before after : List Published) (q : Query) (page : PageData) (h : Answer) (at : PlaceData) → LeadsTo l before → Finds before after q page h at → LeadsTo l after
+found_leads l before after q page h at leads f = λ p on. (f.known p on).listing.registry ∙ leads f.now f.later
+
+pub refused_leads : (l : chronicle.Line) (before after : List Published) → LeadsTo l before → IsNoLess before after → LeadsTo l after
+refused_leads l before after leads less = λ p on. leads p (less.kept p on)
+
+pub found_in : (l : chronicle.Line) (before after : List Published) (q : Query) (page : PageData) (h : Answer) (at : PlaceData) (p : PointData) → at.registry ≡ l → p ≡ point_of at → Finds before after q page h at → Finds before after q page h (place_in l p)
+found_in l before after q page h at p registry is f =
+    let whole : at ≡ place_in l p = (λ i. place_at (registry i) at.node at.deeds at.records) ∙ ap (place_in l) (sym is) in
+    subst (λ (x : PlaceData). Finds before after q page h x) whole f
+
+-- what a cell shows
+pub shown_leads : (l : chronicle.Line) (p : Line) (known : List Published) → GoesOn p.top p.shown.listing → p.top.registry ≡ registry_of l → known ≡ p.shown ∷ [] → LeadsTo l known
+shown_leads l p known on is knows = subst (λ (k : List Published). LeadsTo l k) (sym knows) (λ q after. after.0.listing.registry ∙ sym on.registry ∙ is)

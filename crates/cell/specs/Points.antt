@@ -1,0 +1,36 @@
+-- Places of the journals of a cluster's copies, and searchers of what these show.
+use Rattle.std.specs.Prelude.{◌≡◌, ℕ, List}
+use mathlib.Core.List.{IsPrefix}
+use Rattle.chronicle.specs.Registered.{PrefixData}
+use Rattle.chronicle.specs.Written.{Line}
+use Rattle.op.specs.declared.record.Record.{Record}
+use Rattle.journal.specs.declared.journal.Deed.{Deed}
+use Rattle.published.specs.declared.listing.Published.{Published}
+use Rattle.published.specs.Listings.{ComesAfterAll}
+use Rattle.published.specs.Places.{PlaceData, IsStanding, place_at}
+use Rattle.published.specs.Showing.{registry_of}
+
+-- the copy's number, the entries before the place, and the records that the copy has there
+pub record PointData : Type 0 where
+  pub node : ℕ
+  pub deeds : List Deed
+  pub records : List Record
+
+abbrev pub point_of : PlaceData → PointData
+point_of p = record { node = p.node; deeds = p.deeds; records = p.records }
+
+-- the place, of a journal of this registry
+abbrev pub place_in : Line → PointData → PlaceData
+place_in l p = place_at l p.node p.deeds p.records
+
+-- they are those after a legal journal
+abbrev pub IsPoint : PointData → Type 0
+IsPoint p = IsStanding p.node p.deeds p.records
+
+-- the place is of another copy, or of this one behind all of these entries
+abbrev pub IsShownBehind : PrefixData Deed → PointData → Type 0
+IsShownBehind h p = p.node ≡ h.number → IsPrefix h.entries p.deeds
+
+-- whatever comes after all that is known is of a journal of this registry
+abbrev pub LeadsTo : Line → List Published → Type 0
+LeadsTo l known = (p : Published) → ComesAfterAll p known → p.listing.registry ≡ registry_of l

@@ -1,0 +1,131 @@
+//! Searches of what the primary of several copies shows.
+ghost use Rattle.std.specs.Prelude.{◌≡◌, IfOk, IfSome};
+ghost use Rattle.engine.specs.Shown.{hits_view};
+ghost use Rattle.query.specs.View.{query_view};
+ghost use Rattle.front.specs.ReplyView.{reply_view};
+ghost use Rattle.shard.specs.Answering as spec;
+ghost use Rattle.group.specs.Known.{IsLed};
+ghost use Rattle.group.specs.Searching.{IsFoundAt};
+
+use cell::{CopySearcher, FoundAt};
+use chronicle::RegistryName;
+use cluster::{Client, ClusterFault};
+use engine::Hits;
+use front::reply::Reply;
+use published::SearchFault;
+use query::{Page, Query};
+use replica::CopyFault;
+use shard::answering::hits_of;
+use std::alloc::{AllocError, Global};
+use std::sync::{Mutex, Wait};
+use translog::LogDevice;
+
+/// A searcher of a copy.
+#[derive(Drop)]
+struct Seat<J: RegistryName> {
+    copy: u32,
+    searcher: CopySearcher<J>,
+}
+
+/// A place for a searcher. A copy has eight seats, so where there are more threads some share a place, and one of them waits for the search of another
+/// there, and for no write.
+#[derive(Drop)]
+pub struct Chair<J: RegistryName> {
+    seat: Mutex<Option<Seat<J>>>,
+}
+
+impl<J: RegistryName> Chair<J> {
+    /// A place with a searcher of the primary where that can be had; else the first search there asks for it.
+    pub fn new<R: Wait, D: LogDevice>(rt: &R, client: &Client<D, J>) -> Chair<J> {
+        Chair {
+            seat: Mutex::new(seat_of(rt, client).ok()),
+        }
+    }
+
+    /// What a search by a searcher of the primary finds.
+    pub(crate) fn search<R: Wait, D: LogDevice>(
+        &self,
+        rt: &R,
+        alloc: Global,
+        client: &Client<D, J>,
+        query: &Query,
+        page: Page,
+    ) -> Result<FoundAt<J>, ClusterFault>
+        ensures { IfOk result (λ f. IsFoundAt (query_view query.now) page (hits_view f.hits) f.point) }
+    {
+        let mut held = self.seat.lock(rt);
+        let mut seat = seated(rt, client, held.take())?;
+        let found = found_by(&mut seat, alloc, query, page);
+        if found.is_ok() {
+            *held = Some(seat);
+        }
+        found
+    }
+}
+
+/// A searcher of the primary.
+fn seat_of<R: Wait, D: LogDevice, J: RegistryName>(
+    rt: &R,
+    client: &Client<D, J>,
+) -> Result<Seat<J>, ClusterFault>
+    ensures { IfOk result (λ s. IsLed s.copy) }
+{
+    let copy = client.primary(rt);
+    let searcher = client.searcher(rt, copy)?;
+    Ok(Seat { copy, searcher })
+}
+
+/// A searcher of the primary: the one of before, or where another copy leads now a new one.
+fn seated<R: Wait, D: LogDevice, J: RegistryName>(
+    rt: &R,
+    client: &Client<D, J>,
+    before: Option<Seat<J>>,
+) -> Result<Seat<J>, ClusterFault>
+    ensures { IfOk result (λ s. IsLed s.copy) }
+{
+    if let Some(seat) = before {
+        if seat.copy == client.primary(rt) {
+            return Ok(seat);
+        }
+    }
+    seat_of(rt, client)
+}
+
+/// What a searcher finds, where that is of its copy.
+#[tactic(auto, using(crate::proofs::Found::found_at))]
+fn found_by<J: RegistryName>(
+    seat: &mut Seat<J>,
+    alloc: Global,
+    query: &Query,
+    page: Page,
+) -> Result<FoundAt<J>, ClusterFault>
+    requires { IsLed seat.old.copy }
+    ensures { IfOk result (λ f. IsFoundAt (query_view query.now) page (hits_view f.hits) f.point) }
+{
+    match seat.searcher.search(alloc, query, page) {
+        Ok(found) => if found.point.node() == seat.copy {
+            Ok(found)
+        } else {
+            Err(ClusterFault::Stray(found.point.entries()))
+        },
+        Err(fault) => Err(unsearched(fault)),
+    }
+}
+
+/// Why a search has no hits. A searcher is let in no more once its copy has ended.
+fn unsearched(fault: SearchFault) -> ClusterFault {
+    match fault {
+        SearchFault::NoMemory => ClusterFault::NoMemory,
+        SearchFault::Ended => ClusterFault::Copy(CopyFault::Closed),
+    }
+}
+
+/// The reply that tells the hits.
+#[tactic(auto, using(crate::proofs::Found::each_in_turn))]
+pub(crate) fn reply_with(alloc: Global, found: Hits) -> Result<Reply, AllocError>
+    ensures { IfOk result (λ r. reply_view r ≡ spec.hits_of (hits_view found)) }
+{
+    let Hits { total, hits } = found;
+    let hits = hits_of(alloc, hits)?;
+    Ok(Reply::Hits(total, hits))
+}

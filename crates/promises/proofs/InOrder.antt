@@ -1,0 +1,80 @@
+-- What a client knows of copies never goes back.
+use Rattle.std.proofs.Common.{◌≡◌, ◌⊎◌, ℕ, Bool, true, false, List, [], ◌∷◌, Some, inl, inr, refl, sym, ap, subst, ◌∙◌, append-nil, ⊎_elim}
+use Rattle.std.specs.Prelude.{IfSome}
+use mathlib.Core.List.{IsPrefix}
+use Rattle.chronicle.specs.Registered.{PrefixData, prefix}
+use Rattle.chronicle.proofs.Lines.{prefix_trans}
+use Rattle.journal.specs.declared.journal.Deed.{Deed}
+use Rattle.node.specs.Entry.{Receipt}
+use Rattle.node.specs.Heard.{IsAheadOf, IsNotBefore}
+use Rattle.cell.specs.Points.{IsShownBehind}
+use Rattle.front.specs.Command.{Command, write, bulk, get, search, count, refresh, promote}
+use Rattle.front.specs.Reply.{Reply}
+use Rattle.group.specs.Known.{Heard, KnownData, HasRefreshed, IsSeenAmong, heard_by}
+use Rattle.promises.specs.Copies.{NeverBackAtCopies, SearchesNeverBackAtCopies}
+use Rattle.promises.proofs.AtCopies.{known_one}
+
+self : (xs : List Deed) → IsPrefix xs xs
+self xs = ([], append-nil xs)
+
+module _ (before after : Heard) (p q : PrefixData Deed) (was : before ≡ Some p) (is : after ≡ Some q) where
+  as_before : after ≡ before → IsPrefix p.entries q.entries
+  as_before same = subst (λ (x : PrefixData Deed). IsPrefix p.entries x.entries) (known_one p q (sym was ∙ sym same ∙ is)) (self p.entries)
+
+  -- what comes next of the same copy begins with all of it
+  as_next : (node : ℕ) (deeds : List Deed) → after ≡ Some (prefix node deeds) → (node ≡ p.number → IsPrefix p.entries deeds) → q.number ≡ p.number → IsPrefix p.entries q.entries
+  as_next node deeds next grows same =
+      let one = known_one q (prefix node deeds) (sym is ∙ next) in
+      subst (λ (x : PrefixData Deed). IsPrefix p.entries x.entries) (sym one) (grows (sym (ap (λ (x : PrefixData Deed). x.number) one) ∙ same))
+
+  as_told : (node : ℕ) (deeds : List Deed) → after ≡ heard_by before node deeds → (node ≡ p.number → IsPrefix p.entries deeds) → q.number ≡ p.number → IsPrefix p.entries q.entries
+  as_told node [] next grows same = as_before next
+  as_told node (d ∷ ds) next grows same = as_next node (d ∷ ds) next grows same
+
+  as_seen : (heard : Heard) (entries : List Receipt) → IsSeenAmong heard before entries after → q.number ≡ p.number → IsPrefix p.entries q.entries
+  as_seen heard entries s same =
+      let ahead : IsAheadOf p s.entry = subst (λ (h : Heard). IfSome h (λ x. IsAheadOf x s.entry)) was s.seen.unseen in
+      as_next s.entry.node s.entry.deeds s.seen.seen (λ node. (ahead node).entries) same
+
+  as_refreshed : (heard : Heard) (copies : ℕ) → HasRefreshed heard before copies after → q.number ≡ p.number → IsPrefix p.entries q.entries
+  as_refreshed heard copies r same = ⊎_elim (λ (e : after ≡ before). as_before e) (λ (s : IsSeenAmong heard before r.entries after). as_seen heard r.entries s same) r.seen
+
+  as_wanted : (b : Bool) (heard : Heard) → (b ≡ true → (copies : ℕ) × HasRefreshed heard before copies after) → (b ≡ false → after ≡ before) → q.number ≡ p.number → IsPrefix p.entries q.entries
+  as_wanted true heard does other same = let r = does refl in as_refreshed heard r.0 r.1 same
+  as_wanted false heard does other same = as_before (other refl)
+
+heard_of : (k l : KnownData) → k ≡ l → k.heard ≡ l.heard
+heard_of k l e = ap (λ (x : KnownData). x.heard) e
+
+seen_of : (k l : KnownData) → k ≡ l → k.seen ≡ l.seen
+seen_of k l e = ap (λ (x : KnownData). x.seen) e
+
+pub never_back_at_copies : (J : Type 0) → NeverBackAtCopies J
+never_back_at_copies J (write w) r before after p q (inl is) was now same =
+    let behind = is.acknowledged.behind in
+    let ahead : IsAheadOf p is.confirmed.write = subst (λ (h : Heard). IfSome h (λ x. IsAheadOf x is.confirmed.write)) was is.later in
+    as_next before.heard after.heard p q was now is.confirmed.acknowledgement.node is.confirmed.acknowledgement.deeds is.heard
+    (λ node. prefix_trans p.entries is.confirmed.write.deeds is.confirmed.acknowledgement.deeds (ahead (sym behind.copy ∙ node)).entries behind.one) same
+never_back_at_copies J (bulk ws) r before after p q (inl is) was now same =
+    let ahead : IsAheadOf p is.confirmed.bulk = subst (λ (h : Heard). IfSome h (λ x. IsAheadOf x is.confirmed.bulk)) was is.later in
+    as_next before.heard after.heard p q was now is.heard.number is.heard.entries (ap (λ (x : KnownData). x.heard) is.now)
+    (λ node. prefix_trans p.entries is.confirmed.bulk.deeds is.heard.entries (ahead (is.has.bulk.node ∙ node)).entries is.has.bulk.entries) same
+never_back_at_copies J (get id) r before after p q (inl is) was now same =
+    as_told before.heard after.heard p q was now is.got.node is.got.deeds (ap (λ (x : KnownData). x.heard) is.now) (subst (λ (h : Heard). IfSome h (λ x. IsNotBefore x is.got)) was is.later) same
+never_back_at_copies J (search query page) r before after p q (inl is) was now same = as_before before.heard after.heard p q was now (ap (λ (x : KnownData). x.heard) is.seen.now)
+never_back_at_copies J (count query) r before after p q (inl is) was now same = as_before before.heard after.heard p q was now (ap (λ (x : KnownData). x.heard) is.seen.now)
+never_back_at_copies J refresh r before after p q (inl is) was now same = as_before before.heard after.heard p q was now is.heard
+never_back_at_copies J (promote copy) r before after p q (inl is) was now same = as_before before.heard after.heard p q was now (heard_of after before is.1)
+never_back_at_copies J c r before after p q (inr is) was now same = as_before before.heard after.heard p q was now (heard_of after before is.1)
+
+pub searches_never_back_at_copies : (J : Type 0) → SearchesNeverBackAtCopies J
+searches_never_back_at_copies J (write w) r before after p q (inl is) was now same = as_wanted before.seen after.seen p q was now w.refresh after.heard is.seen.refreshed is.seen.unrefreshed same
+searches_never_back_at_copies J (bulk ws) r before after p q (inl is) was now same = as_before before.seen after.seen p q was now (ap (λ (x : KnownData). x.seen) is.now)
+searches_never_back_at_copies J (get id) r before after p q (inl is) was now same = as_before before.seen after.seen p q was now (ap (λ (x : KnownData). x.seen) is.now)
+searches_never_back_at_copies J (search query page) r before after p q (inl is) was now same =
+    as_told before.seen after.seen p q was now is.seen.at.node is.seen.at.deeds (ap (λ (x : KnownData). x.seen) is.seen.now) (subst (λ (h : Heard). IfSome h (λ x. IsShownBehind x is.seen.at)) was is.seen.later) same
+searches_never_back_at_copies J (count query) r before after p q (inl is) was now same =
+    as_told before.seen after.seen p q was now is.seen.at.node is.seen.at.deeds (ap (λ (x : KnownData). x.seen) is.seen.now) (subst (λ (h : Heard). IfSome h (λ x. IsShownBehind x is.seen.at)) was is.seen.later) same
+searches_never_back_at_copies J refresh r before after p q (inl is) was now same = as_refreshed before.seen after.seen p q was now before.heard is.copies is.done same
+searches_never_back_at_copies J (promote copy) r before after p q (inl is) was now same = as_before before.seen after.seen p q was now (seen_of after before is.1)
+searches_never_back_at_copies J c r before after p q (inr is) was now same = as_before before.seen after.seen p q was now (seen_of after before is.1)

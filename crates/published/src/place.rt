@@ -1,0 +1,81 @@
+//! Places of copies' journals, with what a copy has there.
+ghost use Rattle.std.specs.Prelude.{◌≡◌, length};
+ghost use Rattle.chronicle.specs.Registered.{upto};
+ghost use Rattle.published.specs.Places.{place_at, IsStanding};
+
+use crate::shown_records::ShownRecords;
+use chronicle::Upto;
+use journal::Deed;
+use std::marker::Model;
+
+/// A place of a copy's journal. Contracts see which registry the journal is of, the copy's number, the entries before the place and the records that the
+/// copy has there.
+#[derive(Drop)]
+pub struct Place {
+    node: u32,
+    entries: u64,
+    records: ShownRecords,
+    upto: Upto<Deed>,
+}
+
+impl Model for Place {
+    ghost use Rattle.std.specs.Prelude.{◌≡◌, length};
+    ghost use Rattle.published.specs.Places.{place_at, IsStanding, PlaceData};
+
+    ghost Value = { PlaceData };
+
+    ghost view = { λ p. place_at p.upto.registry p.node p.upto.entries p.records };
+
+    ghost invariant = { λ p. (p.upto.number ≡ p.node) × (p.entries ≡ length p.upto.entries) × IsStanding p.node p.upto.entries p.records };
+}
+
+impl Place {
+    /// So many entries stand before it.
+    pub fn of(node: u32, entries: u64, records: ShownRecords, upto: Upto<Deed>) -> Place
+        requires number { upto.number ≡ node }
+        requires entries { entries ≡ length upto.entries }
+        requires standing { IsStanding node upto.entries records }
+        ensures { result ≡ place_at upto.registry node upto.entries records }
+    {
+        Place {
+            node,
+            entries,
+            records,
+            upto,
+        }
+    }
+
+    /// The same once more.
+    pub fn again(&self) -> Place
+        ensures { result ≡ self.now }
+    {
+        Place {
+            node: self.node,
+            entries: self.entries,
+            records: self.records.again(),
+            upto: self.upto.again(),
+        }
+    }
+
+    /// The number of the copy.
+    pub fn node(&self) -> u32
+        ensures is { result ≡ self.now.node }
+        ensures standing { IsStanding self.now.node self.now.deeds self.now.records }
+    {
+        self.node
+    }
+
+    /// How many entries stand before it.
+    pub fn entries(&self) -> u64
+        ensures { result ≡ length self.now.deeds }
+    {
+        self.entries
+    }
+
+    /// The entries before it.
+    pub fn upto(&self) -> &Upto<Deed>
+        ensures { result.now ≡ upto self.now.registry self.now.node self.now.deeds }
+    {
+        &self.upto
+    }
+}
