@@ -16,6 +16,17 @@ seat_at number line = record { number = number; line = line }
 abbrev pub seat_coded : Coded SeatData
 seat_coded = coded_via (coded× coded_ℕ line_coded) (λ (s : SeatData). (s.number, s.line)) (λ x y e i. record { number = (e i).0; line = (e i).1 })
 
+-- which registry it is, and which ledger stands beside it
+pub record NamesData : Type 0 where
+  pub registry : Line
+  pub ledger : Line
+
+abbrev pub names : Line → Line → NamesData
+names registry ledger = record { registry = registry; ledger = ledger }
+
+abbrev pub names_coded : Coded NamesData
+names_coded = coded_via (coded× line_coded line_coded) (λ (n : NamesData). (n.registry, n.ledger)) (λ x y e i. record { registry = (e i).0; ledger = (e i).1 })
+
 -- the first entries of the ledger with this number
 pub record PrefixData (E : Type 0) : Type 0 where
   pub number : ℕ

@@ -88,6 +88,30 @@ impl<E: Drop> Ledger<E> {
         }
     }
 
+    /// The same, of which memory is to have all entries.
+    pub fn keep(self, alloc: Global) -> Ledger<E>
+        requires { self.entries ≡ [] }
+        ensures { result ≡ recorded self.line true false [] }
+    {
+        let Ledger {
+            chronicle,
+            writer,
+            last,
+            count,
+            ready: _,
+            memory,
+        } = self;
+        drop(memory);
+        Ledger {
+            chronicle,
+            writer,
+            last,
+            count,
+            ready: false,
+            memory: Memory::All(Vec::new(alloc)),
+        }
+    }
+
     /// Whether memory has all entries.
     pub fn is_kept(&self) -> bool
         ensures { result ≡ self.now.kept }

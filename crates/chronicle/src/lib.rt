@@ -2,10 +2,12 @@
 #![tactic(auto)]
 
 mod chronicle;
+mod entries;
 mod law;
 mod ledger;
 mod mark;
 mod name;
+mod named;
 mod prefix;
 mod registered;
 mod registry;
@@ -14,11 +16,13 @@ mod upto;
 mod writer;
 
 pub use chronicle::Chronicle;
+pub use entries::Entries;
 pub use ledger::Ledger;
 pub use mark::Mark;
 pub use name::RegistryName;
+pub use named::{Blank, NamedLedger};
 pub use prefix::Prefix;
 pub use registered::Registered;
-pub use registry::{Numbered, Registry, Unnamed};
+pub use registry::{Ledgers, Numbered, Registry, Unnamed};
 pub use upto::Upto;
 pub use writer::Writer;

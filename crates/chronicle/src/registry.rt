@@ -5,6 +5,7 @@ ghost use Rattle.chronicle.specs.Registered.{last_seat, registered};
 use crate::chronicle::Chronicle;
 use crate::ledger::Ledger;
 use crate::name::RegistryName;
+use crate::named::Blank;
 use crate::registered::Registered;
 use crate::seat::Seat;
 use crate::writer::Writer;
@@ -17,47 +18,68 @@ pub struct Numbered<E> {
     pub ledger: Ledger<E>,
 }
 
-/// A registry that has no name yet. Contracts see which one it is.
+/// A registry and the ledger beside it, which have no name yet. Contracts see which they are.
 #[derive(Drop)]
-pub struct Unnamed<E> {
+pub struct Unnamed<E, F> {
     chronicle: Chronicle<Numbered<E>>,
     writer: Writer<Numbered<E>>,
+    ledger: Ledger<F>,
 }
 
-impl<E> Model for Unnamed<E> {
-    ghost use Rattle.std.specs.Prelude.{◌≡◌, []};
-    ghost use Rattle.chronicle.specs.Written.{Line, line_coded};
+impl<E, F> Model for Unnamed<E, F> {
+    ghost use Rattle.std.specs.Prelude.{◌≡◌, [], false};
+    ghost use Rattle.chronicle.specs.Ledger.{recorded};
+    ghost use Rattle.chronicle.specs.Registered.{names, names_coded, NamesData};
 
-    ghost Value = { Line };
+    ghost Value = { NamesData };
 
-    ghost coded = { line_coded };
+    ghost coded = { names_coded };
 
-    ghost view = { λ u. u.writer.line };
+    ghost view = { λ u. names u.writer.line u.ledger.line };
 
-    ghost invariant = { λ u. (u.writer.line.book ≡ u.chronicle) × (u.writer.entries ≡ []) };
+    ghost invariant = { λ u. (u.writer.line.book ≡ u.chronicle) × (u.writer.entries ≡ []) × (u.ledger ≡ recorded u.ledger.line false false []) };
 }
 
-impl<E> Unnamed<E> {
-    /// A new one, that is empty.
-    pub fn new() -> Unnamed<E> {
+impl<E, F: Drop> Unnamed<E, F> {
+    /// New ones, that are empty.
+    pub fn new() -> Unnamed<E, F> {
         let chronicle = Chronicle::new();
         let writer = chronicle.writer();
-        Unnamed { chronicle, writer }
-    }
-
-    /// The registry, under its name.
-    pub fn named<N: RegistryName>(self) -> Registry<E, N>
-        requires { self ≡ N.registry }
-        ensures { result ≡ [] }
-    {
-        let Unnamed { chronicle, writer } = self;
-        Registry {
+        Unnamed {
             chronicle,
             writer,
-            last: 0,
-            of: PhantomData,
+            ledger: Ledger::unkept(),
         }
     }
+
+    /// The registry and the ledger, under their name.
+    pub fn named<N: RegistryName>(self) -> Ledgers<E, F, N>
+        requires registry { self.registry ≡ N.registry }
+        requires ledger { self.ledger ≡ N.ledger }
+        ensures { result.registry ≡ [] }
+    {
+        let Unnamed {
+            chronicle,
+            writer,
+            ledger,
+        } = self;
+        Ledgers {
+            registry: Registry {
+                chronicle,
+                writer,
+                last: 0,
+                of: PhantomData,
+            },
+            blank: Blank::of(ledger),
+        }
+    }
+}
+
+/// The ledgers of one owner, under its name: the registry for those that have numbers, and the one beside it, which has no entries yet.
+#[derive(Drop)]
+pub struct Ledgers<E, F, N: RegistryName> {
+    pub registry: Registry<E, N>,
+    pub blank: Blank<F, N>,
 }
 
 /// The ledgers of one owner. Contracts see each as it was when it was registered. Whoever has it alone can add one.

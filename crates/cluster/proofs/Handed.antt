@@ -1,8 +1,7 @@
 -- Receipts in journals that are handed out.
-use Rattle.std.proofs.Common.{◌≡◌, ◌+◌, ℕ, List, [], ◌∷◌, ◌++◌, length, append-nil, Result, Ok, Err, IfOk, sym, ap, subst, ◌∙◌}
-use Rattle.std.specs.Prelude.{All, Option, Some, None, IfNone, IfSome, Vec}
+use Rattle.std.proofs.Common.{◌≡◌, ◌+◌, ℕ, List, [], ◌∷◌, ◌++◌, length, append-nil, sym, ap, subst, ◌∙◌}
+use Rattle.std.specs.Prelude.{All, Option, Some, None, IfNone, IfSome}
 use mathlib.Core.List.{IsPrefix}
-use Rattle.std.specs.declared.alloc.Global.{Global}
 use Rattle.chronicle.specs.Registered.{PrefixData, prefix}
 use Rattle.journal.specs.declared.journal.Deed.{Deed}
 use Rattle.journal.specs.declared.journal.Journal.{Journal}
@@ -12,9 +11,9 @@ use Rattle.journal.specs.Lawful.{IsLawful}
 use Rattle.replica.specs.Copy.{Copy}
 use Rattle.node.specs.Entry.{Receipt}
 use Rattle.node.specs.Heard.{HasEntry}
-use Rattle.cluster.specs.declared.fault.ClusterFault.{ClusterFault}
 use Rattle.node.specs.Passes.{PassData}
 use Rattle.node.specs.Gathered.{deed_at, receipts_of, AreGathered, IsWhole}
+use Rattle.ruled.specs.declared.entry.MasterEntry.{MasterEntry}
 use Rattle.cluster.specs.Journals.{copies_in, deeds_of, node_of, AreHandedOut, BeginsWithMaster, HasReceipt, IsAllOf, IsLegalJournal, IsOfOneCaller, RiseFrom, StandsIn}
 
 all_of : (h : Option (PrefixData Deed)) (opening : Copy) (deeds : List Deed) → IfSome h (λ p. p ≡ prefix opening.id deeds) → IfNone h (deeds ≡ []) → IsAllOf (OfCopy opening deeds) h
@@ -40,11 +39,9 @@ has_receipt j h r all entry stands = record {
 }
 
 -- what stands in the journals of the workers stands in those that are handed out
-pub handed_out : (r : Result (Vec Journal Global) ClusterFault) (ls : List Journal) (rs : List Receipt) (n : ℕ) → IfOk r (λ js. All IsLegalJournal js.items) → IfOk r (λ js. length js.items ≡ n + 1)
-    → IfOk r (λ js. copies_in js.items ≡ ls) → IfOk r (λ js. BeginsWithMaster js.items) → RiseFrom 0 ls → All IsOfOneCaller ls → All (StandsIn ls) rs
-    → IfOk r (λ js. AreHandedOut n rs js.items)
-handed_out (Err e) ls rs n legal all same master order own stand = tt
-handed_out (Ok js) ls rs n legal all same master order own stand = record {
+pub handed_out : (js ls : List Journal) (past : List MasterEntry) (rs : List Receipt) (n : ℕ) → All IsLegalJournal js → length js ≡ n + 1 → copies_in js ≡ ls → BeginsWithMaster past js
+    → RiseFrom 0 ls → All IsOfOneCaller ls → All (StandsIn ls) rs → AreHandedOut n rs past js
+handed_out js ls past rs n legal all same master order own stand = record {
   legal = legal;
   all = all;
   master = master;

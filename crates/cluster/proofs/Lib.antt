@@ -4,4 +4,3 @@ pub mod Kept
 pub mod Confirming
 pub mod Handed
 pub mod Refreshes
-pub mod Rulings

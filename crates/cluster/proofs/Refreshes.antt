@@ -7,7 +7,8 @@ use Rattle.op.specs.Ids.{has}
 use Rattle.replica.specs.declared.input.Input.TheVariants.{Refresh}
 use Rattle.cluster.specs.Confirmed.{IsAnswerTo}
 use Rattle.cluster.specs.Refreshed.{AreAbove, AreBelow, AreRefreshed, AreSoFar, IsRefreshOf}
-use Rattle.cluster.specs.Ruled.{IsKnown}
+use Rattle.ruled.specs.declared.entry.MasterEntry.{MasterEntry}
+use Rattle.ruled.specs.Entries.{IsKnown}
 
 pub refreshed_by : (copy : ℕ) (r : Receipt) → IsAnswerTo copy Refresh r × IsEntry r × IsOk r.deed.answer → IsRefreshOf copy r
 refreshed_by copy r is = record { answers = is.0; stands = is.1; accepted = is.2 }
@@ -41,5 +42,8 @@ one_more s id rs r is new synced =
       below = below_snoc (id + 1) rs r (below_more id (id + 1) rs (omega arith) is.below) (omega (arith, node));
     }
 
-pub all_so_far : (s : State) (id : ℕ) (rs : List Receipt) → IsKnown s → AreSoFar s id rs → AreRefreshed rs
-all_so_far s id rs known is = record { state = s; known = known; each = is.each }
+pub all_so_far : (s : State) (id : ℕ) (rs : List Receipt) → AreSoFar s id rs → AreAbove s 0 rs
+all_so_far s id rs is = is.each
+
+pub are_refreshed : (past : List MasterEntry) (s : State) (primary : ℕ) (rs : List Receipt) → IsKnown past s → primary ≡ s.primary → AreAbove s 0 rs → AreRefreshed past primary rs
+are_refreshed past s primary rs known leads each = record { state = s; known = known; leads = leads; each = each }

@@ -8,6 +8,8 @@ use Rattle.journal.specs.declared.journal.Journal.TheVariants.{OfMaster, OfCopy}
 use Rattle.journal.specs.Lawful.{IsLawful}
 use Rattle.node.specs.Entry.{Receipt}
 use Rattle.node.specs.Gathered.{deed_at, AreGathered, IsWhole}
+use Rattle.ruled.specs.declared.entry.MasterEntry.{MasterEntry}
+use Rattle.ruled.specs.Entries.{IsJournalOf}
 
 -- each entry of the journal is legal
 pub record IsLegalJournal (j : Journal) : Type 0 where
@@ -33,14 +35,10 @@ abbrev pub copies_in : List Journal → List Journal
 copies_in [] = []
 copies_in (j ∷ js) = js
 
-abbrev pub IsMasters : Journal → Type 0
-IsMasters (OfMaster state rulings) = Unit {0}
-IsMasters (OfCopy opening deeds) = ⊥
-
--- the first is the master's
-abbrev pub BeginsWithMaster : List Journal → Type 0
-BeginsWithMaster [] = ⊥
-BeginsWithMaster (j ∷ js) = IsMasters j
+-- the first is the master's, with these entries
+abbrev pub BeginsWithMaster : List MasterEntry → List Journal → Type 0
+BeginsWithMaster past [] = ⊥
+BeginsWithMaster past (j ∷ js) = IsJournalOf past j
 
 -- each is of a copy with a greater id than the one before it, and than this
 abbrev pub RiseFrom : ℕ → List Journal → Type 0
@@ -65,12 +63,12 @@ pub record HasReceipt (r : Receipt) (j : Journal) : Type 0 where
 pub record StandsIn (js : List Journal) (r : Receipt) : Type 0 where
   pub one : Any (HasReceipt r) js
 
--- what is handed out where a cluster of so many copies ends: the master's journal first, then those of the copies in the order of their ids, each legal
--- and of one caller, in which these receipts stand
-pub record AreHandedOut (copies : ℕ) (receipts : List Receipt) (js : List Journal) : Type 0 where
+-- what is handed out where a cluster of so many copies ends: the master's journal first, with these entries, then those of the copies in the order of
+-- their ids, each legal and of one caller, in which these receipts stand
+pub record AreHandedOut (copies : ℕ) (receipts : List Receipt) (past : List MasterEntry) (js : List Journal) : Type 0 where
   pub legal : All IsLegalJournal js
   pub all : length js ≡ copies + 1
-  pub master : BeginsWithMaster js
+  pub master : BeginsWithMaster past js
   pub order : RiseFrom 0 (copies_in js)
   pub gathered : All IsOfOneCaller (copies_in js)
   pub stand : All (StandsIn (copies_in js)) receipts

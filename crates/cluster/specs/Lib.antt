@@ -1,7 +1,6 @@
 pub mod Bulks
 pub mod Confirmed
 pub mod Faults
-pub mod Ruled
 pub mod Journals
 pub mod Leaving
 pub mod Opening

@@ -5,7 +5,8 @@ use Rattle.node.specs.Entry.{Receipt, IsEntry}
 use Rattle.op.specs.Ids.{has}
 use Rattle.replica.specs.declared.input.Input.TheVariants.{Refresh}
 use Rattle.cluster.specs.Confirmed.{IsAnswerTo}
-use Rattle.cluster.specs.Ruled.{IsKnown}
+use Rattle.ruled.specs.declared.entry.MasterEntry.{MasterEntry}
+use Rattle.ruled.specs.Entries.{IsKnown}
 
 -- the copy has accepted a refresh, by an entry of a legal journal
 pub record IsRefreshOf (copy : ℕ) (r : Receipt) : Type 0 where
@@ -18,10 +19,11 @@ abbrev pub AreAbove : State → ℕ → List Receipt → Type 0
 AreAbove s id [] = Unit {0}
 AreAbove s id (r ∷ rs) = (id < r.node) × (has s.in_sync r.node ≡ true) × IsRefreshOf r.node r × AreAbove s r.node rs
 
--- copies in sync were refreshed, each by one of these entries
-pub record AreRefreshed (entries : List Receipt) : Type 0 where
+-- copies were refreshed that are in sync as the master knows it after this past, each by one of these entries; and which the primary is
+pub record AreRefreshed (past : List MasterEntry) (primary : ℕ) (entries : List Receipt) : Type 0 where
   pub state : State
-  pub known : IsKnown state
+  pub known : IsKnown past state
+  pub leads : primary ≡ state.primary
   pub each : AreAbove state 0 entries
 
 -- each is of a copy with a smaller id than this

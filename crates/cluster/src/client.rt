@@ -1,11 +1,10 @@
 //! What callers ask the copies of a cluster by.
 ghost use Rattle.std.specs.Prelude.{◌≡◌, ◌+◌, None, IsOk, IfOk, IfErr, IfSome, OnOk};
 ghost use Rattle.master.specs.declared.state.Request.TheVariants.{Promote};
-ghost use Rattle.master.specs.declared.state.State.{State as MasterState};
 ghost use Rattle.node.specs.Entry.{IsEntry};
 ghost use Rattle.node.specs.Reading.{IsGot};
-ghost use Rattle.cluster.specs.Refreshed.{AreRefreshed, AreSoFar, IsRefreshOf};
-ghost use Rattle.cluster.specs.Ruled.{IsDecided, IsKnown};
+ghost use Rattle.cluster.specs.Refreshed.{AreAbove, AreRefreshed, AreSoFar, IsRefreshOf};
+ghost use Rattle.ruled.specs.Entries.{IsDecided, IsKnown, IsLeading};
 ghost use Rattle.cluster.specs.Confirmed.{IsAcknowledgedWrite, IsAnswerTo, IsConfirmed, IsEndOf, IsRefusalBy, IsWriteRefused};
 
 use crate::checks::{
@@ -15,14 +14,16 @@ use crate::checks::{
 use crate::confirmed::Confirmed;
 use crate::fault::{ClusterFault, WriteFault};
 use crate::post::{Answered, Ending, Post};
+use crate::refreshed::Refreshed;
 use crate::shared::Shared;
 use cell::CopySearcher;
 use chronicle::RegistryName;
 use crossbeam_channel::{Receiver, bounded};
 use doc::DocId;
-use master::{Decision, MasterFault, Request, State};
+use master::{MasterFault, Request, State};
 use node::{Got, Receipt};
 use replica::{Input, Write, Written};
+use ruled::{Decided, Known, Leading};
 use std::alloc::{AllocError, Global};
 use std::sync::{Arc, Wait};
 use translog::LogDevice;
@@ -130,14 +131,27 @@ impl<D: LogDevice, J: RegistryName> Client<D, J> {
     }
 
     /// Refreshes each copy that isn't gone, and gives the entries of those in sync, in the order of their ids. One that is closed is passed over.
-    #[tactic(auto, using(crate::proofs::Refreshes::none_so_far, crate::proofs::Refreshes::all_so_far))]
-    pub fn refresh<R: Wait>(&self, rt: &R) -> Result<Vec<Receipt<J>>, ClusterFault>
-        ensures { IfOk result (λ rs. AreRefreshed rs.items) }
+    #[tactic(auto, using(crate::proofs::Refreshes::are_refreshed))]
+    pub fn refresh<R: Wait>(&self, rt: &R) -> Result<Refreshed<J>, ClusterFault>
+        ensures { IfOk result (λ r. AreRefreshed r.past r.primary r.entries.items) }
     {
-        let state = self.state(rt)?;
+        let Known { state, past } = self.state(rt)?;
+        let entries = self.refreshed_in(rt, &state)?;
+        Ok(Refreshed {
+            entries,
+            primary: state.primary,
+            past,
+        })
+    }
+
+    /// The entries by which the copies are refreshed that are in sync.
+    #[tactic(auto, using(crate::proofs::Refreshes::none_so_far, crate::proofs::Refreshes::all_so_far))]
+    fn refreshed_in<R: Wait>(&self, rt: &R, state: &State) -> Result<Vec<Receipt<J>>, ClusterFault>
+        ensures { IfOk result (λ rs. AreAbove state.now 0 rs.items) }
+    {
         let mut entries = Vec::new(self.alloc);
         for copy in 1..state.next {
-            self.add_refresh(rt, &state, copy, &mut entries)?;
+            self.add_refresh(rt, state, copy, &mut entries)?;
         }
         Ok(entries)
     }
@@ -179,24 +193,24 @@ impl<D: LogDevice, J: RegistryName> Client<D, J> {
     }
 
     /// Has the master make a copy the primary.
-    pub fn promote<R: Wait>(&self, rt: &R, copy: u32) -> Result<Decision, ClusterFault>
-        ensures { IfOk result (IsDecided (Promote copy)) }
+    pub fn promote<R: Wait>(&self, rt: &R, copy: u32) -> Result<Decided<J>, ClusterFault>
+        ensures { IfOk result (λ d. IsDecided (Promote copy) d.decision d.past) }
     {
         Ok(self.shared.ask(rt, self.alloc, 0, Request::Promote(copy))?)
     }
 
     /// The primary, as the master knows it.
-    pub fn primary<R: Wait>(&self, rt: &R) -> u32
-        ensures { (s : MasterState) × IsKnown s × (result ≡ s.primary) }
+    pub fn primary<R: Wait>(&self, rt: &R) -> Leading<J>
+        ensures { IsLeading result.past result.primary }
     {
-        self.shared.primary(rt)
+        self.shared.leading(rt)
     }
 
     /// What the master knows.
-    pub fn state<R: Wait>(&self, rt: &R) -> Result<State, ClusterFault>
-        ensures { IfOk result IsKnown }
+    pub fn state<R: Wait>(&self, rt: &R) -> Result<Known<J>, ClusterFault>
+        ensures { IfOk result (λ k. IsKnown k.past k.state) }
     {
-        Ok(self.shared.state(rt, self.alloc)?)
+        Ok(self.shared.known(rt, self.alloc)?)
     }
 }
 

@@ -1,16 +1,16 @@
 //! Starting the threads of a cluster, and ending them.
-ghost use Rattle.std.specs.Prelude.{◌≡◌, ◌+◌, ◌≤◌, false, is_some, vec_len, IsOk, IfOk, IfSome, OnOk};
+ghost use Rattle.std.specs.Prelude.{◌≡◌, ◌+◌, ◌≤◌, [], false, is_some, vec_len, IsOk, IfOk, IfSome, OnOk};
 ghost use Rattle.master.specs.declared.state.Request.TheVariants.{Allocate};
 ghost use Rattle.cluster.specs.Journals.{AreHandedOut};
 ghost use Rattle.cluster.specs.Opening.{keeps};
-ghost use Rattle.cluster.specs.Ruled.{IsDecided};
+ghost use Rattle.ruled.specs.Entries.{IsDecided};
 
 use crate::bench::{Bench, Start, start_both};
 use crate::client::Client;
 use crate::devices::Devices;
 use crate::fault::{ClusterFault, OpenFault, ShortLog, Unopened, of_master_log};
 use crate::gate::Gate;
-use crate::handing::handed_out;
+use crate::handing::{HandedOut, handed_out};
 use crate::left::Left;
 use crate::merging::Merger;
 use crate::opening::{
@@ -18,17 +18,17 @@ use crate::opening::{
 };
 use crate::ready::Ready;
 use crate::routes::{inbox_of, remove_route, stop};
-use crate::ruled::Ruled;
 use crate::shared::Shared;
 use crate::worker::Tools;
-use chronicle::{Registry, RegistryName};
+use chronicle::{Blank, Ledgers, NamedLedger, Registry, RegistryName};
 use crossbeam_channel::{Sender, bounded, unbounded};
 use doc::Mapping;
 use engine::Merging;
-use journal::{Deed, Journal};
-use master::{Decision, Master, MasterFault, Request};
+use journal::Deed;
+use master::{Master, MasterFault, Request};
 use node::{Pass, Receipt};
 use replica::{Birth, CopyFault};
+use ruled::{Decided, Known, MasterEntry, Ruled};
 use std::alloc::{AllocError, Global};
 use std::sync::{Arc, Mutex, Wait};
 use std::thread::{JoinHandle, Threads};
@@ -42,7 +42,7 @@ struct Setting<V, G, J: RegistryName> {
     devices: V,
     gate: G,
     journals: Journals,
-    registry: Registry<Deed, J>,
+    ledgers: Ledgers<Deed, MasterEntry, J>,
 }
 
 /// The master and its copies, each copy on a thread of its own. End it by `close`.
@@ -68,8 +68,8 @@ where
     G: Gate + Send + Sync + 'static,
     J: RegistryName + Send + Sync + 'static,
 {
-    /// Starts a new index of one copy to five, over devices that hold nothing: copy 1 is the primary of term 1. The journals of its copies are those of
-    /// the registry, and of no other cluster.
+    /// Starts a new index of one copy to five, over devices that hold nothing: copy 1 is the primary of term 1. Its journals are in these ledgers, those of
+    /// its copies in the registry, and are of no other cluster.
     pub fn start<R: Threads + Wait + Copy + Send + Drop + 'static>(
         rt: &R,
         alloc: Global,
@@ -78,7 +78,7 @@ where
         devices: V,
         gate: G,
         journals: Journals,
-        registry: Registry<Deed, J>,
+        ledgers: Ledgers<Deed, MasterEntry, J>,
     ) -> Result<Cluster<D, V, G, J>, ClusterFault>
         requires { (1 ≤ copies) × (copies ≤ 5) }
         ensures threads { IfOk result (λ c. vec_len c.threads ≡ copies) }
@@ -90,7 +90,7 @@ where
             devices,
             gate,
             journals,
-            registry,
+            ledgers,
         };
         let device = match setting.devices.device(0) {
             Ok(device) => device,
@@ -112,7 +112,7 @@ where
         devices: V,
         gate: G,
         journals: Journals,
-        registry: Registry<Deed, J>,
+        ledgers: Ledgers<Deed, MasterEntry, J>,
     ) -> Result<Cluster<D, V, G, J>, ClusterFault>
         requires { (1 ≤ copies) × (copies ≤ 5) }
         ensures { IfOk result (λ c. c.journals ≡ journals) }
@@ -123,7 +123,7 @@ where
             devices,
             gate,
             journals,
-            registry,
+            ledgers,
         };
         let device = master_device(&mut setting.devices)?;
         match beginning(alloc, device) {
@@ -235,12 +235,13 @@ where
             devices,
             gate,
             journals,
-            registry,
+            ledgers,
         } = setting;
+        let Ledgers { registry, blank } = ledgers;
         let shared = Arc::new(
             alloc,
             Shared {
-                master: Mutex::new(Ruled::begin(alloc, master)?),
+                master: Mutex::new(Ruled::begin(alloc, ledger_of(alloc, journals, blank), master)?),
                 routes: Mutex::new(Vec::new(alloc)),
                 unled: Mutex::new(None),
             },
@@ -305,7 +306,8 @@ where
         ensures { self.new.journals ≡ self.old.journals }
     {
         let alloc = self.client.alloc;
-        let state = self.client.state(rt)?;
+        let Known { state, past } = self.client.state(rt)?;
+        drop(past);
         let mut opened = Vec::new(alloc);
         self.devices.will_open(&state.in_sync);
         for id in state.in_sync.as_slice() {
@@ -404,12 +406,12 @@ where
     pub fn allocate<R: Threads + Wait + Copy + Send + Drop + 'static>(
         &mut self,
         rt: &R,
-    ) -> Result<Decision, ClusterFault>
-        ensures decided { IfOk result (IsDecided Allocate) }
+    ) -> Result<Decided<J>, ClusterFault>
+        ensures decided { IfOk result (λ d. IsDecided Allocate d.decision d.past) }
         ensures runs { OnOk result (vec_len self.new.threads ≡ vec_len self.old.threads + 1) }
     {
         let alloc = self.client.alloc;
-        let Ok(next) = u32::try_from(self.client.state(rt)?.next) else {
+        let Ok(next) = u32::try_from(self.client.state(rt)?.state.next) else {
             return Err(ClusterFault::Master(MasterFault::Full));
         };
         let device = device_of(&mut self.devices, next)?;
@@ -430,8 +432,8 @@ where
         copy: u32,
         start: Start<D, G, J>,
         ready: Ready<D>,
-    ) -> Result<Decision, ClusterFault>
-        ensures decided { IfOk result (IsDecided Allocate) }
+    ) -> Result<Decided<J>, ClusterFault>
+        ensures decided { IfOk result (λ d. IsDecided Allocate d.decision d.past) }
         ensures runs { OnOk result (vec_len self.new.threads ≡ vec_len self.old.threads + 1) }
     {
         match self
@@ -439,10 +441,10 @@ where
             .shared
             .ask(rt, self.client.alloc, 0, Request::Allocate)
         {
-            Ok(decision) => match self.run(rt, start, ready) {
-                Ok(()) => Ok(decision),
+            Ok(decided) => match self.run(rt, start, ready) {
+                Ok(()) => Ok(decided),
                 Err(fault) => {
-                    drop(decision);
+                    drop(decided);
                     Err(fault)
                 }
             },
@@ -566,16 +568,16 @@ where
         }
     }
 
-    /// Ends all threads, and hands out the journals, where they are kept: the master's first, then those of the copies in the order of their ids. Each
-    /// entry of a copy has its receipt in the pass of the copy's worker, and the receipts that callers kept and hand in stand there too, else
+    /// Ends all threads, and hands out the journals, where they are kept: the master's first, with all its entries, then those of the copies in the order
+    /// of their ids. Each entry of a copy has its receipt in the pass of the copy's worker, and the receipts that callers kept and hand in stand there too, else
     /// `Stray` names the place of the first that doesn't.
     pub fn close<R: Threads + Wait>(
         self,
         rt: &R,
         receipts: &[Receipt<J>],
-    ) -> Result<Option<Vec<Journal>>, ClusterFault>
+    ) -> Result<Option<HandedOut<J>>, ClusterFault>
         ensures kept { IfOk result (λ o. is_some o ≡ keeps self.journals) }
-        ensures journals { IfOk result (λ o. IfSome o (λ js. AreHandedOut (vec_len self.threads) receipts.now js.items)) }
+        ensures journals { IfOk result (λ o. IfSome o (λ h. AreHandedOut (vec_len self.threads) receipts.now h.past h.journals.items)) }
     {
         let Ended {
             alloc,
@@ -585,7 +587,7 @@ where
         } = self.ended(rt)?;
         match journals {
             Journals::Kept => match handed_out(alloc, master, lefts, receipts) {
-                Ok(journals) => Ok(Some(journals)),
+                Ok(handed) => Ok(Some(handed)),
                 Err(fault) => Err(fault),
             },
             Journals::Unkept => {
@@ -630,8 +632,22 @@ where
 struct Ended<D: LogDevice, J: RegistryName> {
     alloc: Global,
     journals: Journals,
-    master: Ruled<D>,
+    master: Ruled<D, J>,
     lefts: Vec<Left<J>>,
+}
+
+/// The master's ledger, of which memory has what it is to have of the journals.
+fn ledger_of<J: RegistryName>(
+    alloc: Global,
+    journals: Journals,
+    blank: Blank<MasterEntry, J>,
+) -> NamedLedger<MasterEntry, J>
+    ensures { result.entries ≡ [] }
+{
+    match journals {
+        Journals::Kept => blank.kept(alloc),
+        Journals::Unkept => blank.unkept(),
+    }
 }
 
 /// What threads leave, once each has ended.

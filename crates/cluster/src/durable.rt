@@ -2,13 +2,14 @@
 ghost use Rattle.std.specs.Prelude.{◌≡◌, ◌+◌, ◌<◌, ◌≤◌, true, IfOk, IfErr, Some, length, slice_get};
 ghost use Rattle.cluster.specs.Confirmed as spec;
 ghost use Rattle.cluster.specs.Leaving.{sent_by};
-ghost use Rattle.cluster.specs.Ruled.{IsDecided};
+ghost use Rattle.ruled.specs.Entries.{IsDecided};
 
 use crate::checks::is_no_primary;
 use chronicle::RegistryName;
-use master::{Decision, Request};
+use master::Request;
 use node::{Got, OnDisk, Receipt};
 use op::Msg;
+use ruled::Decided;
 use std::alloc::{AllocError, Global};
 use std::marker::Model;
 
@@ -118,15 +119,15 @@ impl<J: RegistryName> Durable<Got<J>> {
 
 impl Durable<Msg> {
     /// The message of a decision of the master on a request, where it has one. The master's log syncs each decision before it is given.
-    pub(crate) fn ruled(
+    pub(crate) fn ruled<J: RegistryName>(
         alloc: Global,
         _request: Request,
-        decision: &Decision,
+        decided: &Decided<J>,
     ) -> Result<Option<Durable<Msg>>, AllocError>
-        requires { IsDecided _request decision.now }
-        ensures { IfOk result (λ m. m ≡ decision.now.sent) }
+        requires { IsDecided _request decided.now.decision decided.now.past }
+        ensures { IfOk result (λ m. m ≡ decided.now.decision.sent) }
     {
-        match &decision.sent {
+        match &decided.decision.sent {
             Some(message) => Ok(Some(Durable {
                 what: message.copy(alloc)?,
             })),

@@ -81,15 +81,15 @@ impl<D: LogDevice, G: Gate, J: RegistryName> Worker<D, G, J> {
         if self.given_up {
             return;
         }
-        let Ok(state) = self.shared.state(rt, self.alloc) else {
+        let Ok(known) = self.shared.known(rt, self.alloc) else {
             return;
         };
         let id = self.id();
-        self.given_up = if state.primary == id {
-            self.hand_over(rt, &state);
+        self.given_up = if known.state.primary == id {
+            self.hand_over(rt, &known.state);
             true
         } else {
-            self.shared.hand(rt, state.primary, Post::Report(id))
+            self.shared.hand(rt, known.state.primary, Post::Report(id))
         };
     }
 

@@ -1,15 +1,14 @@
 //! What the workers share: the master, and where posts go.
-ghost use Rattle.std.specs.Prelude.{◌≡◌, IfOk};
-ghost use Rattle.master.specs.declared.state.State.{State as MasterState};
-ghost use Rattle.cluster.specs.Ruled.{IsDecided, IsKnown};
+ghost use Rattle.std.specs.Prelude.{IfOk};
+ghost use Rattle.ruled.specs.Entries.{IsDecided, IsKnown, IsLeading};
 
 use crate::channels::sent;
 use crate::durable::Durable;
 use crate::post::{Post, Route};
-use crate::ruled::{Ruled, copied};
 use chronicle::RegistryName;
-use master::{Decision, MasterFault, Request, State};
+use master::{MasterFault, Request};
 use op::{Content, Msg};
+use ruled::{Decided, Known, Leading, Ruled, copied};
 use std::alloc::{AllocError, Global};
 use std::sync::{Mutex, Wait};
 use translog::LogDevice;
@@ -17,7 +16,7 @@ use translog::LogDevice;
 /// The master behind a lock, and the inbox of each copy's worker. No lock is taken while another is held.
 #[derive(Drop)]
 pub(crate) struct Shared<D: LogDevice, J: RegistryName> {
-    pub(crate) master: Mutex<Ruled<D>>,
+    pub(crate) master: Mutex<Ruled<D, J>>,
     pub(crate) routes: Mutex<Vec<Route<J>>>,
     /// Why the master could make no copy the primary, the last time that one was to be made.
     pub(crate) unled: Mutex<Option<MasterFault>>,
@@ -53,19 +52,25 @@ impl<D: LogDevice, J: RegistryName> Shared<D, J> {
     }
 
     /// The primary, as the master knows it.
-    pub(crate) fn primary<R: Wait>(&self, rt: &R) -> u32
-        ensures { (s : MasterState) × IsKnown s × (result ≡ s.primary) }
+    pub(crate) fn primary<R: Wait>(&self, rt: &R) -> u32 {
+        let master = self.master.lock(rt);
+        master.primary()
+    }
+
+    /// The same, and after which entries of the master's journal.
+    pub(crate) fn leading<R: Wait>(&self, rt: &R) -> Leading<J>
+        ensures { IsLeading result.past result.primary }
     {
         let master = self.master.lock(rt);
-        master.state().primary
+        master.leading()
     }
 
     /// What the master knows.
-    pub(crate) fn state<R: Wait>(&self, rt: &R, alloc: Global) -> Result<State, AllocError>
-        ensures { IfOk result IsKnown }
+    pub(crate) fn known<R: Wait>(&self, rt: &R, alloc: Global) -> Result<Known<J>, AllocError>
+        ensures { IfOk result (λ k. IsKnown k.past k.state) }
     {
         let master = self.master.lock(rt);
-        let known = master.state().copy(alloc)?;
+        let known = master.known(alloc)?;
         Ok(known)
     }
 
@@ -76,12 +81,12 @@ impl<D: LogDevice, J: RegistryName> Shared<D, J> {
         alloc: Global,
         pass: u64,
         request: Request,
-    ) -> Result<Decision, MasterFault>
-        ensures { IfOk result (IsDecided request) }
+    ) -> Result<Decided<J>, MasterFault>
+        ensures { IfOk result (λ d. IsDecided request d.decision d.past) }
     {
-        let (old, decision) = self.decide(rt, alloc, pass, request)?;
-        if self.send_on(rt, alloc, old, request, &decision)? {
-            Ok(decision)
+        let (old, decided) = self.decide(rt, alloc, pass, request)?;
+        if self.send_on(rt, alloc, old, request, &decided)? {
+            Ok(decided)
         } else {
             Err(MasterFault::NoMemory)
         }
@@ -94,11 +99,11 @@ impl<D: LogDevice, J: RegistryName> Shared<D, J> {
         alloc: Global,
         old: u32,
         request: Request,
-        decision: &Decision,
+        decided: &Decided<J>,
     ) -> Result<bool, AllocError>
-        requires { IsDecided request decision.now }
+        requires { IsDecided request decided.now.decision decided.now.past }
     {
-        let Some(message) = Durable::ruled(alloc, request, decision)? else {
+        let Some(message) = Durable::ruled(alloc, request, decided)? else {
             return Ok(true);
         };
         let (to, term) = (message.what().to, message.what().term);
@@ -119,7 +124,11 @@ impl<D: LogDevice, J: RegistryName> Shared<D, J> {
         copy: u32,
     ) -> Option<Msg> {
         match self.decide(rt, alloc, pass, Request::Promote(copy)) {
-            Ok((_old, decision)) => decision.sent,
+            Ok((_old, decided)) => {
+                let Decided { decision, past } = decided;
+                drop(past);
+                decision.sent
+            }
             Err(_fault) => None,
         }
     }
@@ -131,8 +140,8 @@ impl<D: LogDevice, J: RegistryName> Shared<D, J> {
         alloc: Global,
         pass: u64,
         request: Request,
-    ) -> Result<(u32, Decision), MasterFault>
-        ensures { IfOk result (λ d. IsDecided request d.1) }
+    ) -> Result<(u32, Decided<J>), MasterFault>
+        ensures { IfOk result (λ d. IsDecided request d.1.decision d.1.past) }
     {
         let decided = self.rule(rt, alloc, pass, request);
         if let Request::Promote(_) = request {
@@ -147,17 +156,17 @@ impl<D: LogDevice, J: RegistryName> Shared<D, J> {
         alloc: Global,
         pass: u64,
         request: Request,
-    ) -> Result<(u32, Decision), MasterFault>
-        ensures { IfOk result (λ d. IsDecided request d.1) }
+    ) -> Result<(u32, Decided<J>), MasterFault>
+        ensures { IfOk result (λ d. IsDecided request d.1.decision d.1.past) }
     {
         let mut master = self.master.lock(rt);
-        let old = master.state().primary;
-        let decision = master.ask(alloc, pass, request)?;
-        Ok((old, decision))
+        let old = master.primary();
+        let decided = master.ask(alloc, pass, request)?;
+        Ok((old, decided))
     }
 
     /// Notes how a promotion went.
-    fn note<R: Wait>(&self, rt: &R, decided: &Result<(u32, Decision), MasterFault>) {
+    fn note<R: Wait>(&self, rt: &R, decided: &Result<(u32, Decided<J>), MasterFault>) {
         let mut unled = self.unled.lock(rt);
         match decided {
             Ok(_) => *unled = None,
@@ -195,7 +204,7 @@ impl<D: LogDevice, J: RegistryName> Shared<D, J> {
     fn tell<R: Wait>(&self, rt: &R, alloc: Global, pass: u64, message: &Msg) -> bool {
         match request_of(message) {
             Some(request) => match self.ask(rt, alloc, pass, request) {
-                Ok(_decision) => true,
+                Ok(_decided) => true,
                 Err(fault) => !is_disabled(&fault),
             },
             None => true,

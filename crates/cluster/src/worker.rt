@@ -306,9 +306,9 @@ impl<D: LogDevice, G: Gate, J: RegistryName> Worker<D, G, J> {
         if message.from != 0 || self.leads() {
             return;
         }
-        if let Ok(state) = self.shared.state(rt, self.alloc) {
-            if state.primary == id {
-                self.hand_over(rt, &state);
+        if let Ok(known) = self.shared.known(rt, self.alloc) {
+            if known.state.primary == id {
+                self.hand_over(rt, &known.state);
             }
         }
     }

@@ -12,16 +12,18 @@ use Rattle.chronicle.specs.Written.{Line}
 use Rattle.cell.specs.Points.{IsPoint, IsShownBehind, PointData, place_in}
 use Rattle.front.specs.Reply.{Reply, counted}
 use Rattle.shard.specs.Answering.{hit_of, hits_of}
-use Rattle.group.specs.Known.{KnownData, IsLed, seen_at}
-use Rattle.group.specs.Searching.{IsCounted, IsFound, IsFoundAt}
+use Rattle.group.specs.Known.{KnownData, IsLedBehind, seen_at}
+use Rattle.ruled.specs.declared.entry.MasterEntry.{MasterEntry}
+use Rattle.published.specs.declared.listing.Listing.{Listing}
+use Rattle.group.specs.Searching.{IsCounted, IsFound, IsFoundAt, IsSeen, IsShownAt}
 
 pub each_in_turn : (found : List Hit) → map hit_of (map hit_view found) ≡ map (λ h. hit_of (hit_view h)) found
 each_in_turn [] = refl
 each_in_turn (h ∷ found) = ap (λ l. hit_of (hit_view h) ∷ l) (each_in_turn found)
 
--- what a searcher of the primary finds
-pub found_at : (l : Line) (before after : List Published) (q : Query) (page : PageData) (h : Answer) (at : PointData) (copy : ℕ) → Finds before after q page h (place_in l at) → IsPoint at → at.node ≡ copy → IsLed copy → IsFoundAt q page h at
-found_at l before after q page h at copy f stands is led = record {
+-- what a searcher finds
+pub found_at : (l : Line) (before after : List Published) (q : Query) (page : PageData) (h : Answer) (at : PointData) → Finds before after q page h (place_in l at) → IsPoint at → IsFoundAt q page h at
+found_at l before after q page h at f stands = record {
   listing = f.now.listing;
   shown = record {
     history = f.now.history;
@@ -29,22 +31,26 @@ found_at l before after q page h at copy f stands is led = record {
     last = f.found.last;
     records = f.found.records;
     stands = stands;
-    led = subst IsLed (sym is) led;
   };
   found = f.found.found;
 }
 
 -- the reply tells it
-pub found_seen : (before after : KnownData) (q : Query) (page : PageData) (h : Answer) (at : PointData) (r : Reply) → IsFoundAt q page h at → IfSome before.seen (λ x. IsShownBehind x at) → after ≡ seen_at before at → r ≡ hits_of h → IsFound before q page r after
-found_seen before after q page h at r is later now told = record {
+seen_of : (before after : KnownData) (l : Listing) (at : PointData) (past : List MasterEntry) → IsShownAt l at → IfSome before.seen (λ x. IsShownBehind x at) → IsLedBehind before.past at.node past → after ≡ seen_at before at past → IsSeen before l after
+seen_of before after l at past shown later led now = subst (λ (k : KnownData). IsSeen before l k) (sym now) (record { at = at; shown = shown; later = later; led = led; now = refl })
+
+pub found_seen : (before after : KnownData) (q : Query) (page : PageData) (h : Answer) (at : PointData) (past : List MasterEntry) (r : Reply) → IsFoundAt q page h at → IfSome before.seen (λ x. IsShownBehind x at) → IsLedBehind before.past at.node past
+    → after ≡ seen_at before at past → r ≡ hits_of h → IsFound before q page r after
+found_seen before after q page h at past r is later led now told = record {
   listing = is.listing;
-  seen = record { at = at; shown = is.shown; later = later; now = now };
+  seen = seen_of before after is.listing at past is.shown later led now;
   hits_are = told ∙ ap hits_of is.found;
 }
 
-pub counted_seen : (before after : KnownData) (q : Query) (page : PageData) (h : Answer) (at : PointData) (r : Reply) → IsFoundAt q page h at → IfSome before.seen (λ x. IsShownBehind x at) → after ≡ seen_at before at → r ≡ counted h.total → IsCounted before q r after
-counted_seen before after q page h at r is later now told = record {
+pub counted_seen : (before after : KnownData) (q : Query) (page : PageData) (h : Answer) (at : PointData) (past : List MasterEntry) (r : Reply) → IsFoundAt q page h at → IfSome before.seen (λ x. IsShownBehind x at) → IsLedBehind before.past at.node past
+    → after ≡ seen_at before at past → r ≡ counted h.total → IsCounted before q r after
+counted_seen before after q page h at past r is later led now told = record {
   listing = is.listing;
-  seen = record { at = at; shown = is.shown; later = later; now = now };
+  seen = seen_of before after is.listing at past is.shown later led now;
   total_is = told ∙ ap (λ (a : Answer). counted a.total) is.found;
 }

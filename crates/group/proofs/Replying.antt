@@ -33,7 +33,7 @@ has_bulk confirmed known bulk each = record { bulk = bulk; each = each }
 
 -- a bulk that is confirmed and told is done
 pub told_written : {J : Type 0} (before after : KnownData) (heard : PrefixData Deed) (ws : List Write) (confirmed : ConfirmedBulk J) (asked : List taken.Write) (r : Reply) → asked ≡ map write_of ws → IsBulkConfirmed asked confirmed → IsBulkTold confirmed r
-    → IfSome before.heard (λ h. IsAheadOf h confirmed.bulk) → HasBulk confirmed heard → after ≡ known (Some heard) before.seen → IsBulkWritten J before ws r after
+    → IfSome before.heard (λ h. IsAheadOf h confirmed.bulk) → HasBulk confirmed heard → after ≡ known (Some heard) before.seen before.past → IsBulkWritten J before ws r after
 told_written before after heard ws confirmed asked r is acknowledged told later has now = record {
   confirmed = confirmed;
   later = later;

@@ -19,7 +19,9 @@ use Rattle.cluster.specs.declared.confirmed.Confirmed.{Confirmed}
 use Rattle.cluster.specs.declared.confirmed.ConfirmedBulk.{ConfirmedBulk}
 use Rattle.cluster.specs.Bulks.{bulked as items_in, IsBulkConfirmed}
 use Rattle.cluster.specs.Confirmed.{IsConfirmed}
-use Rattle.cluster.specs.Ruled.{IsDecided}
+use Rattle.ruled.specs.declared.entry.MasterEntry.{MasterEntry}
+use Rattle.ruled.specs.Entries.{IsDecided}
+use mathlib.Core.List.{IsPrefix}
 use Rattle.front.specs.declared.command.Write.{Write}
 use Rattle.front.specs.declared.reply.Refusal.{Refusal}
 use Rattle.front.specs.declared.reply.Refusal.TheVariants.{OldTerm, NotInSync, IsPrimary, Gone, Log, NoMemory, Full}
@@ -27,7 +29,7 @@ use Rattle.front.specs.declared.reply.ItemReply.{ItemReply}
 use Rattle.front.specs.Command.{Command, write, bulk, get, search, count, refresh, promote}
 use Rattle.front.specs.Reply.{Reply, bulked, promoted, refused}
 use Rattle.shard.specs.Answering.{item_reply_of, refusal_of, reply_of, write_of}
-use Rattle.group.specs.Known.{Heard, KnownData, HasRefreshed, heard_by, known}
+use Rattle.group.specs.Known.{KnownData, HasRefreshed, IsLedBehind, heard_by, known}
 use Rattle.group.specs.Searching.{IsCounted, IsFound, IsRefreshed}
 
 -- how many copies an entry counts
@@ -41,9 +43,9 @@ told_by (Ok output) copies = reply_of copies output.answer
 told_by (Err fault) copies = refused (refusal_of fault)
 
 -- behind a write that was to be refreshed at once copies were refreshed, and behind another one none was
-pub record IsRefreshedAs (wanted : Bool) (heard before after : Heard) : Type 0 where
-  pub refreshed : wanted ≡ true → (copies : ℕ) × HasRefreshed heard before copies after
-  pub unrefreshed : wanted ≡ false → after ≡ before
+pub record IsRefreshedAs (wanted : Bool) (before after : KnownData) : Type 0 where
+  pub refreshed : wanted ≡ true → (copies : ℕ) × HasRefreshed before copies after
+  pub unrefreshed : wanted ≡ false → (after.seen ≡ before.seen) × (after.past ≡ before.past)
 
 -- the write has an entry of its copy and one that acknowledges it; the reply tells the first, and the copies that the second counts
 pub record IsWritten (J : Type 0) (before : KnownData) (w : Write) (r : Reply) (after : KnownData) : Type 0 where
@@ -52,7 +54,7 @@ pub record IsWritten (J : Type 0) (before : KnownData) (w : Write) (r : Reply) (
   pub heard : after.heard ≡ Some (prefix confirmed.acknowledgement.node confirmed.acknowledgement.deeds)
   pub acknowledged : IsConfirmed (write_of w) confirmed
   pub told : r ≡ told_by confirmed.write.deed.answer (counted_in confirmed.acknowledgement.deed.answer)
-  pub seen : IsRefreshedAs w.refresh after.heard before.seen after.seen
+  pub seen : IsRefreshedAs w.refresh before after
 
 -- how many copies the entry at a place counts
 abbrev pub counted_at : List Receipt → ℕ → ℕ
@@ -86,26 +88,33 @@ pub record IsBulkWritten (J : Type 0) (before : KnownData) (ws : List Write) (r 
   pub later : IfSome before.heard (λ h. IsAheadOf h confirmed.bulk)
   pub heard : PrefixData Deed
   pub has : HasBulk confirmed heard
-  pub now : after ≡ known (Some heard) before.seen
+  pub now : after ≡ known (Some heard) before.seen before.past
   pub acknowledged : IsBulkConfirmed (map write_of ws) confirmed
   pub told : IsBulkTold confirmed r
 
--- the reply tells what a copy has of the id, after a journal that isn't shorter than what was known of it
+-- the reply tells what the primary has of the id, after a journal that isn't shorter than what was known of it
 pub record IsGot (before : KnownData) (id : Id) (r : Reply) (after : KnownData) : Type 0 where
   pub got : GotData
   pub is_got : IsRead got
   pub id_is : got.id ≡ id
   pub later : IfSome before.heard (λ h. IsNotBefore h got)
   pub told : r ≡ reply_of 0 got.answer
-  pub now : after ≡ known (heard_by before.heard got.node got.deeds) before.seen
+  pub led : IsLedBehind before.past got.node after.past
+  pub now : after ≡ known (heard_by before.heard got.node got.deeds) before.seen after.past
 
--- the master has decided that the copy is the primary, and the reply tells the term in which it is
-pub record IsMadePrimary (copy : ℕ) (r : Reply) : Type 0 where
+-- the master has decided last that the copy is the primary, and the reply tells the term in which it is
+pub record IsMadePrimary (copy : ℕ) (r : Reply) (past : List MasterEntry) : Type 0 where
   pub decision : Decision
-  pub decided : IsDecided (Promote copy) decision
+  pub decided : IsDecided (Promote copy) decision past
   pub message : Msg
   pub sent : decision.sent ≡ Some message
   pub told : r ≡ promoted copy message.term
+
+-- so it has, in a past that goes on from what was known of it
+pub record IsPromoted (before : KnownData) (copy : ℕ) (r : Reply) (after : KnownData) : Type 0 where
+  pub made : IsMadePrimary copy r after.past
+  pub later : IsPrefix before.past after.past
+  pub now : after ≡ known before.heard before.seen after.past
 
 -- the refusal that tells the master's by its name
 abbrev pub master_refusal : MasterFault → Refusal
@@ -125,7 +134,7 @@ IsDone J before (get id) r after = IsGot before id r after
 IsDone J before (search q page) r after = IsFound before q page r after
 IsDone J before (count q) r after = IsCounted before q r after
 IsDone J before refresh r after = IsRefreshed before r after
-IsDone J before (promote copy) r after = IsMadePrimary copy r × (after ≡ before)
+IsDone J before (promote copy) r after = IsPromoted before copy r after
 
 -- what is asked was refused
 pub record IsRefused (r : Reply) : Type 0 where

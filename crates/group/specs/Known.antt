@@ -2,39 +2,45 @@
 use Rattle.std.specs.Prelude.{◌≡◌, ◌⊎◌, ◌<◌, ℕ, List, [], ◌∷◌, Option, Some, None, length, slice_get, IfSome}
 use Rattle.chronicle.specs.Registered.{PrefixData, prefix}
 use Rattle.journal.specs.declared.journal.Deed.{Deed}
-use Rattle.master.specs.declared.state.State.{State}
 use Rattle.node.specs.Entry.{Receipt}
 use Rattle.node.specs.Heard.{IsAheadOf}
 use Rattle.cell.specs.Points.{PointData}
 use Rattle.cluster.specs.Refreshed.{AreRefreshed}
-use Rattle.cluster.specs.Ruled.{IsKnown}
+use Rattle.ruled.specs.declared.entry.MasterEntry.{MasterEntry}
+use Rattle.ruled.specs.Entries.{IsLeading}
+use mathlib.Core.List.{IsPrefix}
 
 -- the first entries of the journal of a copy, of which it was told; nothing at first
 abbrev pub Heard : Type 0
 Heard = Option (PrefixData Deed)
 
--- those of the copy that it heard of last, and those of which it saw last what they leave the copy, by a refresh or a search
+-- those of the copy that it heard of last, those of which it saw last what they leave the copy, by a refresh or a search, and those of the master's journal
 pub record KnownData : Type 0 where
   pub heard : Heard
   pub seen : Heard
+  pub past : List MasterEntry
 
-abbrev pub known : Heard → Heard → KnownData
-known heard seen = record { heard = heard; seen = seen }
+abbrev pub known : Heard → Heard → List MasterEntry → KnownData
+known heard seen past = record { heard = heard; seen = seen; past = past }
+
+-- none where nothing was told of the master
+abbrev pub past_in : Option (List MasterEntry) → List MasterEntry
+past_in None = []
+past_in (Some past) = past
 
 -- what is known of a copy once these entries of its journal were told; none tell nothing
 abbrev pub heard_by : Heard → ℕ → List Deed → Heard
 heard_by before node [] = before
 heard_by before node (d ∷ ds) = Some (prefix node (d ∷ ds))
 
--- what is known once a search saw what a copy has at a place of its journal
-abbrev pub seen_at : KnownData → PointData → KnownData
-seen_at k p = known k.heard (heard_by k.seen p.node p.deeds)
+-- what is known once a search saw what a copy has at a place of its journal, and the master had this past
+abbrev pub seen_at : KnownData → PointData → List MasterEntry → KnownData
+seen_at k p past = known k.heard (heard_by k.seen p.node p.deeds) past
 
--- the master knows the copy as the primary
-pub record IsLed (copy : ℕ) : Type 0 where
-  pub state : State
-  pub known : IsKnown state
-  pub primary : copy ≡ state.primary
+-- the copy is the primary after a past of the master that goes on from this
+pub record IsLedBehind (before : List MasterEntry) (copy : ℕ) (past : List MasterEntry) : Type 0 where
+  pub later : IsPrefix before past
+  pub leads : IsLeading past copy
 
 -- one of these entries
 pub record IsAmong (entries : List Receipt) (r : Receipt) : Type 0 where
@@ -47,16 +53,19 @@ pub record IsSeenBy (heard before : Heard) (r : Receipt) (after : Heard) : Type 
   pub unseen : IfSome before (λ h. IsAheadOf h r)
   pub seen : after ≡ Some (prefix r.node r.deeds)
 
--- so was one of these
-pub record IsSeenAmong (heard before : Heard) (entries : List Receipt) (after : Heard) : Type 0 where
+-- so was one of these, by which the primary was refreshed
+pub record IsSeenAmong (heard before : Heard) (primary : ℕ) (entries : List Receipt) (after : Heard) : Type 0 where
   pub entry : Receipt
   pub among : IsAmong entries entry
+  pub leads : entry.node ≡ primary
   pub seen : IsSeenBy heard before entry after
 
 -- so many copies in sync were refreshed, one at least, each by an entry of its own; that of the primary was seen, unless it isn't one of them
-pub record HasRefreshed (heard before : Heard) (copies : ℕ) (after : Heard) : Type 0 where
+pub record HasRefreshed (before : KnownData) (copies : ℕ) (after : KnownData) : Type 0 where
   pub entries : List Receipt
+  pub primary : ℕ
   pub many : length entries ≡ copies
   pub some : 0 < copies
-  pub refreshed : AreRefreshed entries
-  pub seen : (after ≡ before) ⊎ IsSeenAmong heard before entries after
+  pub refreshed : AreRefreshed after.past primary entries
+  pub later : IsPrefix before.past after.past
+  pub seen : (after.seen ≡ before.seen) ⊎ IsSeenAmong after.heard before.seen primary entries after.seen

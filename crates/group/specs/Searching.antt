@@ -11,17 +11,16 @@ use Rattle.published.specs.Search.{answer_in}
 use Rattle.cell.specs.Points.{IsPoint, IsShownBehind, PointData}
 use Rattle.front.specs.Reply.{Reply, counted, refreshed}
 use Rattle.shard.specs.Answering.{hits_of}
-use Rattle.group.specs.Known.{KnownData, HasRefreshed, IsLed, seen_at}
+use Rattle.group.specs.Known.{KnownData, HasRefreshed, IsLedBehind, seen_at}
 
--- the list was published: it is the last of a history in which each goes on from the one before it. Its records are those that the copy, which the master
--- knows as the primary, has at this place of its journal
+-- the list was published: it is the last of a history in which each goes on from the one before it. Its records are those that the copy has at this place of
+-- its journal
 pub record IsShownAt (l : Listing) (at : PointData) : Type 0 where
   pub history : List Listing
   pub chain : IsChain history
   pub last : IsLast history l
   pub records : at.records ≡ l.records
   pub stands : IsPoint at
-  pub led : IsLed at.node
 
 -- the hits are those of such a list
 pub record IsFoundAt (q : Query) (page : PageData) (hits : Answer) (at : PointData) : Type 0 where
@@ -29,12 +28,13 @@ pub record IsFoundAt (q : Query) (page : PageData) (hits : Answer) (at : PointDa
   pub shown : IsShownAt listing at
   pub found : hits ≡ answer_in listing q page
 
--- the client sees the list, of no place before the one that it saw of that copy last; and what it knows then
+-- the client sees the list, of the primary, and of no place before the one that it saw of that copy last; and what it knows then
 pub record IsSeen (before : KnownData) (l : Listing) (after : KnownData) : Type 0 where
   pub at : PointData
   pub shown : IsShownAt l at
   pub later : IfSome before.seen (λ h. IsShownBehind h at)
-  pub now : after ≡ seen_at before at
+  pub led : IsLedBehind before.past at.node after.past
+  pub now : after ≡ seen_at before at after.past
 
 -- what searches of a published list see
 abbrev pub shown_in : Listing → SnapshotData
@@ -55,6 +55,6 @@ pub record IsCounted (before : KnownData) (q : Query) (r : Reply) (after : Known
 -- the reply tells how many copies were refreshed
 pub record IsRefreshed (before : KnownData) (r : Reply) (after : KnownData) : Type 0 where
   pub copies : ℕ
-  pub done : HasRefreshed before.heard before.seen copies after.seen
+  pub done : HasRefreshed before copies after
   pub heard : after.heard ≡ before.heard
   pub told : r ≡ refreshed copies

@@ -5,12 +5,13 @@ ghost use Rattle.engine.specs.Shown.{hits_view};
 ghost use Rattle.front.specs.CommandView.{command_view};
 ghost use Rattle.front.specs.ReplyView.{reply_view};
 ghost use Rattle.cell.specs.Points.{IsShownBehind};
-ghost use Rattle.group.specs.Group.{counted_in, told_by, IsBulkWritten, IsDone, IsGot, IsWritten};
+ghost use Rattle.group.specs.Group.{counted_in, told_by, IsBulkWritten, IsDone, IsGot, IsPromoted, IsWritten};
+ghost use Rattle.group.specs.Known.{IsLedBehind};
 ghost use Rattle.group.specs.Searching.{IsCounted, IsFound, IsFoundAt};
 
 use crate::bulks::{heard_behind, told_bulk};
 use crate::known::{Known, is_ahead};
-use crate::promoting::{is_promotion, promote, refusal_to};
+use crate::promoting::{Promotion, is_promotion, promoted, refusal_to};
 use crate::searching::{Chair, reply_with};
 use cell::FoundAt;
 use chronicle::RegistryName;
@@ -22,6 +23,7 @@ use front::{Resumable, Service};
 use node::{Heard, Receipt};
 use query::{Page, Query, SearchBody};
 use replica::{CopyFault, Output, Writes};
+use ruled::{Leading, Past};
 use shard::answering::{refusal_of, reply_in, write_of, writes_of};
 use std::alloc::Global;
 use std::sync::Wait;
@@ -99,10 +101,7 @@ impl<'a, R: Wait, D: LogDevice, J: RegistryName> Group<'a, R, D, J> {
             Command::Search(body) => Ok(self.search(&body)?),
             Command::Count(query) => Ok(self.count(&query)?),
             Command::Refresh => Ok(self.refresh()?),
-            Command::Promote(copy) => Ok((
-                promote(self.rt, self.client, copy)?,
-                self.known.again(),
-            )),
+            Command::Promote(copy) => Ok(self.promote(copy)?),
         }
     }
 
@@ -115,9 +114,9 @@ impl<'a, R: Wait, D: LogDevice, J: RegistryName> Group<'a, R, D, J> {
         if !is_ahead(self.known.heard(), &confirmed.write) {
             return Err(stray(confirmed));
         }
-        let heard = Some(Heard::by(&confirmed.acknowledgement));
-        match self.refresh_where(refresh, &heard) {
-            Ok(seen) => Ok((told(confirmed), Known::of(heard, seen))),
+        let known = self.known.hears(Heard::by(&confirmed.acknowledgement));
+        match self.refresh_where(refresh, known) {
+            Ok(known) => Ok((told(confirmed), known)),
             Err(fault) => {
                 drop(confirmed);
                 Err(WriteFault::Cluster(fault))
@@ -143,27 +142,26 @@ impl<'a, R: Wait, D: LogDevice, J: RegistryName> Group<'a, R, D, J> {
         Ok((reply, self.known.hears(heard)))
     }
 
+    #[tactic(auto, using(crate::proofs::Seeing::is_got))]
     fn get(&self, id: DocId) -> Result<(Reply, Known<J>), ClusterFault>
         ensures { IfOk result (λ r. IsGot self.now.known id (reply_view r.0) r.1) }
     {
-        let primary = self.client.primary(self.rt);
+        let Leading { primary, past } = self.leader()?;
         let got = self.client.get(self.rt, primary, id)?;
         if !self.known.is_in(&got) {
             return Err(ClusterFault::Stray(got.place()));
         }
-        let known = match got.heard() {
-            Some(heard) => self.known.hears(heard),
-            None => self.known.again(),
-        };
-        Ok((reply_in(got.into_answer(), 0), known))
+        let known = self.known.gets(&got);
+        Ok((reply_in(got.into_answer(), 0), known.follows(past)))
     }
 
     #[tactic(auto, using(crate::proofs::Found::found_seen))]
     fn search(&self, body: &SearchBody) -> Result<(Reply, Known<J>), ClusterFault>
         ensures { IfOk result (λ r. IsFound self.now.known (query_view body.now.query) body.now.page (reply_view r.0) r.1) }
     {
-        let FoundAt { hits, point } = self.look(&body.query, body.page)?;
-        let known = self.known.sees(&point);
+        let Looked { found, past } = self.look(&body.query, body.page)?;
+        let FoundAt { hits, point } = found;
+        let known = self.known.sees(&point, past);
         Ok((reply_with(self.alloc, hits)?, known))
     }
 
@@ -175,25 +173,59 @@ impl<'a, R: Wait, D: LogDevice, J: RegistryName> Group<'a, R, D, J> {
         let Ok(page) = Page::new(0, 0) else {
             return Err(ClusterFault::NoMemory);
         };
-        let FoundAt { hits, point } = self.look(query, page)?;
-        let known = self.known.sees(&point);
+        let Looked { found, past } = self.look(query, page)?;
+        let FoundAt { hits, point } = found;
+        let known = self.known.sees(&point, past);
         Ok((Reply::Counted(hits.total), known))
     }
 
-    /// What a search finds, of no place of the journal before the one that was seen last, as none does.
-    fn look(&self, query: &Query, page: Page) -> Result<FoundAt<J>, ClusterFault>
-        ensures found { IfOk result (λ f. IsFoundAt (query_view query.now) page (hits_view f.hits) f.point) }
-        ensures later { IfOk result (λ f. IfSome self.now.known.seen (λ h. IsShownBehind h f.point)) }
+    /// Has the master make a copy the primary.
+    fn promote(&self, copy: u32) -> Result<(Reply, Known<J>), ClusterFault>
+        ensures { IfOk result (λ r. IsPromoted self.now.known copy (reply_view r.0) r.1) }
     {
+        let Promotion { reply, past } = promoted(self.rt, self.client, copy)?;
+        if !self.known.is_followed_by(&past) {
+            drop(reply);
+            return Err(ClusterFault::Stray(0));
+        }
+        Ok((reply, self.known.follows(past)))
+    }
+
+    /// The primary, after a past of the master that goes on from what is known of it, as each does.
+    fn leader(&self) -> Result<Leading<J>, ClusterFault>
+        ensures { IfOk result (λ l. IsLedBehind self.now.known.past l.primary l.past) }
+    {
+        let leading = self.client.primary(self.rt);
+        if self.known.is_followed_by(&leading.past) {
+            Ok(leading)
+        } else {
+            Err(ClusterFault::Stray(0))
+        }
+    }
+
+    /// What a search at the primary finds, of no place of the journal before the one that was seen last, as none does.
+    fn look(&self, query: &Query, page: Page) -> Result<Looked<J>, ClusterFault>
+        ensures found { IfOk result (λ l. IsFoundAt (query_view query.now) page (hits_view l.found.hits) l.found.point) }
+        ensures led { IfOk result (λ l. IsLedBehind self.now.known.past l.found.point.node l.past) }
+        ensures later { IfOk result (λ l. IfSome self.now.known.seen (λ h. IsShownBehind h l.found.point)) }
+    {
+        let Leading { primary, past } = self.leader()?;
         let found = self
             .chair
-            .search(self.rt, self.alloc, self.client, query, page)?;
+            .search(self.rt, self.alloc, self.client, primary, query, page)?;
         if self.known.is_shown_by(&found.point) {
-            Ok(found)
+            Ok(Looked { found, past })
         } else {
             Err(ClusterFault::Stray(found.point.entries()))
         }
     }
+}
+
+/// What a search found at the primary, which it is after this past.
+#[derive(Drop)]
+struct Looked<J: RegistryName> {
+    found: FoundAt<J>,
+    past: Past<J>,
 }
 
 /// The fault of a write whose entry stands before what the client knows, as none does.

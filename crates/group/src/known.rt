@@ -1,45 +1,43 @@
 //! What a client knows of the copies of an index.
-ghost use Rattle.std.specs.Prelude.{◌≡◌, None, Some, IfSome, IsTrue};
+ghost use Rattle.std.specs.Prelude.{◌≡◌, [], None, Some, IfSome, IsTrue};
 ghost use Rattle.node.specs.Heard.{IsAheadOf, IsNotBefore};
 ghost use Rattle.cell.specs.Points.{IsShownBehind};
-ghost use Rattle.group.specs.Known.{known, seen_at};
+ghost use Rattle.group.specs.Known.{heard_by, known, seen_at};
+ghost use mathlib.Core.List.{IsPrefix};
 
 use cell::JournalPoint;
 use chronicle::RegistryName;
 use node::{Got, Heard, Receipt};
+use ruled::Past;
 use std::marker::Model;
 
-/// What a client knows: entries of the journal of the copy that it heard of last, and of the one that it saw last, by a refresh or a search. Contracts
-/// see both.
+/// What a client knows: entries of the journal of the copy that it heard of last, of the one that it saw last, by a refresh or a search, and of the
+/// master's. Contracts see all.
 #[derive(Drop)]
 pub struct Known<J: RegistryName> {
     heard: Option<Heard<J>>,
     seen: Option<Heard<J>>,
+    past: Option<Past<J>>,
 }
 
 impl<J: RegistryName> Model for Known<J> {
-    ghost use Rattle.group.specs.Known.{known, KnownData};
+    ghost use Rattle.group.specs.Known.{known, past_in, KnownData};
 
     ghost Value = { KnownData };
 
-    ghost view = { λ k. known k.heard k.seen };
+    ghost view = { λ k. known k.heard k.seen (past_in k.past) };
 }
 
 impl<J: RegistryName> Known<J> {
     /// What a client knows that was told nothing yet.
     pub fn nothing() -> Known<J>
-        ensures { result ≡ known None None }
+        ensures { result ≡ known None None [] }
     {
         Known {
             heard: None,
             seen: None,
+            past: None,
         }
-    }
-
-    pub(crate) fn of(heard: Option<Heard<J>>, seen: Option<Heard<J>>) -> Known<J>
-        ensures { result ≡ known heard seen }
-    {
-        Known { heard, seen }
     }
 
     /// The same once more.
@@ -49,6 +47,7 @@ impl<J: RegistryName> Known<J> {
         Known {
             heard: again(&self.heard),
             seen: again(&self.seen),
+            past: past_again(&self.past),
         }
     }
 
@@ -68,18 +67,60 @@ impl<J: RegistryName> Known<J> {
 
     /// The same, once this was heard.
     pub(crate) fn hears(&self, heard: Heard<J>) -> Known<J>
-        ensures { result ≡ known (Some heard) self.now.seen }
+        ensures { result ≡ known (Some heard) self.now.seen self.now.past }
     {
-        Known::of(Some(heard), again(&self.seen))
+        Known {
+            heard: Some(heard),
+            seen: again(&self.seen),
+            past: past_again(&self.past),
+        }
     }
 
-    /// The same, once a search saw what a copy has at a place of its journal.
-    pub(crate) fn sees(&self, point: &JournalPoint<J>) -> Known<J>
-        ensures { result ≡ seen_at self.now point.now }
+    /// The same, once this was read of a copy, whose journal had these entries then.
+    pub(crate) fn gets(&self, got: &Got<J>) -> Known<J>
+        ensures { result ≡ known (heard_by self.now.heard got.now.node got.now.deeds) self.now.seen self.now.past }
+    {
+        match got.heard() {
+            Some(heard) => self.hears(heard),
+            None => self.again(),
+        }
+    }
+
+    /// The same, once what a copy shows was seen behind these entries, and the master had this past.
+    pub(crate) fn shows(&self, seen: Option<Heard<J>>, past: Past<J>) -> Known<J>
+        ensures { result ≡ known self.now.heard seen past }
+    {
+        Known {
+            heard: again(&self.heard),
+            seen,
+            past: Some(past),
+        }
+    }
+
+    /// The same, once a search saw what a copy has at a place of its journal, and the master had this past.
+    pub(crate) fn sees(&self, point: &JournalPoint<J>, past: Past<J>) -> Known<J>
+        ensures { result ≡ seen_at self.now point.now past }
     {
         match point.heard() {
-            Some(seen) => Known::of(again(&self.heard), Some(seen)),
-            None => self.again(),
+            Some(seen) => self.shows(Some(seen), past),
+            None => self.shows(again(&self.seen), past),
+        }
+    }
+
+    /// The same, once the master had this past.
+    pub(crate) fn follows(&self, past: Past<J>) -> Known<J>
+        ensures { result ≡ known self.now.heard self.now.seen past }
+    {
+        self.shows(again(&self.seen), past)
+    }
+
+    /// Whether a past of the master goes on from what is known of it.
+    pub(crate) fn is_followed_by(&self, past: &Past<J>) -> bool
+        ensures { IsTrue result → IsPrefix self.now.past past.now }
+    {
+        match &self.past {
+            Some(known) => known.is_within(past),
+            None => true,
         }
     }
 
@@ -110,6 +151,16 @@ pub(crate) fn again<J: RegistryName>(told: &Option<Heard<J>>) -> Option<Heard<J>
 {
     match told {
         Some(told) => Some(told.again()),
+        None => None,
+    }
+}
+
+/// A past of the master, once more.
+fn past_again<J: RegistryName>(past: &Option<Past<J>>) -> Option<Past<J>>
+    ensures { result ≡ past.now }
+{
+    match past {
+        Some(past) => Some(past.again()),
         None => None,
     }
 }

@@ -9,20 +9,31 @@ use cluster::{Client, ClusterFault};
 use front::command::Command;
 use front::reply::{Refusal, Reply};
 use master::MasterFault;
+use ruled::{Decided, Past};
 use std::sync::Wait;
 use translog::LogDevice;
 
+/// The reply that tells a promotion, which is the last of this past.
+#[derive(Drop)]
+pub(crate) struct Promotion<J: RegistryName> {
+    pub(crate) reply: Reply,
+    pub(crate) past: Past<J>,
+}
+
 /// Has the master make a copy the primary. Each promotion has a message, by which the copy is told its term.
-pub(crate) fn promote<R: Wait, D: LogDevice, J: RegistryName>(
+pub(crate) fn promoted<R: Wait, D: LogDevice, J: RegistryName>(
     rt: &R,
     client: &Client<D, J>,
     copy: u32,
-) -> Result<Reply, ClusterFault>
-    ensures { IfOk result (λ r. IsMadePrimary copy (reply_view r)) }
+) -> Result<Promotion<J>, ClusterFault>
+    ensures { IfOk result (λ p. IsMadePrimary copy (reply_view p.reply) p.past) }
 {
-    let decision = client.promote(rt, copy)?;
+    let Decided { decision, past } = client.promote(rt, copy)?;
     match &decision.sent {
-        Some(message) => Ok(Reply::Promoted(copy, message.term)),
+        Some(message) => Ok(Promotion {
+            reply: Reply::Promoted(copy, message.term),
+            past,
+        }),
         None => Err(ClusterFault::Stray(0)),
     }
 }

@@ -4,7 +4,6 @@ ghost use Rattle.engine.specs.Shown.{hits_view};
 ghost use Rattle.query.specs.View.{query_view};
 ghost use Rattle.front.specs.ReplyView.{reply_view};
 ghost use Rattle.shard.specs.Answering as spec;
-ghost use Rattle.group.specs.Known.{IsLed};
 ghost use Rattle.group.specs.Searching.{IsFoundAt};
 
 use cell::{CopySearcher, FoundAt};
@@ -38,23 +37,25 @@ impl<J: RegistryName> Chair<J> {
     /// A place with a searcher of the primary where that can be had; else the first search there asks for it.
     pub fn new<R: Wait, D: LogDevice>(rt: &R, client: &Client<D, J>) -> Chair<J> {
         Chair {
-            seat: Mutex::new(seat_of(rt, client).ok()),
+            seat: Mutex::new(seat_of(rt, client, client.primary(rt).primary).ok()),
         }
     }
 
-    /// What a search by a searcher of the primary finds.
+    /// What a search by a searcher of a copy finds.
     pub(crate) fn search<R: Wait, D: LogDevice>(
         &self,
         rt: &R,
         alloc: Global,
         client: &Client<D, J>,
+        copy: u32,
         query: &Query,
         page: Page,
     ) -> Result<FoundAt<J>, ClusterFault>
-        ensures { IfOk result (λ f. IsFoundAt (query_view query.now) page (hits_view f.hits) f.point) }
+        ensures found { IfOk result (λ f. IsFoundAt (query_view query.now) page (hits_view f.hits) f.point) }
+        ensures copy { IfOk result (λ f. f.point.node ≡ copy) }
     {
         let mut held = self.seat.lock(rt);
-        let mut seat = seated(rt, client, held.take())?;
+        let mut seat = seated(rt, client, copy, held.take())?;
         let found = found_by(&mut seat, alloc, query, page);
         if found.is_ok() {
             *held = Some(seat);
@@ -63,32 +64,33 @@ impl<J: RegistryName> Chair<J> {
     }
 }
 
-/// A searcher of the primary.
+/// A searcher of a copy.
 fn seat_of<R: Wait, D: LogDevice, J: RegistryName>(
     rt: &R,
     client: &Client<D, J>,
+    copy: u32,
 ) -> Result<Seat<J>, ClusterFault>
-    ensures { IfOk result (λ s. IsLed s.copy) }
+    ensures { IfOk result (λ s. s.copy ≡ copy) }
 {
-    let copy = client.primary(rt);
     let searcher = client.searcher(rt, copy)?;
     Ok(Seat { copy, searcher })
 }
 
-/// A searcher of the primary: the one of before, or where another copy leads now a new one.
+/// A searcher of a copy: the one of before, or where that was of another copy a new one.
 fn seated<R: Wait, D: LogDevice, J: RegistryName>(
     rt: &R,
     client: &Client<D, J>,
+    copy: u32,
     before: Option<Seat<J>>,
 ) -> Result<Seat<J>, ClusterFault>
-    ensures { IfOk result (λ s. IsLed s.copy) }
+    ensures { IfOk result (λ s. s.copy ≡ copy) }
 {
     if let Some(seat) = before {
-        if seat.copy == client.primary(rt) {
+        if seat.copy == copy {
             return Ok(seat);
         }
     }
-    seat_of(rt, client)
+    seat_of(rt, client, copy)
 }
 
 /// What a searcher finds, where that is of its copy.
@@ -99,8 +101,8 @@ fn found_by<J: RegistryName>(
     query: &Query,
     page: Page,
 ) -> Result<FoundAt<J>, ClusterFault>
-    requires { IsLed seat.old.copy }
-    ensures { IfOk result (λ f. IsFoundAt (query_view query.now) page (hits_view f.hits) f.point) }
+    ensures found { IfOk result (λ f. IsFoundAt (query_view query.now) page (hits_view f.hits) f.point) }
+    ensures copy { IfOk result (λ f. f.point.node ≡ seat.old.copy) }
 {
     match seat.searcher.search(alloc, query, page) {
         Ok(found) => if found.point.node() == seat.copy {

@@ -43,7 +43,7 @@ use Rattle.shard.specs.Answering.{item_reply_of, reply_of, write_of, wrote_of}
 use Rattle.group.specs.Group.{IsBulkWritten, IsGot, IsTold, IsWritten, counted_at, replies_at, told_by}
 use Rattle.group.specs.Known.{Heard, KnownData, heard_by}
 use Rattle.promises.specs.Promises.{HasWrite, IsAcknowledged, alone, among}
-use Rattle.promises.specs.Copies.{AreWithoutReset, HasFrom, Knows, WritesAreFoundAtCopies}
+use Rattle.promises.specs.Copies.{AreWithoutReset, HasFrom, IsReadAfter, Knows, WritesAreFoundAtCopies}
 use Rattle.promises.proofs.Lists.{has_write}
 use Rattle.promises.proofs.Standings.{HasAt, RisesAt, goes_on_at, has_after, rises_after}
 use Rattle.promises.proofs.Steps.{Has}
@@ -211,6 +211,25 @@ got_in : (J : Type 0) (id : Id) (o : Option Found) (later new : KnownData) → I
 got_in J id o later new (inl done) = done
 got_in J id o later new (inr refusal) = absurd (let never : got o ≡ refused refusal.0.refusal = refusal.0.told in cc)
 
+-- what the copy has after these entries
+abbrev pub left_after : Copy → List Deed → List Op
+left_after opening deeds = operations (after (open_at opening) 0 deeds).copy
+
+-- a get tells what the copy has after all entries of then
+pub read_of : (id : Id) (r : Reply) (later new : KnownData) (g : IsGot later id r new) → IsReadAfter id r g.got.node g.got.deeds (left_after g.is_got.journal.opening g.got.deeds)
+read_of id r later new g =
+    let j = g.is_got in
+    let opening : Copy = j.journal.opening in
+    let os : List Op = left_after opening g.got.deeds in
+    let copy : (standing j.journal).copy ≡ (after (open_at opening) 0 g.got.deeds).copy = ap (λ (ds : List Deed). (after (open_at opening) 0 ds).copy) j.deeds_is in
+    record {
+      opening = opening;
+      legal = subst (λ (ds : List Deed). IsLegal (open_at opening) 0 ds) j.deeds_is j.legal;
+      node_is = j.node_is;
+      left = refl;
+      told = g.told ∙ ap (reply_of 0) (j.read.has ∙ (ap (λ (c : Copy). got_by c g.got.id) copy ∙ (ap (λ (i : Id). get_answer (document_at (documents os) i)) g.id_is ∙ ap get_answer (document_at-documents os id))));
+    }
+
 module _ (opening : Copy) (sound : RisesAt (open_at opening)) (acked : PrefixData Deed) (id : Id) (seq : ℕ) (e : IsWriteOf acked id seq) where
   -- the write stays along entries that are no resets
   has_still : (more : List Deed) → IsLegal (open_at opening) 0 ((e.front ++ e.deed ∷ []) ++ more) → AreWithoutReset more → HasWrite id seq (operations (after (open_at opening) 0 ((e.front ++ e.deed ∷ []) ++ more)).copy)
@@ -244,22 +263,13 @@ pub writes_are_found_at_copies : (J : Type 0) → WritesAreFoundAtCopies J
 writes_are_found_at_copies J w x asked reply o acked before after' later new is told upto knows then =
     let e = entry_of J w x asked reply before after' acked is told upto in
     let g = got_in J w.id o later new then in
-    let j = g.is_got in
-    let opening : Copy = j.journal.opening in
-    let legal : IsLegal (open_at opening) 0 g.got.deeds = subst (λ (ds : List Deed). IsLegal (open_at opening) 0 ds) j.deeds_is j.legal in
-    let os : List Op = operations (after (open_at opening) 0 g.got.deeds).copy in
-    let copy : (standing j.journal).copy ≡ (after (open_at opening) 0 g.got.deeds).copy = ap (λ (ds : List Deed). (after (open_at opening) 0 ds).copy) j.deeds_is in
+    let opening : Copy = g.is_got.journal.opening in
+    let legal : IsLegal (open_at opening) 0 g.got.deeds = subst (λ (ds : List Deed). IsLegal (open_at opening) 0 ds) g.is_got.deeds_is g.is_got.legal in
     record {
       node = g.got.node;
       deeds = g.got.deeds;
-      os = os;
-      read = record {
-        opening = opening;
-        legal = legal;
-        node_is = j.node_is;
-        left = refl;
-        told = g.told ∙ ap (reply_of 0) (j.read.has ∙ (ap (λ (c : Copy). got_by c g.got.id) copy ∙ (ap (λ (i : Id). get_answer (document_at (documents os) i)) g.id_is ∙ ap get_answer (document_at-documents os w.id))));
-      };
-      from = has_from acked knows.known w.id x.seq e opening g.got.node g.got.deeds (record { copy = IsAscending-operations opening.records j.sound; other = tt }) legal knows.entries knows.copy
+      os = left_after opening g.got.deeds;
+      read = read_of w.id (got o) later new g;
+      from = has_from acked knows.known w.id x.seq e opening g.got.node g.got.deeds (record { copy = IsAscending-operations opening.records g.is_got.sound; other = tt }) legal knows.entries knows.copy
           (subst (λ (h : Heard). IfSome h (λ p. IsNotBefore p g.got)) knows.is g.later);
     }

@@ -14,7 +14,7 @@ use Rattle.group.specs.Known.{Heard, KnownData, HasRefreshed, IsSeenAmong, heard
 use Rattle.promises.specs.Copies.{NeverBackAtCopies, SearchesNeverBackAtCopies}
 use Rattle.promises.proofs.AtCopies.{known_one}
 
-self : (xs : List Deed) → IsPrefix xs xs
+pub self : {A : Type 0} (xs : List A) → IsPrefix xs xs
 self xs = ([], append-nil xs)
 
 module _ (before after : Heard) (p q : PrefixData Deed) (was : before ≡ Some p) (is : after ≡ Some q) where
@@ -31,17 +31,19 @@ module _ (before after : Heard) (p q : PrefixData Deed) (was : before ≡ Some p
   as_told node [] next grows same = as_before next
   as_told node (d ∷ ds) next grows same = as_next node (d ∷ ds) next grows same
 
-  as_seen : (heard : Heard) (entries : List Receipt) → IsSeenAmong heard before entries after → q.number ≡ p.number → IsPrefix p.entries q.entries
-  as_seen heard entries s same =
+  as_seen : (heard : Heard) (primary : ℕ) (entries : List Receipt) → IsSeenAmong heard before primary entries after → q.number ≡ p.number → IsPrefix p.entries q.entries
+  as_seen heard primary entries s same =
       let ahead : IsAheadOf p s.entry = subst (λ (h : Heard). IfSome h (λ x. IsAheadOf x s.entry)) was s.seen.unseen in
       as_next s.entry.node s.entry.deeds s.seen.seen (λ node. (ahead node).entries) same
 
-  as_refreshed : (heard : Heard) (copies : ℕ) → HasRefreshed heard before copies after → q.number ≡ p.number → IsPrefix p.entries q.entries
-  as_refreshed heard copies r same = ⊎_elim (λ (e : after ≡ before). as_before e) (λ (s : IsSeenAmong heard before r.entries after). as_seen heard r.entries s same) r.seen
+module _ (before after : KnownData) (p q : PrefixData Deed) (was : before.seen ≡ Some p) (is : after.seen ≡ Some q) where
+  as_refreshed : (copies : ℕ) → HasRefreshed before copies after → q.number ≡ p.number → IsPrefix p.entries q.entries
+  as_refreshed copies r same =
+      ⊎_elim (λ (e : after.seen ≡ before.seen). as_before before.seen after.seen p q was is e) (λ (s : IsSeenAmong after.heard before.seen r.primary r.entries after.seen). as_seen before.seen after.seen p q was is after.heard r.primary r.entries s same) r.seen
 
-  as_wanted : (b : Bool) (heard : Heard) → (b ≡ true → (copies : ℕ) × HasRefreshed heard before copies after) → (b ≡ false → after ≡ before) → q.number ≡ p.number → IsPrefix p.entries q.entries
-  as_wanted true heard does other same = let r = does refl in as_refreshed heard r.0 r.1 same
-  as_wanted false heard does other same = as_before (other refl)
+  as_wanted : (b : Bool) → (b ≡ true → (copies : ℕ) × HasRefreshed before copies after) → (b ≡ false → (after.seen ≡ before.seen) × (after.past ≡ before.past)) → q.number ≡ p.number → IsPrefix p.entries q.entries
+  as_wanted true does other same = let r = does refl in as_refreshed r.0 r.1 same
+  as_wanted false does other same = as_before before.seen after.seen p q was is (other refl).0
 
 heard_of : (k l : KnownData) → k ≡ l → k.heard ≡ l.heard
 heard_of k l e = ap (λ (x : KnownData). x.heard) e
@@ -64,17 +66,17 @@ never_back_at_copies J (get id) r before after p q (inl is) was now same =
 never_back_at_copies J (search query page) r before after p q (inl is) was now same = as_before before.heard after.heard p q was now (ap (λ (x : KnownData). x.heard) is.seen.now)
 never_back_at_copies J (count query) r before after p q (inl is) was now same = as_before before.heard after.heard p q was now (ap (λ (x : KnownData). x.heard) is.seen.now)
 never_back_at_copies J refresh r before after p q (inl is) was now same = as_before before.heard after.heard p q was now is.heard
-never_back_at_copies J (promote copy) r before after p q (inl is) was now same = as_before before.heard after.heard p q was now (heard_of after before is.1)
+never_back_at_copies J (promote copy) r before after p q (inl is) was now same = as_before before.heard after.heard p q was now (ap (λ (x : KnownData). x.heard) is.now)
 never_back_at_copies J c r before after p q (inr is) was now same = as_before before.heard after.heard p q was now (heard_of after before is.1)
 
 pub searches_never_back_at_copies : (J : Type 0) → SearchesNeverBackAtCopies J
-searches_never_back_at_copies J (write w) r before after p q (inl is) was now same = as_wanted before.seen after.seen p q was now w.refresh after.heard is.seen.refreshed is.seen.unrefreshed same
+searches_never_back_at_copies J (write w) r before after p q (inl is) was now same = as_wanted before after p q was now w.refresh is.seen.refreshed is.seen.unrefreshed same
 searches_never_back_at_copies J (bulk ws) r before after p q (inl is) was now same = as_before before.seen after.seen p q was now (ap (λ (x : KnownData). x.seen) is.now)
 searches_never_back_at_copies J (get id) r before after p q (inl is) was now same = as_before before.seen after.seen p q was now (ap (λ (x : KnownData). x.seen) is.now)
 searches_never_back_at_copies J (search query page) r before after p q (inl is) was now same =
     as_told before.seen after.seen p q was now is.seen.at.node is.seen.at.deeds (ap (λ (x : KnownData). x.seen) is.seen.now) (subst (λ (h : Heard). IfSome h (λ x. IsShownBehind x is.seen.at)) was is.seen.later) same
 searches_never_back_at_copies J (count query) r before after p q (inl is) was now same =
     as_told before.seen after.seen p q was now is.seen.at.node is.seen.at.deeds (ap (λ (x : KnownData). x.seen) is.seen.now) (subst (λ (h : Heard). IfSome h (λ x. IsShownBehind x is.seen.at)) was is.seen.later) same
-searches_never_back_at_copies J refresh r before after p q (inl is) was now same = as_refreshed before.seen after.seen p q was now before.heard is.copies is.done same
-searches_never_back_at_copies J (promote copy) r before after p q (inl is) was now same = as_before before.seen after.seen p q was now (seen_of after before is.1)
+searches_never_back_at_copies J refresh r before after p q (inl is) was now same = as_refreshed before after p q was now is.copies is.done same
+searches_never_back_at_copies J (promote copy) r before after p q (inl is) was now same = as_before before.seen after.seen p q was now (ap (λ (x : KnownData). x.seen) is.now)
 searches_never_back_at_copies J c r before after p q (inr is) was now same = as_before before.seen after.seen p q was now (seen_of after before is.1)

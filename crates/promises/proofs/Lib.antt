@@ -10,6 +10,7 @@ pub mod Standings
 pub mod AtCopies
 pub mod InOrder
 pub mod SeenAtCopies
+pub mod InTurn
 pub mod Leading
 pub mod Leaders
 pub mod Events

@@ -1,4 +1,4 @@
--- What a client of an index of several copies may rely on. It knows the first entries of the journal of the copy that it heard of last.
+-- What a client of an index of several copies may rely on. It knows the first entries of the journal of the copy that it heard of last, and of the master's.
 use Rattle.std.specs.Prelude.{◌≡◌, ◌⊎◌, ◌++◌, ℕ, Bool, true, false, List, [], ◌∷◌, Option, Some, IfSome}
 use mathlib.Core.List.{IsPrefix}
 use Rattle.chronicle.specs.Registered.{PrefixData}
@@ -19,10 +19,14 @@ use Rattle.front.specs.declared.command.Write.{Write}
 use Rattle.front.specs.declared.reply.Found.{Found}
 use Rattle.front.specs.declared.reply.Wrote.{Wrote}
 use Rattle.front.specs.Command.{Command, write, bulk, get, search, count, refresh, promote}
-use Rattle.front.specs.Reply.{Reply, got}
+use Rattle.front.specs.Reply.{Reply, got, promoted}
 use Rattle.shard.specs.Answering.{reply_of}
 use Rattle.group.specs.Group.{IsTold}
-use Rattle.group.specs.Known.{Heard, KnownData}
+use Rattle.group.specs.Known.{Heard, IsLedBehind, KnownData}
+use Rattle.master.specs.declared.state.Decision.{Decision}
+use Rattle.master.specs.declared.state.Request.TheVariants as request
+use Rattle.ruled.specs.declared.entry.MasterEntry.{MasterEntry}
+use Rattle.ruled.specs.Entries.{IsDecided}
 use Rattle.promises.specs.Promises.{HasWrite, IsAcknowledged, IsOver, is_refused, is_search}
 
 -- whether another primary tells by it what the copy has from then on
@@ -115,6 +119,40 @@ pub record Knows (p : PrefixData Deed) (heard : Heard) : Type 0 where
   pub copy : known.number ≡ p.number
   pub entries : IsPrefix p.entries known.entries
 
+-- whether a command asks for documents
+abbrev pub reads : Command → Bool
+reads (get id) = true
+reads (search q page) = true
+reads (count q) = true
+reads (write w) = false
+reads (bulk ws) = false
+reads refresh = false
+reads (promote copy) = false
+
+-- the reply tells what is asked of the copy of this id after these entries of a journal, which leave it these operations
+abbrev pub IsReplyAfter : Command → Reply → ℕ → List Deed → List one.Op → Type 0
+IsReplyAfter (get id) r node deeds os = IsReadAfter id r node deeds os
+IsReplyAfter (search q page) r node deeds os = IsSoughtAfter (search q page) r node deeds os
+IsReplyAfter (count q) r node deeds os = IsSoughtAfter (count q) r node deeds os
+IsReplyAfter (write w) r node deeds os = ⊥
+IsReplyAfter (bulk ws) r node deeds os = ⊥
+IsReplyAfter refresh r node deeds os = ⊥
+IsReplyAfter (promote copy) r node deeds os = ⊥
+
+-- so it does of a copy that is the primary after a past of the master that goes on from this
+pub record IsOfPrimary (past : List MasterEntry) (c : Command) (r : Reply) : Type 0 where
+  pub node : ℕ
+  pub deeds : List Deed
+  pub os : List one.Op
+  pub reply : IsReplyAfter c r node deeds os
+  pub now : List MasterEntry
+  pub led : IsLedBehind past node now
+
+-- the last of these entries of the master's journal is the decision that makes the copy the primary
+pub record IsPromotion (copy : ℕ) (past : List MasterEntry) : Type 0 where
+  pub decision : Decision
+  pub decided : IsDecided (request.Promote copy) decision past
+
 -- ---- the promises
 
 -- a client that knows of a write that it is confirmed, and gets the id from that copy, is told the write or a newer one, unless the copy was reset since
@@ -145,3 +183,15 @@ NeverBackAtCopies J =
 abbrev pub SearchesNeverBackAtCopies : Type 0 → Type 0
 SearchesNeverBackAtCopies J =
     (c : Command) (r : Reply) (before after : KnownData) (p q : PrefixData Deed) → IsTold J before c r after → before.seen ≡ Some p → after.seen ≡ Some q → q.number ≡ p.number → IsPrefix p.entries q.entries
+
+-- what a client knows of the master's journal by one reply begins what it knows of it by the next
+abbrev pub MasterNeverBack : Type 0 → Type 0
+MasterNeverBack J = (c : Command) (r : Reply) (before after : KnownData) → IsTold J before c r after → IsPrefix before.past after.past
+
+-- a client that was told that a copy is made the primary, and goes on from there, is told of documents by the copy that is the primary then, by that decision or a
+-- later one
+abbrev pub PromotionsAreFollowed : Type 0 → Type 0
+PromotionsAreFollowed J =
+    (copy term : ℕ) (c : Command) (r : Reply) (before after later new : KnownData)
+    → IsTold J before (promote copy) (promoted copy term) after → IsPrefix after.past later.past → IsTold J later c r new → reads c ≡ true → is_refused r ≡ false
+    → IsPromotion copy after.past × IsOfPrimary after.past c r

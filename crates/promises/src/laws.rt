@@ -1,6 +1,6 @@
 //! What follows of the replies of an index: of one copy, whatever else is asked of it meanwhile, and however often its log fails and its copy restarts; and
 //! of one of several copies, for a client that goes on asking the copy that it heard of.
-ghost use Rattle.promises.specs.Copies.{NeverBackAtCopies, RefreshesAreSeenAtCopies, SearchesNeverBackAtCopies, WritesAreFoundAtCopies, WritesAreSeenAtCopies};
+ghost use Rattle.promises.specs.Copies.{MasterNeverBack, NeverBackAtCopies, PromotionsAreFollowed, RefreshesAreSeenAtCopies, SearchesNeverBackAtCopies, WritesAreFoundAtCopies, WritesAreSeenAtCopies};
 ghost use Rattle.promises.specs.Runs.{WritesAreHeldInRuns};
 ghost use Rattle.promises.specs.Promises.{WritesAreFound, WritesAreSeen, RefreshedWritesAreSeen, NeverBack, GoesOnAlong};
 
@@ -62,6 +62,17 @@ pub fn searches_never_go_back_at_copies<J: RegistryName>()
 /// Of several copies: of two replies to one client that tell of one copy none is of an earlier place of its journal than the one before it.
 pub fn replies_never_go_back_at_copies<J: RegistryName>()
     ensures { NeverBackAtCopies J }
+{}
+
+/// Of several copies: what a client knows of the master's journal by one reply, which copy is the primary above all, begins what it knows of it by the next.
+pub fn the_master_never_goes_back<J: RegistryName>()
+    ensures { MasterNeverBack J }
+{}
+
+/// Of several copies: behind a promotion that a client was told its gets, searches and counts are answered by the copy that is the primary then, by that decision
+/// of the master or a later one.
+pub fn promotions_are_followed<J: RegistryName>()
+    ensures { PromotionsAreFollowed J }
 {}
 
 /// Of several copies, over promotions, recoveries and restarts: at the end of a run each copy that is in sync has a write that a client was told as done, or

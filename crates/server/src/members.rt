@@ -7,12 +7,13 @@ use crate::listening::listen_to_group;
 use crate::mapping::fields_of;
 use crate::opening::{Counted, OpeningLine};
 use crate::settings::Settings;
-use chronicle::{Registry, RegistryName, Unnamed};
-use cluster::{Cluster, Devices, InMemory, Journals, Open, Unopened};
+use chronicle::{Ledgers, RegistryName, Unnamed};
+use cluster::{Cluster, ClusterFault, Devices, HandedOut, InMemory, Journals, Open, Unopened};
 use doc::Mapping;
 use folder::{KeptFolder, MappingFile, judge, keep_journals, open_folder};
 use journal::{Deed, Journal};
 use node::Receipt;
+use ruled::MasterEntry;
 use std::alloc::{AllocError, Global};
 use std::fs;
 use std::fs::File;
@@ -80,7 +81,7 @@ fn serve_started<J, R, O, E>(
     wanted: &Wanted<'_>,
     output: &mut O,
     errors: &mut E,
-    journals: Unnamed<Deed>,
+    journals: Unnamed<Deed, MasterEntry>,
 ) -> Result<(), ServeFault>
 where
     J: RegistryName + Send + Sync + 'static,
@@ -97,12 +98,12 @@ where
         + 'static,
     O: Write,
     E: Write + Send,
-    requires { journals ≡ J.registry }
+    requires { (journals.registry ≡ J.registry) × (journals.ledger ≡ J.ledger) }
 {
     let alloc = rt.alloc();
     let copied = wanted.fields.copy(alloc)?;
     let copies = wanted.settings.copies.max(1).min(5) as u8;
-    let registry: Registry<Deed, J> = journals.named();
+    let ledgers: Ledgers<Deed, MasterEntry, J> = journals.named();
     match Cluster::start(
         rt,
         alloc,
@@ -111,7 +112,7 @@ where
         InMemory { alloc },
         Open,
         kept_by(wanted.settings),
-        registry,
+        ledgers,
     ) {
         Ok(cluster) => {
             let served = serve_cluster(rt, wanted, &cluster, output, errors);
@@ -166,11 +167,26 @@ where
     let closed = cluster.close(rt, receipts.as_slice());
     drop(receipts);
     match served {
-        Ok(()) => closed.map_err(ServeFault::from),
+        Ok(()) => handed(closed),
         Err(fault) => {
             drop(closed);
             Err(fault)
         }
+    }
+}
+
+/// The journals alone of what is handed out.
+fn handed<J: RegistryName>(
+    closed: Result<Option<HandedOut<J>>, ClusterFault>,
+) -> Result<Option<Vec<Journal>>, ServeFault> {
+    match closed {
+        Ok(Some(out)) => {
+            let HandedOut { journals, past } = out;
+            drop(past);
+            Ok(Some(journals))
+        }
+        Ok(None) => Ok(None),
+        Err(fault) => Err(ServeFault::from(fault)),
     }
 }
 
@@ -296,7 +312,7 @@ fn serve_folder<J, R, O, E>(
     kept: &WantedIn<'_>,
     output: &mut O,
     errors: &mut E,
-    journals: Unnamed<Deed>,
+    journals: Unnamed<Deed, MasterEntry>,
 ) -> Result<(), ServeFault>
 where
     J: RegistryName + Send + Sync + 'static,
@@ -313,10 +329,10 @@ where
         + 'static,
     O: Write,
     E: Write + Send,
-    requires { journals ≡ J.registry }
+    requires { (journals.registry ≡ J.registry) × (journals.ledger ≡ J.ledger) }
 {
-    let registry: Registry<Deed, J> = journals.named();
-    match opened(rt, kept, errors, registry) {
+    let ledgers: Ledgers<Deed, MasterEntry, J> = journals.named();
+    match opened(rt, kept, errors, ledgers) {
         Ok(mut cluster) => {
             let served = serve_opened(rt, &kept.wanted, &mut cluster, output, errors);
             told_of(
@@ -342,7 +358,7 @@ fn opened<J, R, E>(
     rt: &R,
     kept: &WantedIn<'_>,
     errors: &mut E,
-    registry: Registry<Deed, J>,
+    ledgers: Ledgers<Deed, MasterEntry, J>,
 ) -> Result<Cluster<FileDevice<File>, Counted<R>, Open, J>, ServeFault>
 where
     J: RegistryName + Send + Sync + 'static,
@@ -382,7 +398,7 @@ where
                     devices,
                     Open,
                     kept_by(settings),
-                    registry,
+                    ledgers,
                 )
             });
             cluster.map_err(ServeFault::from)
@@ -471,9 +487,9 @@ where
     R: Wait,
     V: Devices<FileDevice<File>>,
 {
-    let state = cluster.client().state(rt)?;
+    let known = cluster.client().state(rt)?;
     let mut lacking = wanted;
-    for copy in state.in_sync.as_slice() {
+    for copy in known.state.in_sync.as_slice() {
         if !is_among(*copy, cluster.unopened()) {
             lacking = lacking.saturating_sub(1);
         }

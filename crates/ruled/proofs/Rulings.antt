@@ -1,6 +1,6 @@
 -- A journal of the master with one more entry.
 use Rattle.std.proofs.Common.{◌≡◌, ◌⊎◌, inl, inr, ℕ, true, false, List, [], ◌∷◌, ◌++◌, Option, Some, None, Result, Ok, Err, IfOk, IfErr, refl, sym, ap, subst, ◌∙◌, true≢false}
-use Rattle.std.specs.Prelude.{IfSome}
+use Rattle.std.specs.Prelude.{Bool, IfSome, map}
 use Rattle.journal.specs.declared.journal.Ruling.{Ruling}
 use Rattle.journal.specs.Lawful.{begins_open}
 use Rattle.journal.specs.Rulings.{Ruler, AreLegal, IsLegalRuling, next_ruler, ruled, ruler_after}
@@ -18,7 +18,11 @@ use Rattle.translog.specs.declared.fault.LogFault.{LogFault}
 use Rattle.translog.specs.Device.{count_after}
 use Rattle.translog.specs.Fault as log
 use Rattle.translog.specs.Fault.{Fault}
-use Rattle.cluster.specs.Ruled.{RuledData, IsDecided, IsEntered, IsFound, IsKnown, IsRuled, IsRuling, IsUnasked, IsUnruled, MayKeep, ruling}
+use Rattle.chronicle.specs.Ledger.{LedgerData, recorded}
+use Rattle.ruled.specs.declared.entry.MasterEntry.{MasterEntry}
+use Rattle.ruled.specs.declared.entry.MasterEntry.TheVariants.{Opened, Answered}
+use Rattle.ruled.specs.Entries.{AreMasters, IsDecided, IsKnown, IsLeading, entries_of, ruling}
+use Rattle.ruled.specs.Ruled.{RuledData, IsEntered, IsFound, IsRuled, IsRuling, IsUnasked, IsUnruled, MayKeep, with_entries, with_journal}
 
 pub legal_push : (s : Ruler) (rs : List Ruling) (r : Ruling) → AreLegal s rs → IsLegalRuling (ruler_after s rs) r → AreLegal s (rs ++ r ∷ [])
 legal_push s [] r legal last = (last, tt)
@@ -28,23 +32,60 @@ pub after_push : (s : Ruler) (rs : List Ruling) (r : Ruling) → ruler_after s (
 after_push s [] r = refl
 after_push s (x ∷ rs) r = after_push (next_ruler s x) rs r
 
+-- ---- the entries
+
+answered_push : (rs : List Ruling) (r : Ruling) → map (λ x. Answered x) (rs ++ r ∷ []) ≡ map (λ x. Answered x) rs ++ Answered r ∷ []
+answered_push [] r = refl
+answered_push (x ∷ rs) r = ap (λ (es : List MasterEntry). Answered x ∷ es) (answered_push rs r)
+
+entries_push : (s : State) (rs : List Ruling) (r : Ruling) → entries_of s (rs ++ r ∷ []) ≡ entries_of s rs ++ Answered r ∷ []
+entries_push s rs r = ap (λ (es : List MasterEntry). Opened s ∷ es) (answered_push rs r)
+
 -- ---- a legal journal, and the master that it tells of
 
+abbrev pub with_one : RuledData → Ruling → Option Ruling → Logged → RuledData
+with_one old r unsure master = with_entries old.kept (old.entries ++ Answered r ∷ []) unsure master
+
 more_ruled : (old : RuledData) (unsure : Option Ruling) (master : Logged) (r : Ruling) → IsRuled old → IsLegalRuling (begins_open old.master.state) r → next_ruler (begins_open old.master.state) r ≡ begins_open master.state
-    → master.closed ≡ false → IsRuled (record { opening = old.opening; rulings = old.rulings ++ r ∷ []; unsure = unsure; master = master })
+    → master.closed ≡ false → IsRuled (with_one old r unsure master)
 more_ruled old unsure master r is legal after now_open = record {
-  legal = legal_push (begins_open old.opening) old.rulings r is.legal (subst (λ (s : Ruler). IsLegalRuling s r) (sym is.after) legal);
-  after = after_push (begins_open old.opening) old.rulings r ∙ ap (λ (s : Ruler). next_ruler s r) is.after ∙ after;
+  opening = is.opening;
+  rulings = is.rulings ++ r ∷ [];
+  are = ap (λ (es : List MasterEntry). es ++ Answered r ∷ []) is.are ∙ sym (entries_push is.opening is.rulings r);
+  legal = legal_push (begins_open is.opening) is.rulings r is.legal (subst (λ (s : Ruler). IsLegalRuling s r) (sym is.after) legal);
+  after = after_push (begins_open is.opening) is.rulings r ∙ ap (λ (s : Ruler). next_ruler s r) is.after ∙ after;
   shut = λ closed. absurd (true≢false (sym closed ∙ now_open));
 }
 
 -- the master has the state that it had, and is open
-pub same_ruled : (old : RuledData) (unsure : Option Ruling) (master : Logged) → IsRuled old → master.state ≡ old.master.state → master.closed ≡ false → IsRuled (record { opening = old.opening; rulings = old.rulings; unsure = unsure; master = master })
+pub same_ruled : (old : RuledData) (unsure : Option Ruling) (master : Logged) → IsRuled old → master.state ≡ old.master.state → master.closed ≡ false → IsRuled (with_entries old.kept old.entries unsure master)
 same_ruled old unsure master is same now_open = record {
+  opening = is.opening;
+  rulings = is.rulings;
+  are = is.are;
   legal = is.legal;
   after = is.after ∙ ap begins_open (sym same);
   shut = λ closed. absurd (true≢false (sym closed ∙ now_open));
 }
+
+-- a journal that begins
+pub begun_ruled : (kept : Bool) (s : State) (master : Logged) → s ≡ master.state → master.closed ≡ false → IsRuled (with_entries kept (Opened s ∷ []) None master)
+begun_ruled kept s master same now_open = record {
+  opening = s;
+  rulings = [];
+  are = refl;
+  legal = tt;
+  after = ap begins_open same;
+  shut = λ closed. absurd (true≢false (sym closed ∙ now_open));
+}
+
+-- an entry that was pushed
+pub pushed : (l m n : LedgerData MasterEntry) (e : MasterEntry) (unsure : Option Ruling) (master : Logged) → m.kept ≡ l.kept → m.entries ≡ l.entries → n ≡ recorded m.line m.kept false (m.entries ++ e ∷ [])
+    → IsRuled (with_entries l.kept (l.entries ++ e ∷ []) unsure master) → IsRuled (with_journal n unsure master)
+pushed l m n e unsure master kept same added is =
+    let keeps = ap (λ (x : LedgerData MasterEntry). x.kept) added ∙ kept in
+    let entries = ap (λ (x : LedgerData MasterEntry). x.entries) added ∙ ap (λ (es : List MasterEntry). es ++ e ∷ []) same in
+    subst (λ (b : Bool). IsRuled (with_entries b n.entries unsure master)) (sym keeps) (subst (λ (es : List MasterEntry). IsRuled (with_entries l.kept es unsure master)) (sym entries) is)
 
 -- ---- a decision
 
@@ -65,7 +106,7 @@ left_by s m d step is = rw is refl
 
 module _ (old : RuledData) (master : Logged) (pass : ℕ) (request : Request) (decision : Decision) (is : IsRuled old) where
   pub made_more : (made : Decision) → IsDone old.master master request made (master_step old.master.state request) → decision_of (master_step old.master.state request) ≡ Ok decision
-      → IsRuled (record { opening = old.opening; rulings = old.rulings ++ ruling pass request (Ok decision) ∷ []; unsure = old.unsure; master = master })
+      → IsRuled (with_one old (ruling pass request (Ok decision)) old.unsure master)
   made_more made done looked =
       let same = same_decision made decision master.state (sym (ap decision_of done.decided) ∙ looked) in
       let step = done.decided ∙ ap (done_with master.state) same in
@@ -89,15 +130,18 @@ module _ (old : RuledData) (master : Logged) (pass : ℕ) (request : Request) (d
       }))
 
   shut_more : IsClosed old.master master (master_step old.master.state request) → decision_of (master_step old.master.state request) ≡ Ok decision
-      → IsRuled (record { opening = old.opening; rulings = old.rulings; unsure = Some (ruling pass request (Ok decision)); master = master })
+      → IsRuled (with_entries old.kept old.entries (Some (ruling pass request (Ok decision))) master)
   shut_more closed looked = record {
+    opening = is.opening;
+    rulings = is.rulings;
+    are = is.are;
     legal = is.legal;
     after = is.after ∙ ap begins_open (sym closed.state);
     shut = λ _. found_more master.state closed.state closed.decided closed.is looked closed.log;
   }
 
   pub refused_ruled : (e : MasterFault) → old.master.closed ≡ false → IsRefused e old.master master (master_step old.master.state request) → decision_of (master_step old.master.state request) ≡ Ok decision
-      → IsRuled (record { opening = old.opening; rulings = old.rulings; unsure = Some (ruling pass request (Ok decision)); master = master })
+      → IsRuled (with_entries old.kept old.entries (Some (ruling pass request (Ok decision))) master)
   refused_ruled OldTerm now_open refused looked = same_ruled old _ master is refused.same.state (refused.same.closed ∙ now_open)
   refused_ruled NotInSync now_open refused looked = same_ruled old _ master is refused.same.state (refused.same.closed ∙ now_open)
   refused_ruled IsPrimary now_open refused looked = same_ruled old _ master is refused.same.state (refused.same.closed ∙ now_open)
@@ -111,15 +155,15 @@ module _ (old : RuledData) (master : Logged) (pass : ℕ) (request : Request) (d
 refuted : (s : MasterStep) (e : MasterFault) (d : Decision) → s ≡ Err e → decision_of s ≡ Ok d → ⊥
 refuted s e d is looked = cc
 
-module _ (old new : RuledData) (pass : ℕ) (request : Request) (decision : Decision) (opening : new.opening ≡ old.opening) (rulings : new.rulings ≡ old.rulings) where
+module _ (old new : RuledData) (pass : ℕ) (request : Request) (decision : Decision) (kept : new.kept ≡ old.kept) (entries : new.entries ≡ old.entries) where
   pub refused_unruled : (e : MasterFault) (master : Logged) → IsRefused e old.master master (master_step old.master.state request) → decision_of (master_step old.master.state request) ≡ Ok decision → IsUnruled old new pass request e
   refused_unruled OldTerm master refused looked = absurd (refuted _ _ _ refused.cause looked)
   refused_unruled NotInSync master refused looked = absurd (refuted _ _ _ refused.cause looked)
   refused_unruled IsPrimary master refused looked = absurd (refuted _ _ _ refused.cause looked)
   refused_unruled Gone master refused looked = absurd (refuted _ _ _ refused.cause looked)
   refused_unruled Full master refused looked = absurd (refuted _ _ _ refused.cause looked)
-  refused_unruled NoMemory master refused looked = record { opening = opening; rulings = inl rulings }
-  refused_unruled (Log f) master refused looked = record { opening = opening; rulings = inl rulings }
+  refused_unruled NoMemory master refused looked = record { kept = kept; entries = inl entries }
+  refused_unruled (Log f) master refused looked = record { kept = kept; entries = inl entries }
 
 pub refused_counts : (e : MasterFault) (old new : Logged) (s : MasterStep) → old.closed ≡ false → IsRefused e old new s → new.failures ≡ count_after (is_log e) old.failures
 refused_counts OldTerm old new s now_open refused = refused.same.failures
@@ -166,7 +210,7 @@ not_log NoMemory refused = refl
 not_log (Log f) refused = absurd (cc)
 
 pub denied_more : (old : RuledData) (pass : ℕ) (request : Request) (e : MasterFault) → IsRuled old → old.master.closed ≡ false → fault_of e ≡ Some e → master_step old.master.state request ≡ Err e
-    → IsRuled (record { opening = old.opening; rulings = old.rulings ++ ruling pass request (Err e) ∷ []; unsure = old.unsure; master = old.master })
+    → IsRuled (with_one old (ruling pass request (Err e)) old.unsure old.master)
 denied_more old pass request e is now_open refused cause =
     more_ruled old old.unsure old.master (ruling pass request (Err e)) is (legal_denial old.master.state pass request e refused cause) (ap (λ b. record { state = old.master.state; closed = b }) (not_log e refused)) now_open
 
@@ -199,8 +243,11 @@ keeps_still s n one two (Some r) same kept (inl may) = inl (kept ∙ may ∙ ap 
 keeps_still s n one two (Some r) same kept (inr found) = inr (subst (λ (m : State). IsFound m two r) (sym same) (record { legal = found.legal; left = found.left; after = found.after; kept = kept ∙ found.kept }))
 
 pub unopened_ruled : (old : RuledData) (master : Logged) → IsRuled old → old.master.closed ≡ true → master.state ≡ old.master.state → kept_state master.log ≡ kept_state old.master.log
-    → IsRuled (record { opening = old.opening; rulings = old.rulings; unsure = old.unsure; master = master })
+    → IsRuled (with_entries old.kept old.entries old.unsure master)
 unopened_ruled old master is closed same kept = record {
+  opening = is.opening;
+  rulings = is.rulings;
+  are = is.are;
   legal = is.legal;
   after = is.after ∙ ap begins_open (sym same);
   shut = λ _. keeps_still old.master.state master.state old.master.log master.log old.unsure same kept (is.shut closed);
@@ -215,7 +262,7 @@ found_there s n bytes r (inr found) opened other = (found.legal, found.after ∙
 
 -- its log has another state: that of the decision which failed
 pub found_ruled : (old : RuledData) (master : Logged) (r : Ruling) → IsRuled old → old.master.closed ≡ true → old.unsure ≡ Some r → kept_state old.master.log ≡ Ok master.state → (master.state ≡ old.master.state → ⊥) → master.closed ≡ false
-    → IsRuled (record { opening = old.opening; rulings = old.rulings ++ r ∷ []; unsure = None; master = master })
+    → IsRuled (with_one old r None master)
 found_ruled old master r is closed there opened other now_open =
     let may = subst (λ (o : Option Ruling). MayKeep old.master.state old.master.log o) there (is.shut closed) in
     let found = found_there old.master.state master.state old.master.log r may opened other in
@@ -228,23 +275,23 @@ never_found old master is closed there opened other =
 
 -- ---- one entry after another
 
-before_open : (mid : RuledData) (rulings : List Ruling) → mid.master.closed ≡ false → (rulings ≡ mid.rulings) ⊎ IsEntered mid rulings → rulings ≡ mid.rulings
-before_open mid rulings now_open (inl same) = same
-before_open mid rulings now_open (inr entered) = absurd (true≢false (sym entered.closed ∙ now_open))
+before_open : (mid : RuledData) (entries : List MasterEntry) → mid.master.closed ≡ false → (entries ≡ mid.entries) ⊎ IsEntered mid entries → entries ≡ mid.entries
+before_open mid entries now_open (inl same) = same
+before_open mid entries now_open (inr entered) = absurd (true≢false (sym entered.closed ∙ now_open))
 
 module _ (old mid new : RuledData) (pass : ℕ) (request : Request) (first : IsUnasked old mid) (now_open : mid.master.closed ≡ false) where
   pub ruling_after : (answer : Result Decision MasterFault) → IsRuling mid new pass request answer → IsRuling old new pass request answer
   ruling_after answer made = record {
-    opening = made.opening ∙ first.opening;
-    before = mid.rulings;
-    unasked = first.rulings;
-    rulings = made.rulings ∙ ap (λ rs. rs ++ ruling pass request answer ∷ []) (before_open mid made.before now_open made.unasked);
+    kept = made.kept ∙ first.kept;
+    before = mid.entries;
+    unasked = first.entries;
+    entries = made.entries ∙ ap (λ (es : List MasterEntry). es ++ Answered (ruling pass request answer) ∷ []) (before_open mid made.before now_open made.unasked);
   }
 
   unasked_after : IsUnasked mid new → IsUnasked old new
   unasked_after next = record {
-    opening = next.opening ∙ first.opening;
-    rulings = subst (λ (rs : List Ruling). (rs ≡ old.rulings) ⊎ IsEntered old rs) (sym (before_open mid new.rulings now_open next.rulings)) first.rulings;
+    kept = next.kept ∙ first.kept;
+    entries = subst (λ (es : List MasterEntry). (es ≡ old.entries) ⊎ IsEntered old es) (sym (before_open mid new.entries now_open next.entries)) first.entries;
   }
 
   pub unruled_after : (e : MasterFault) → IsUnruled mid new pass request e → IsUnruled old new pass request e
@@ -275,24 +322,40 @@ unruled_unasked old new pass request (Log f) cause next = next
 
 -- ---- what is known of it
 
+nothing : (s : State) (rs : List Ruling) → entries_of s rs ≡ [] → ⊥
+nothing s rs none = cc
+
+masters_of : (r : RuledData) → IsRuled r → AreMasters r.entries
+masters_of r is = record { opening = is.opening; rulings = is.rulings; are = is.are; legal = is.legal }
+
 -- an entry that was made is the last of a legal journal
-pub decided_by : (old new : RuledData) (pass : ℕ) (request : Request) (decision : Decision) → IsRuled new → IsRuling old new pass request (Ok decision) → IsDecided request decision
+pub decided_by : (old new : RuledData) (pass : ℕ) (request : Request) (decision : Decision) → IsRuled new → IsRuling old new pass request (Ok decision) → IsDecided request decision new.entries
 decided_by old new pass request decision is made = record {
-  opening = new.opening;
-  rulings = made.before;
+  before = made.before;
   pass = pass;
-  legal = subst (λ (rs : List Ruling). AreLegal (begins_open new.opening) rs) made.rulings is.legal;
+  last = made.entries;
+  masters = masters_of new is;
 }
 
-pub decided_in : (old new : RuledData) (pass : ℕ) (request : Request) (answer : Result Decision MasterFault) → IsRuled new → IfOk answer (λ d. IsRuling old new pass request (Ok d)) → IfOk answer (IsDecided request)
-decided_in old new pass request (Ok d) is made = decided_by old new pass request d is made
-decided_in old new pass request (Err e) is made = tt
+pub decided_as : (old new : RuledData) (pass : ℕ) (request : Request) (decision : Decision) (past : List MasterEntry) → IsRuled new → IsRuling old new pass request (Ok decision) → past ≡ new.entries → IsDecided request decision past
+decided_as old new pass request decision past is made same = subst (λ (es : List MasterEntry). IsDecided request decision es) (sym same) (decided_by old new pass request decision is made)
 
 -- the master is what its journal says
-pub known_by : (r : RuledData) → IsRuled r → IsKnown r.master.state
+pub known_by : (r : RuledData) → IsRuled r → IsKnown r.entries r.master.state
 known_by r is = record {
-  opening = r.opening;
-  rulings = r.rulings;
+  opening = is.opening;
+  rulings = is.rulings;
+  are = is.are;
   legal = is.legal;
   knows = ap (λ (s : Ruler). s.state) is.after;
 }
+
+pub known_as : (r : RuledData) (entries : List MasterEntry) (s : State) → IsRuled r → entries ≡ r.entries → s ≡ r.master.state → IsKnown entries s
+known_as r entries s is same state = subst (λ (es : List MasterEntry). IsKnown es s) (sym same) (subst (λ (x : State). IsKnown r.entries x) (sym state) (known_by r is))
+
+pub leading_as : (r : RuledData) (entries : List MasterEntry) (copy : ℕ) → IsRuled r → entries ≡ r.entries → copy ≡ r.master.state.primary → IsLeading entries copy
+leading_as r entries copy is same leads = record { state = r.master.state; known = known_as r entries r.master.state is same refl; leads = leads }
+
+-- there is an entry
+pub some_entry : (r : RuledData) → IsRuled r → r.entries ≡ [] → ⊥
+some_entry r is none = nothing is.opening is.rulings (sym is.are ∙ none)

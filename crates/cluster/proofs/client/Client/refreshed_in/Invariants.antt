@@ -1,5 +1,5 @@
 use Rattle.cluster.specs.Refreshed.{AreSoFar}
-use Rattle.cluster.proofs.client.Client.refresh.Given as goal
+use Rattle.cluster.proofs.client.Client.refreshed_in.Given as goal
 
 -- those of the copies before this one that are in sync are refreshed
 abbrev pub invariant-loop-copy : goal.invariant-loop-copy

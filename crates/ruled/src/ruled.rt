@@ -1,68 +1,135 @@
 //! The master, with its journal.
-ghost use Rattle.std.specs.Prelude.{◌≡◌, [], true, false, None, IfOk, IfErr, OnOk, Ok, Err};
+ghost use Rattle.std.specs.Prelude.{◌≡◌, [], ◌∷◌, false, is_some, Some, None, IfOk, IfErr, IfSome, OnOk, Ok, Err};
 ghost use Rattle.journal.specs.Lawful.{IsLawful};
-ghost use Rattle.journal.specs.declared.journal.Journal.TheVariants.{OfMaster};
-ghost use Rattle.cluster.specs.Ruled.{IsDecided, IsKnown, IsRuling, IsUnasked, IsUnruled};
+ghost use Rattle.ruled.specs.declared.entry.MasterEntry.TheVariants.{Opened};
+ghost use Rattle.ruled.specs.Entries.{IsDecided, IsJournalOf, IsKnown, IsLeading};
+ghost use Rattle.ruled.specs.Ruled.{with_entries, IsRuling, IsUnasked, IsUnruled};
 ghost use Rattle.master.specs.Decide.{decision_of, master_step};
 ghost use Rattle.master.specs.Fault.{fault_of, is_log};
 ghost use Rattle.translog.specs.Device.{count_after};
 ghost use Rattle.translog.specs.Fault as log;
 ghost use Rattle.translog.specs.Fault.{errs_with, is_device};
 
-use journal::{Journal, Ruling, Rulings};
-use master::{Decision, Master, MasterFault, Request, State};
+use crate::entry::{MasterEntry, journal_of};
+use crate::past::Past;
+use crate::told::{Decided, Known, Leading};
+use chronicle::{NamedLedger, RegistryName};
+use journal::{Journal, Ruling};
+use master::{Decision, Master, MasterFault, Request};
 use std::alloc::{AllocError, Global};
 use std::marker::Model;
 use translog::{LogDevice, LogFault};
 
-/// The master, what it was when its journal began, and all that it was asked since.
+/// The master, and its journal: what it was when that began, and all that it was asked since. Contracts see the entries; memory has them where they
+/// are to be kept.
 #[derive(Drop)]
-pub struct Ruled<D: LogDevice> {
-    opening: State,
-    rulings: Vec<Ruling>,
+pub struct Ruled<D: LogDevice, J: RegistryName> {
+    entries: NamedLedger<MasterEntry, J>,
     /// The entry of a decision that the log failed to keep: where the master is closed the log may have it all the same.
     unsure: Option<Ruling>,
     master: Master<D>,
 }
 
-impl<D: LogDevice> Model for Ruled<D> {
-    ghost use Rattle.cluster.specs.Ruled.{RuledData, IsRuled};
+impl<D: LogDevice, J: RegistryName> Model for Ruled<D, J> {
+    ghost use Rattle.ruled.specs.Ruled.{with_journal, IsRuled, RuledData};
 
     ghost Value = { RuledData };
 
-    ghost view = { λ r. record { opening = r.opening; rulings = r.rulings.items; unsure = r.unsure; master = r.master } };
+    ghost view = { λ r. with_journal r.entries r.unsure r.master };
 
-    ghost invariant = { λ r. IsRuled (record { opening = r.opening; rulings = r.rulings.items; unsure = r.unsure; master = r.master }) };
+    ghost invariant = { λ r. IsRuled (with_journal r.entries r.unsure r.master) };
 }
 
-impl<D: LogDevice> Ruled<D> {
-    /// A master whose journal begins.
-    pub fn begin(alloc: Global, master: Master<D>) -> Result<Ruled<D>, AllocError>
-        requires { master.closed ≡ false }
-        ensures { IfOk result (λ r. r ≡ record { opening = master.state; rulings = []; unsure = None; master = master }) }
+impl<D: LogDevice, J: RegistryName> Ruled<D, J> {
+    /// A master whose journal begins, in a ledger without entries.
+    pub fn begin(
+        alloc: Global,
+        ledger: NamedLedger<MasterEntry, J>,
+        master: Master<D>,
+    ) -> Result<Ruled<D, J>, AllocError>
+        requires open { master.closed ≡ false }
+        requires empty { ledger.entries ≡ [] }
+        ensures { IfOk result (λ r. r ≡ with_entries ledger.kept (Opened master.state ∷ []) None master) }
     {
         let opening = master.state().copy(alloc)?;
+        let mut entries = ledger;
+        entries.reserve()?;
+        entries.push(MasterEntry::Opened(opening));
         Ok(Ruled {
-            opening,
-            rulings: Vec::new(alloc),
+            entries,
             unsure: None,
             master,
         })
     }
 
-    /// What the master knows.
-    #[tactic(auto, using(crate::proofs::Rulings::known_by))]
-    pub fn state(&self) -> &State
-        ensures same { result.now ≡ self.now.master.state }
-        ensures known { IsKnown result.now }
+    /// All entries.
+    pub fn past(&self) -> Past<J>
+        ensures { result ≡ self.now.entries }
     {
-        self.master.state()
+        match self.entries.entries() {
+            Some(entries) => Past::of(entries, self.entries.ledger().len()),
+            None => unreachable!(),
+        }
+    }
+
+    /// What the master knows, and after which entries.
+    pub fn known(&self, alloc: Global) -> Result<Known<J>, AllocError>
+        ensures same { IfOk result (λ k. (k.state ≡ self.now.master.state) × (k.past ≡ self.now.entries)) }
+        ensures known { IfOk result (λ k. IsKnown k.past k.state) }
+    {
+        let state = self.master.state().copy(alloc)?;
+        Ok(Known {
+            state,
+            past: self.past(),
+        })
+    }
+
+    /// The primary, as the master knows it.
+    pub fn primary(&self) -> u32
+        ensures { result ≡ self.now.master.state.primary }
+    {
+        self.master.state().primary
+    }
+
+    /// The same, and after which entries.
+    #[tactic(auto, using(crate::proofs::Rulings::leading_as))]
+    pub fn leading(&self) -> Leading<J>
+        ensures same { (result.primary ≡ self.now.master.state.primary) × (result.past ≡ self.now.entries) }
+        ensures leads { IsLeading result.past result.primary }
+    {
+        let _ = &self.unsure;
+        Leading {
+            primary: self.primary(),
+            past: self.past(),
+        }
     }
 
     /// One request, which is one entry of the journal, also where the master refuses. Want of memory and a fault of its log leave none. A
     /// master whose log has failed is opened again first, so it refuses for its log only where that fails again.
-    #[tactic(auto, using(crate::proofs::Rulings::decided_in))]
+    #[tactic(auto, using(crate::proofs::Rulings::decided_as))]
     pub fn ask(
+        &mut self,
+        alloc: Global,
+        pass: u64,
+        request: Request,
+    ) -> Result<Decided<J>, MasterFault>
+        ensures ok { IfOk result (λ d. IsRuling self.old self.new pass request (Ok d.decision)) }
+        ensures err { IfErr result (IsUnruled self.old self.new pass request) }
+        ensures told { IfOk result (λ d. d.past ≡ self.new.entries) }
+        ensures decided { IfOk result (λ d. IsDecided request d.decision d.past) }
+        ensures open { OnOk result (self.new.master.closed ≡ false) }
+        ensures counts { self.new.master.failures ≡ count_after (errs_with is_log result) self.old.master.failures }
+    {
+        let decision = self.decided(alloc, pass, request)?;
+        let _ = &self.unsure;
+        Ok(Decided {
+            decision,
+            past: self.past(),
+        })
+    }
+
+    /// The decision alone.
+    fn decided(
         &mut self,
         alloc: Global,
         pass: u64,
@@ -70,16 +137,13 @@ impl<D: LogDevice> Ruled<D> {
     ) -> Result<Decision, MasterFault>
         ensures ok { IfOk result (λ d. IsRuling self.old self.new pass request (Ok d)) }
         ensures err { IfErr result (IsUnruled self.old self.new pass request) }
-        ensures decided { IfOk result (IsDecided request) }
         ensures open { OnOk result (self.new.master.closed ≡ false) }
         ensures counts { self.new.master.failures ≡ count_after (errs_with is_log result) self.old.master.failures }
     {
         if let Err(fault) = self.settle(alloc) {
             return Err(fault);
         }
-        let answer = self.enter(alloc, pass, request);
-        let _ = &self.opening;
-        answer
+        self.enter(alloc, pass, request)
     }
 
     /// Opens the master again where its log has failed. Where the log has the decision that failed, that is an entry now.
@@ -92,7 +156,7 @@ impl<D: LogDevice> Ruled<D> {
         if !self.master.is_closed() {
             return Ok(());
         }
-        self.rulings.reserve(1)?;
+        self.entries.reserve()?;
         let known = self.master.state().copy(alloc)?;
         if let Err(fault) = self.master.reopen(alloc) {
             return Err(of_log(fault));
@@ -101,7 +165,7 @@ impl<D: LogDevice> Ruled<D> {
             return Ok(());
         }
         if let Some(ruling) = self.unsure.take() {
-            self.rulings.push_reserved(ruling);
+            self.entries.push(MasterEntry::Answered(ruling));
         }
         Ok(())
     }
@@ -136,7 +200,7 @@ impl<D: LogDevice> Ruled<D> {
         ensures open { OnOk result (self.new.master.closed ≡ false) }
         ensures counts { self.new.master.failures ≡ count_after (errs_with is_log result) self.old.master.failures }
     {
-        self.rulings.reserve(1)?;
+        self.entries.reserve()?;
         let ruling = Ruling {
             pass,
             request,
@@ -144,7 +208,7 @@ impl<D: LogDevice> Ruled<D> {
         };
         match self.master.step(alloc, request) {
             Ok(made) => {
-                self.rulings.push_reserved(ruling);
+                self.entries.push(MasterEntry::Answered(ruling));
                 Ok(made)
             }
             Err(fault) => {
@@ -169,30 +233,38 @@ impl<D: LogDevice> Ruled<D> {
         ensures open { OnOk result (self.new.master.closed ≡ false) }
         ensures counts { self.new.master.failures ≡ count_after (errs_with is_log result) self.old.master.failures }
     {
-        self.rulings.push(Ruling {
+        self.entries.reserve()?;
+        let ruling = Ruling {
             pass,
             request,
             answer: Err(copied(&fault)),
-        })?;
+        };
+        self.entries.push(MasterEntry::Answered(ruling));
         Err(fault)
     }
 
-    /// The journal, which is legal.
-    pub fn into_journal(self) -> Journal
-        ensures lawful { IsLawful result }
-        ensures same { result ≡ OfMaster self.opening self.rulings }
+    /// The journal where memory has it, which is legal.
+    pub fn into_journal(self, alloc: Global) -> Result<Option<Journal>, AllocError>
+        ensures kept { IfOk result (λ o. is_some o ≡ self.kept) }
+        ensures legal { IfOk result (λ o. IfSome o IsLawful) }
+        ensures same { IfOk result (λ o. IfSome o (IsJournalOf self.entries)) }
     {
         let Ruled {
-            opening,
-            rulings,
-            ..
+            entries,
+            unsure,
+            master,
         } = self;
-        Journal::OfMaster(opening, Rulings::from_vec(rulings))
+        drop(unsure);
+        drop(master);
+        match entries.into_ledger().into_entries() {
+            Some(entries) => journal_of(alloc, entries),
+            None => Ok(None),
+        }
     }
 }
 
 /// An equal fault.
-pub(crate) fn copied(fault: &MasterFault) -> MasterFault
+pub fn copied(fault: &MasterFault) -> MasterFault
     ensures { result ≡ fault.now }
 {
     match fault {

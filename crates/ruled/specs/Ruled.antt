@@ -1,5 +1,6 @@
 -- The master with its journal.
-use Rattle.std.specs.Prelude.{◌≡◌, ◌⊎◌, ℕ, true, List, [], ◌∷◌, ◌++◌, Option, Some, None, Result, Ok, Err}
+use Rattle.std.specs.Prelude.{◌≡◌, ◌⊎◌, ℕ, Bool, true, List, [], ◌∷◌, ◌++◌, Option, Some, None, Result, Ok, Err}
+use Rattle.chronicle.specs.Ledger.{LedgerData}
 use Rattle.journal.specs.declared.journal.Ruling.{Ruling}
 use Rattle.journal.specs.Lawful.{begins_open}
 use Rattle.journal.specs.Rulings.{AreLegal, IsLegalRuling, next_ruler, ruler_after}
@@ -10,13 +11,22 @@ use Rattle.master.specs.declared.state.Request.{Request}
 use Rattle.master.specs.declared.state.State.{State}
 use Rattle.master.specs.Log.{kept_state}
 use Rattle.master.specs.Logged.{Logged}
+use Rattle.ruled.specs.declared.entry.MasterEntry.{MasterEntry}
+use Rattle.ruled.specs.declared.entry.MasterEntry.TheVariants.{Answered}
+use Rattle.ruled.specs.Entries.{entries_of, ruling}
 
--- what the master was when its journal began, its entries, the entry of a decision that its log failed to keep, and the master with its log
+-- whether memory has the entries, these, the entry of a decision that its log failed to keep, and the master with its log
 pub record RuledData : Type 0 where
-  pub opening : State
-  pub rulings : List Ruling
+  pub kept : Bool
+  pub entries : List MasterEntry
   pub unsure : Option Ruling
   pub master : Logged
+
+abbrev pub with_entries : Bool → List MasterEntry → Option Ruling → Logged → RuledData
+with_entries kept entries unsure master = record { kept = kept; entries = entries; unsure = unsure; master = master }
+
+abbrev pub with_journal : LedgerData MasterEntry → Option Ruling → Logged → RuledData
+with_journal l unsure master = with_entries l.kept l.entries unsure master
 
 -- the log has a decision all the same that it failed to keep
 pub record IsFound (s : State) (log : List ℕ) (r : Ruling) : Type 0 where
@@ -32,31 +42,31 @@ MayKeep s log (Some r) = (kept_state log ≡ Ok s) ⊎ IsFound s log r
 
 -- the journal is legal, and the master is what it says
 pub record IsRuled (r : RuledData) : Type 0 where
-  pub legal : AreLegal (begins_open r.opening) r.rulings
-  pub after : ruler_after (begins_open r.opening) r.rulings ≡ begins_open r.master.state
+  pub opening : State
+  pub rulings : List Ruling
+  pub are : r.entries ≡ entries_of opening rulings
+  pub legal : AreLegal (begins_open opening) rulings
+  pub after : ruler_after (begins_open opening) rulings ≡ begins_open r.master.state
   pub shut : r.master.closed ≡ true → MayKeep r.master.state r.master.log r.unsure
 
-abbrev pub ruling : ℕ → Request → Result Decision MasterFault → Ruling
-ruling pass request answer = record { pass = pass; request = request; answer = answer }
-
 -- a closed master was opened again, and its log had the decision that failed
-pub record IsEntered (old : RuledData) (rulings : List Ruling) : Type 0 where
+pub record IsEntered (old : RuledData) (entries : List MasterEntry) : Type 0 where
   pub closed : old.master.closed ≡ true
   pub entry : Ruling
   pub unsure : old.unsure ≡ Some entry
-  pub more : rulings ≡ old.rulings ++ entry ∷ []
+  pub more : entries ≡ old.entries ++ Answered entry ∷ []
 
 -- nothing of the journal has changed, but that a decision is in it which a closed master's log has
 pub record IsUnasked (old new : RuledData) : Type 0 where
-  pub opening : new.opening ≡ old.opening
-  pub rulings : (new.rulings ≡ old.rulings) ⊎ IsEntered old new.rulings
+  pub kept : new.kept ≡ old.kept
+  pub entries : (new.entries ≡ old.entries) ⊎ IsEntered old new.entries
 
 -- one request is one entry more
 pub record IsRuling (old new : RuledData) (pass : ℕ) (request : Request) (answer : Result Decision MasterFault) : Type 0 where
-  pub opening : new.opening ≡ old.opening
-  pub before : List Ruling
-  pub unasked : (before ≡ old.rulings) ⊎ IsEntered old before
-  pub rulings : new.rulings ≡ before ++ ruling pass request answer ∷ []
+  pub kept : new.kept ≡ old.kept
+  pub before : List MasterEntry
+  pub unasked : (before ≡ old.entries) ⊎ IsEntered old before
+  pub entries : new.entries ≡ before ++ Answered (ruling pass request answer) ∷ []
 
 -- a refusal is an entry too, but for want of memory and a log that fails
 abbrev pub IsUnruled : RuledData → RuledData → ℕ → Request → MasterFault → Type 0
@@ -67,17 +77,3 @@ IsUnruled old new pass request Gone = IsRuling old new pass request (Err Gone)
 IsUnruled old new pass request (Log f) = IsUnasked old new
 IsUnruled old new pass request Full = IsRuling old new pass request (Err Full)
 IsUnruled old new pass request NoMemory = IsUnasked old new
-
--- the decision is the last entry of a legal journal of the master
-pub record IsDecided (request : Request) (decision : Decision) : Type 0 where
-  pub opening : State
-  pub rulings : List Ruling
-  pub pass : ℕ
-  pub legal : AreLegal (begins_open opening) (rulings ++ ruling pass request (Ok decision) ∷ [])
-
--- what the master knows after the entries of a legal journal
-pub record IsKnown (s : State) : Type 0 where
-  pub opening : State
-  pub rulings : List Ruling
-  pub legal : AreLegal (begins_open opening) rulings
-  pub knows : (ruler_after (begins_open opening) rulings).state ≡ s

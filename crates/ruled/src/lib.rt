@@ -1,0 +1,12 @@
+//! The master with its journal, under the name of a cluster.
+#![tactic(auto)]
+
+pub mod entry;
+pub mod past;
+pub mod ruled;
+pub mod told;
+
+pub use entry::MasterEntry;
+pub use past::Past;
+pub use ruled::{Ruled, copied};
+pub use told::{Decided, Known, Leading};
