@@ -21,7 +21,7 @@ use Rattle.published.specs.declared.listing.Published.{Published}
 use Rattle.published.specs.declared.showing.Showing.{Showing}
 use Rattle.published.specs.Line.{Line, line, line_behind}
 use Rattle.published.specs.Listings.{GoesOn, StartsWith}
-use Rattle.published.specs.Places.{IsStanding}
+use Rattle.published.specs.Places.{IsStanding, IsStandingSince}
 use Rattle.published.specs.Showing.{cell_of, listing, registry_of}
 use Rattle.published.proofs.Orders.{self-GoesOn, trans-GoesOn, trans-StartsWith}
 use Rattle.journal.specs.declared.journal.Deed.{Deed}
@@ -124,6 +124,19 @@ pub stands_at : (h : JournalData) (l : Logged) (n : ℕ) (u : UptoData Deed) (r 
 stands_at h l n u r rs is opened node same listed =
     subst (λ (x : UptoData Deed). IsStanding n x.entries rs) (sym same) (record {
       opening = h.opening;
+      sound = is.sound;
+      legal = is.legal;
+      node_is = sym node;
+      records_is = listed ∙ ap (λ (c : Copy). c.records) (open_as (standing h).copy (standing h).shut l is.replayed opened);
+    })
+
+-- and since its beginning
+pub stands_since : (h : JournalData) (l : Logged) (n : ℕ) (u : UptoData Deed) (r : chronicle.Line) (rs : List Record) (b : UptoData Copy) → IsHeld h l → l.closed ≡ false → n ≡ h.opening.id → u ≡ upto r h.opening.id h.deeds
+    → rs ≡ l.copy.records → b ≡ upto r h.opening.id (h.opening ∷ []) → IsStandingSince b.entries n u.entries rs
+stands_since h l n u r rs b is opened node same listed began =
+    subst (λ (x : UptoData Deed). IsStandingSince b.entries n x.entries rs) (sym same) (record {
+      opening = h.opening;
+      is = ap (λ (x : UptoData Copy). x.entries) began;
       sound = is.sound;
       legal = is.legal;
       node_is = sym node;

@@ -1,25 +1,40 @@
 -- Places of a cluster's journals.
-use Rattle.std.proofs.Common.{◌≡◌, ℕ, List, [], ◌∷◌, sym, ap, subst, ◌∙◌}
+use Rattle.std.proofs.Common.{◌≡◌, ℕ, List, [], ◌∷◌, refl, sym, ap, subst, ◌∙◌}
 use Rattle.chronicle.specs.Registered.{PrefixData, prefix}
 use Rattle.chronicle.specs.Written as chronicle
 use Rattle.engine.specs.Answer.{Answer}
 use Rattle.query.specs.Page.{PageData}
 use Rattle.query.specs.Query.{Query}
 use Rattle.journal.specs.declared.journal.Deed.{Deed}
-use Rattle.node.specs.Entry.{IsJournalOf}
+use Rattle.replica.specs.Copy.{Copy}
+use Rattle.node.specs.Entry.{opening_of, HasSoundRecords, IsJournalOf}
 use Rattle.published.specs.declared.listing.Published.{Published}
 use Rattle.published.specs.Line.{Line}
 use Rattle.published.specs.Listings.{GoesOn}
-use Rattle.published.specs.Places.{PlaceData, place_at}
+use Rattle.published.specs.Places.{PlaceData, IsStandingSince, place_at}
 use Rattle.published.specs.Search.{Finds, IsNoLess}
 use Rattle.published.specs.Showing.{registry_of}
-use Rattle.cell.specs.Points.{IsPoint, LeadsTo, PointData, place_in, point_of}
+use Rattle.cell.specs.Points.{IsPoint, IsPointSince, LeadsTo, PointData, place_in, point_of}
 
 -- a place tells a journal of its copy
 pub is_journal : (p : PointData) (u : PrefixData Deed) (n : ℕ) → IsPoint p → u ≡ prefix p.node p.deeds → n ≡ p.node → IsJournalOf n u.entries
 is_journal p u n is same node =
     subst (λ (w : PrefixData Deed). IsJournalOf n w.entries) (sym same)
     (subst (λ m. IsJournalOf m p.deeds) (sym node) (record { opening = is.opening; sound = is.sound; legal = is.legal; node_is = is.node_is }))
+
+-- what its journal began with
+pub one_began : (cs : List Copy) (p : PointData) → IsStandingSince cs p.node p.deeds p.records → cs ≡ opening_of cs ∷ []
+one_began cs p is = subst (λ (x : List Copy). x ≡ opening_of x ∷ []) (sym is.is) refl
+
+pub began_sound : (cs : List Copy) (p : PointData) → IsStandingSince cs p.node p.deeds p.records → HasSoundRecords (opening_of cs)
+began_sound cs p is = subst (λ (x : List Copy). HasSoundRecords (opening_of x)) (sym is.is) is.sound
+
+pub began_node : (cs : List Copy) (p : PointData) (n : ℕ) → IsStandingSince cs p.node p.deeds p.records → n ≡ p.node → n ≡ (opening_of cs).id
+began_node cs p n is node = node ∙ sym (ap (λ (x : List Copy). (opening_of x).id) is.is ∙ is.node_is)
+
+pub began_since : (cs : List Copy) (p : PointData) (c : Copy) → IsStandingSince cs p.node p.deeds p.records → c ≡ opening_of cs → IsPointSince c p
+began_since cs p c is same =
+    subst (λ (x : Copy). IsPointSince x p) (sym (same ∙ ap opening_of is.is)) (record { sound = is.sound; legal = is.legal; node_is = is.node_is; records_is = is.records_is })
 
 -- its numbers tell a registry
 pub same_line : (l m : chronicle.Line) → registry_of l ≡ registry_of m → l ≡ m

@@ -8,6 +8,9 @@ use Rattle.journal.specs.declared.journal.Deed.{Deed}
 use Rattle.published.specs.declared.listing.Published.{Published}
 use Rattle.published.specs.Listings.{ComesAfterAll}
 use Rattle.published.specs.Places.{PlaceData, IsStanding, place_at}
+use Rattle.replica.specs.Copy.{Copy}
+use Rattle.journal.specs.Journal.{IsLegal, after, open_at}
+use Rattle.node.specs.Entry.{HasSoundRecords}
 use Rattle.published.specs.Showing.{registry_of}
 
 -- the copy's number, the entries before the place, and the records that the copy has there
@@ -26,6 +29,13 @@ place_in l p = place_at l p.node p.deeds p.records
 -- they are those after a legal journal
 abbrev pub IsPoint : PointData → Type 0
 IsPoint p = IsStanding p.node p.deeds p.records
+
+-- they are those of the copy that this journal began with, after these entries
+pub record IsPointSince (opening : Copy) (p : PointData) : Type 0 where
+  pub sound : HasSoundRecords opening
+  pub legal : IsLegal (open_at opening) 0 p.deeds
+  pub node_is : opening.id ≡ p.node
+  pub records_is : p.records ≡ (after (open_at opening) 0 p.deeds).copy.records
 
 -- the place is of another copy, or of this one behind all of these entries
 abbrev pub IsShownBehind : PrefixData Deed → PointData → Type 0

@@ -62,7 +62,7 @@ fn showing_of<D: LogDevice>(copy: &Copy<D>, place: Place) -> Result<Option<Showi
 }
 
 /// The place behind all entries of a copy's journal. Nothing while the copy is closed.
-#[tactic(auto, using(crate::proofs::Growing::stands_at))]
+#[tactic(auto, using(crate::proofs::Growing::stands_at, crate::proofs::Growing::stands_since))]
 fn place_of<D: LogDevice, J: RegistryName>(held: &Held<D, J>, copy: &Copy<D>) -> Option<Place>
     requires { IsHeld held.now copy.now }
     ensures registry { IfSome result (λ p. p.registry ≡ J.registry) }
@@ -74,7 +74,13 @@ fn place_of<D: LogDevice, J: RegistryName>(held: &Held<D, J>, copy: &Copy<D>) ->
     let Some(records) = ShownRecords::of(copy.listed()) else {
         return None;
     };
-    Some(Place::of(held.node(), held.len(), records, held.upto()))
+    Some(Place::of(
+        held.node(),
+        held.len(),
+        records,
+        held.upto(),
+        held.began().beginning().again(),
+    ))
 }
 
 /// The same of a copy with its journal.

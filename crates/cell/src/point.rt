@@ -1,10 +1,10 @@
 //! Places of the journals of a cluster's copies.
 ghost use Rattle.std.specs.Prelude.{◌≡◌, [], length, IsTrue, IfNone, IfSome};
 ghost use Rattle.chronicle.specs.Registered.{prefix};
-ghost use Rattle.cell.specs.Points.{point_of, IsPoint, IsShownBehind};
+ghost use Rattle.cell.specs.Points.{point_of, IsPoint, IsPointSince, IsShownBehind};
 
 use chronicle::RegistryName;
-use node::Heard;
+use node::{Began, Heard};
 use published::Place;
 use std::marker::{Model, PhantomData};
 
@@ -51,6 +51,14 @@ impl<J: RegistryName> JournalPoint<J> {
         ensures { result ≡ length self.now.deeds }
     {
         self.place.entries()
+    }
+
+    /// What the copy was when its journal began.
+    #[tactic(auto, using(crate::proofs::Pointing::one_began, crate::proofs::Pointing::began_sound, crate::proofs::Pointing::began_node, crate::proofs::Pointing::began_since))]
+    pub fn began(&self) -> Began<J>
+        ensures { IsPointSince result self.now }
+    {
+        Began::of(self.place.node(), self.place.beginning().again())
     }
 
     /// What it tells of the journal, where that had entries.

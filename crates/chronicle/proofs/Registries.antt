@@ -3,7 +3,8 @@ use Rattle.std.proofs.Common.{◌≡◌, ℕ, ◌<◌, ◌≤◌, List, [], ◌�
 use Rattle.std.proofs.lemmas.Bool.{cases_lt}
 use mathlib.Core.List.{IsPrefix}
 use Rattle.chronicle.specs.declared.registry.Numbered.{Numbered}
-use Rattle.chronicle.specs.Registered.{seat_of, last_seat, AreAbove, AreRising, IsAny}
+use Rattle.chronicle.specs.Written.{Line}
+use Rattle.chronicle.specs.Registered.{SeatData, seat_at, seat_of, last_seat, AreAbove, AreRising, IsAny}
 
 module _ {E : Type 0} where
   -- one that comes last has a greater number than all before it
@@ -55,3 +56,7 @@ module _ {E : Type 0} where
   pub any_more : (ns : List (Numbered E)) (n : Numbered E) → IsAny (ns ++ n ∷ [])
   any_more [] n = tt
   any_more (m ∷ ns) n = tt
+
+-- a seat with what it says of a beginning
+pub seat_self : (s : SeatData) (number : ℕ) (line first : Line) → s ≡ seat_at number line first → s ≡ seat_at number line s.first
+seat_self s number line first is = is ∙ ap (seat_at number line) (sym (ap (λ (x : SeatData). x.first) is))

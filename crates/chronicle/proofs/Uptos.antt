@@ -9,10 +9,10 @@ module _ {E : Type 0} where
   entries_are None l es some none = sym none
   entries_are (Some m) l es some none = ap (λ (w : Written E). w.entries) some
 
-  pub upto_is : (o : Option (Written E)) (l registry line : Line) (es : List E) (n : ℕ) (s : SeatData) → IfSome o (λ m. m ≡ written l es) → IfNone o (es ≡ []) → s ≡ seat_at n l → line ≡ registry
+  pub upto_is : (o : Option (Written E)) (l first registry line : Line) (es : List E) (n : ℕ) (s : SeatData) → IfSome o (λ m. m ≡ written l es) → IfNone o (es ≡ []) → s ≡ seat_at n l first → line ≡ registry
       → upto line s.number (entries_of o) ≡ upto registry n es
-  upto_is o l registry line es n s some none is same = λ i. upto (same i) (is i).number (entries_are o l es some none i)
+  upto_is o l first registry line es n s some none is same = λ i. upto (same i) (is i).number (entries_are o l es some none i)
 
-  pub mark_line : (o : Option (Written E)) (l : Line) (es : List E) (n : ℕ) (s : SeatData) → IfSome o (λ m. m ≡ written l es) → s ≡ seat_at n l → IfSome o (λ m. m.line ≡ s.line)
-  mark_line None l es n s some is = tt
-  mark_line (Some m) l es n s some is = ap (λ (w : Written E). w.line) some ∙ sym (ap (λ (x : SeatData). x.line) is)
+  pub mark_line : (o : Option (Written E)) (l first : Line) (es : List E) (n : ℕ) (s : SeatData) → IfSome o (λ m. m ≡ written l es) → s ≡ seat_at n l first → IfSome o (λ m. m.line ≡ s.line)
+  mark_line None l first es n s some is = tt
+  mark_line (Some m) l first es n s some is = ap (λ (w : Written E). w.line) some ∙ sym (ap (λ (x : SeatData). x.line) is)

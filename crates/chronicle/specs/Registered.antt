@@ -5,16 +5,17 @@ use Rattle.chronicle.specs.Written.{Line, Written, line, line_coded}
 use Rattle.chronicle.specs.Ledger.{LedgerData}
 use Rattle.chronicle.specs.declared.registry.Numbered.{Numbered}
 
--- the number of a ledger, and its line
+-- the number of a ledger, its line, and the line that says what it began with
 pub record SeatData : Type 0 where
   pub number : ℕ
   pub line : Line
+  pub first : Line
 
-abbrev pub seat_at : ℕ → Line → SeatData
-seat_at number line = record { number = number; line = line }
+abbrev pub seat_at : ℕ → Line → Line → SeatData
+seat_at number line first = record { number = number; line = line; first = first }
 
 abbrev pub seat_coded : Coded SeatData
-seat_coded = coded_via (coded× coded_ℕ line_coded) (λ (s : SeatData). (s.number, s.line)) (λ x y e i. record { number = (e i).0; line = (e i).1 })
+seat_coded = coded_via (coded× coded_ℕ (coded× line_coded line_coded)) (λ (s : SeatData). (s.number, (s.line, s.first))) (λ x y e i. record { number = (e i).0; line = (e i).1.0; first = (e i).1.1 })
 
 -- which registry it is, and which ledger stands beside it
 pub record NamesData : Type 0 where
@@ -52,21 +53,26 @@ abbrev pub entries_of : {E : Type 0} → Option (Written E) → List E
 entries_of None = []
 entries_of (Some w) = w.entries
 
--- a ledger with its number
+-- a ledger with its number, and the line that says what it began with
 pub record RegisteredData (E : Type 0) : Type 0 where
   pub number : ℕ
+  pub first : Line
   pub ledger : LedgerData E
 
-abbrev pub registered : {E : Type 0} → ℕ → LedgerData E → RegisteredData E
-registered number ledger = record { number = number; ledger = ledger }
+abbrev pub registered : {E : Type 0} → ℕ → Line → LedgerData E → RegisteredData E
+registered number first ledger = record { number = number; first = first; ledger = ledger }
+
+-- the line of no ledger
+abbrev pub no_line : Line
+no_line = line (record { number = 0; log_name = 0; cells_name = 0 }) 0
 
 module _ {E : Type 0} where
   abbrev pub seat_of : Numbered E → SeatData
-  seat_of n = seat_at n.number n.ledger.line
+  seat_of n = seat_at n.number n.ledger.line n.first
 
   -- that of the ledger that was registered last
   abbrev pub last_seat : List (Numbered E) → SeatData
-  last_seat [] = seat_at 0 (line (record { number = 0; log_name = 0; cells_name = 0 }) 0)
+  last_seat [] = seat_at 0 no_line no_line
   last_seat (n ∷ []) = seat_of n
   last_seat (n ∷ m ∷ ns) = last_seat (m ∷ ns)
 

@@ -1,6 +1,6 @@
 //! The list that writers append to.
 
-use crate::law::{Draft, Law, Look, Make, Noted, Nothing, Write};
+use crate::law::{Draft, Law, Look, Make, Means, Noted, Nothing, Write, WriteAs};
 use crate::writer::Writer;
 use logbook::{Offer, Pen, Seen, Start, Word};
 use std::marker::Model;
@@ -84,15 +84,20 @@ impl<E> Chronicle<E> {
             .compare_exchange::<Look, Nothing>(0, 0, seen, &mut offer, pen);
     }
 
-    /// Uses the pen's right to add an entry.
-    pub(crate) fn write(&self, draft: &Draft<E>, seen: &mut Seen<Noted<E>, u64, Law>, pen: &mut Pen)
+    /// Uses the pen's right to add what a value is written as.
+    pub(crate) fn write<S, M: Means<S, E>>(
+        &self,
+        draft: &Draft<E, S>,
+        seen: &mut Seen<Noted<E>, u64, Law>,
+        pen: &mut Pen,
+    )
         requires books { (seen.old.book ≡ self.now) × (pen.old.book ≡ self.now) }
         requires right { pen.old.nib.right ≡ may_write }
         requires own { draft.now.right.value.nib.key ≡ pen.old.nib.key }
         ensures book { seen.new.book ≡ seen.old.book }
-        ensures added { Adds pen.old.nib.key (noted draft.now.first.value.key pen.old.nib.key draft.now.next.value.key (Some draft.now.what.value)) seen.old.log seen.new.log }
+        ensures added { Adds pen.old.nib.key (noted draft.now.first.value.key pen.old.nib.key draft.now.next.value.key (Some (M.means draft.now.what.value))) seen.old.log seen.new.log }
     {
-        let mut offer = seen.plain::<Nothing, Draft<E>, Write>(draft);
+        let mut offer = seen.plain::<Nothing, Draft<E, S>, WriteAs<M>>(draft);
         self.head
             .compare_exchange::<Write, Nothing>(0, 0, seen, &mut offer, pen);
     }

@@ -1,6 +1,7 @@
 //! The rule of the list, and the steps that it is changed by. These types are for the proofs alone.
 
 use logbook::{Gain, Pen, Plain, Play, Rule, Word};
+use std::marker::PhantomData;
 use std::snapshot::Snapshot;
 
 /// An entry of the list: its line, the right that it was written by, the right that its writer has next, and what was written. No value of it is made.
@@ -78,20 +79,37 @@ impl<E> Play<Noted<E>, u64> for Write {
     ghost then = { Writes };
 }
 
-/// What is written, the right that it is written by, and the words of its writer's first and next rights.
+/// What the entry is written for, the right that it is written by, and the words of its writer's first and next rights.
 #[derive(Drop)]
-pub struct Draft<E> {
+pub struct Draft<E, S> {
     pub first: Snapshot<Word<Noted<E>, u64, Law>>,
     pub right: Snapshot<Pen>,
     pub next: Snapshot<Word<Noted<E>, u64, Law>>,
-    pub what: Snapshot<E>,
+    pub what: Snapshot<S>,
 }
 
-impl<E> Plain<Draft<E>, Noted<E>, u64> for Write {
+/// What a value is written as.
+pub trait Means<S, E> {
+    ghost means: { S → E };
+}
+
+/// As itself.
+pub struct Same;
+
+impl<E> Means<E, E> for Same {
+    ghost means = { λ e. e };
+}
+
+/// A step that uses a right to add what a value is written as.
+pub struct WriteAs<M> {
+    _as: PhantomData<M>,
+}
+
+impl<E, S, M: Means<S, E>> Plain<Draft<E, S>, Noted<E>, u64> for WriteAs<M> {
     ghost use Rattle.std.specs.Prelude.{None, Some};
     ghost use Rattle.chronicle.specs.Log.{noted};
 
-    ghost ask = { λ d. noted d.first.value.key d.right.value.nib.key d.next.value.key (Some d.what.value) };
+    ghost ask = { λ d. noted d.first.value.key d.right.value.nib.key d.next.value.key (Some (M.means d.what.value)) };
 
     ghost state = { λ d. None };
 }

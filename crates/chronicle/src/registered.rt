@@ -3,7 +3,9 @@ ghost use Rattle.std.specs.Prelude.{◌≡◌, ◌+◌, ◌∷◌, ◌++◌, [],
 ghost use Rattle.chronicle.specs.Ledger.{recorded};
 ghost use Rattle.chronicle.specs.Registered.{prefix, registered, upto};
 
+use crate::beginning::Beginning;
 use crate::ledger::Ledger;
+use crate::mark::Mark;
 use crate::name::RegistryName;
 use crate::prefix::Prefix;
 use crate::seat::Seat;
@@ -25,17 +27,17 @@ impl<E, N: RegistryName> Model for Registered<E, N> {
 
     ghost Value = { RegisteredData E };
 
-    ghost view = { λ r. registered r.number r.ledger };
+    ghost view = { λ r. registered r.number r.seat.first r.ledger };
 
-    ghost invariant = { λ r. r.seat ≡ seat_at r.number r.ledger.line };
+    ghost invariant = { λ r. r.seat ≡ seat_at r.number r.ledger.line r.seat.first };
 }
 
 impl<E: Drop, N: RegistryName> Registered<E, N> {
     ghost use Rattle.chronicle.specs.Registered.{seat_at};
 
     pub(crate) fn of(seat: Seat<E, N>, number: u32, ledger: Ledger<E>) -> Registered<E, N>
-        requires { seat ≡ seat_at number ledger.line }
-        ensures { result ≡ registered number ledger }
+        requires { seat ≡ seat_at number ledger.line seat.first }
+        ensures { result ≡ registered number seat.first ledger }
     {
         Registered {
             seat,
@@ -61,6 +63,7 @@ impl<E: Drop, N: RegistryName> Registered<E, N> {
     /// Makes room for one entry more.
     pub fn reserve(&mut self) -> Result<(), AllocError>
         ensures number { self.new.number ≡ self.old.number }
+        ensures first { self.new.first ≡ self.old.first }
         ensures line { self.new.ledger.line ≡ self.old.ledger.line }
         ensures kept { self.new.ledger.kept ≡ self.old.ledger.kept }
         ensures same { self.new.ledger.entries ≡ self.old.ledger.entries }
@@ -72,7 +75,7 @@ impl<E: Drop, N: RegistryName> Registered<E, N> {
     /// Adds an entry, for which there is room, and gives all entries up to it.
     pub fn push(&mut self, entry: E) -> Prefix<E, N>
         requires ready { self.old.ledger.ready ≡ true }
-        ensures added { self.new ≡ registered self.old.number (recorded self.old.ledger.line self.old.ledger.kept false (self.old.ledger.entries ++ entry ∷ [])) }
+        ensures added { self.new ≡ registered self.old.number self.old.first (recorded self.old.ledger.line self.old.ledger.kept false (self.old.ledger.entries ++ entry ∷ [])) }
         ensures prefix { result ≡ prefix self.new.number self.new.ledger.entries }
     {
         let mark = self.ledger.push(entry);
@@ -96,6 +99,14 @@ impl<E: Drop, N: RegistryName> Registered<E, N> {
         ensures { result ≡ upto N.registry self.now.number self.now.ledger.entries }
     {
         Upto::of(self.seat.mark().again(), self.ledger.mark())
+    }
+
+    /// What it began with, as a mark of that line says.
+    pub fn beginning<B>(&self, first: &Mark<B>) -> Beginning<B, E>
+        requires { first.now.line ≡ self.now.first }
+        ensures { result ≡ upto N.registry self.now.number first.now.entries }
+    {
+        Beginning::of(self.seat.mark().again(), first.again())
     }
 
     /// The ledger alone, which nothing tells of any more.

@@ -3,19 +3,52 @@ ghost use Rattle.std.specs.Prelude.{◌≡◌, ◌<◌, ◌≤◌, ◌++◌, ◌
 ghost use Rattle.chronicle.specs.Registered.{last_seat, registered};
 
 use crate::chronicle::Chronicle;
+use crate::law::Means;
 use crate::ledger::Ledger;
+use crate::mark::Mark;
 use crate::name::RegistryName;
 use crate::named::Blank;
 use crate::registered::Registered;
 use crate::seat::Seat;
 use crate::writer::Writer;
+use logbook::Pen;
 use std::marker::{Model, PhantomData};
 
-/// A ledger with its number.
-#[derive(Drop)]
+/// A ledger with its number, and the line that says what it began with. No value of it is made.
 pub struct Numbered<E> {
     pub number: u32,
     pub ledger: Ledger<E>,
+    pub first: LineName,
+}
+
+/// A line, for clauses alone. No value of it is made.
+pub struct LineName {
+    pen: Pen,
+}
+
+impl Model for LineName {
+    ghost use Rattle.chronicle.specs.Written.{line, line_coded, Line};
+
+    ghost Value = { Line };
+
+    ghost coded = { line_coded };
+
+    ghost view = { λ n. line n.pen.book n.pen.nib.key };
+}
+
+/// A ledger that is to have a number, and what it is to begin with.
+#[derive(Drop)]
+struct Entering<E, B> {
+    number: u32,
+    ledger: Ledger<E>,
+    first: Mark<B>,
+}
+
+/// How it is registered.
+struct Registers;
+
+impl<E, B> Means<Entering<E, B>, Numbered<E>> for Registers {
+    ghost means = { λ e. record { number = e.number; ledger = e.ledger; first = e.first.line } };
 }
 
 /// A registry and the ledger beside it, which have no name yet. Contracts see which they are.
@@ -105,9 +138,15 @@ impl<E, N: RegistryName> Model for Registry<E, N> {
 }
 
 impl<E: Drop, N: RegistryName> Registry<E, N> {
-    /// Registers a ledger under a number that is greater than those of all before it; else it is given back.
-    pub fn add(&mut self, number: u32, ledger: Ledger<E>) -> Result<Registered<E, N>, Ledger<E>>
-        ensures added { IfOk result (λ r. (r ≡ registered number ledger) × (self.new ≡ self.old ++ record { number = number; ledger = ledger } ∷ [])) }
+    /// Registers a ledger under a number that is greater than those of all before it, and with it a mark that says what it begins with; else it is given
+    /// back.
+    pub fn add<B>(
+        &mut self,
+        number: u32,
+        ledger: Ledger<E>,
+        first: &Mark<B>,
+    ) -> Result<Registered<E, N>, Ledger<E>>
+        ensures added { IfOk result (λ r. (r ≡ registered number first.now.line ledger) × (self.new ≡ self.old ++ record { number = number; ledger = ledger; first = first.now.line } ∷ [])) }
         ensures last { IfOk result (λ r. (last_seat self.new).number ≡ number) }
         ensures above { IfOk result (λ r. (last_seat self.old).number < number) }
         ensures taken { IfErr result (λ l. (l ≡ ledger) × (self.new ≡ self.old) × (number ≤ (last_seat self.old).number)) }
@@ -115,10 +154,20 @@ impl<E: Drop, N: RegistryName> Registry<E, N> {
         if number <= self.last {
             return Err(ledger);
         }
-        let numbered = Numbered { number, ledger };
-        let mark = self.writer.append(&self.chronicle, &numbered);
+        let entering = Entering {
+            number,
+            ledger,
+            first: first.again(),
+        };
+        let mark = self
+            .writer
+            .append_as::<Entering<E, B>, Registers>(&self.chronicle, &entering);
         self.last = number;
-        let Numbered { number, ledger } = numbered;
+        let Entering {
+            number,
+            ledger,
+            first: _first,
+        } = entering;
         Ok(Registered::of(Seat::of(mark), number, ledger))
     }
 }

@@ -1,7 +1,7 @@
 //! What appends to a list.
 
 use crate::chronicle::Chronicle;
-use crate::law::{Draft, Law, Noted};
+use crate::law::{Draft, Law, Means, Noted, Same};
 use crate::mark::Mark;
 use logbook::{Pen, Seen, Word};
 use std::marker::Model;
@@ -59,6 +59,16 @@ impl<E> Writer<E> {
         ensures mark { result ≡ self.new }
         ensures stands { Stands result (length self.old.entries) what.now }
     {
+        self.append_as::<E, Same>(chronicle, what)
+    }
+
+    /// Appends an entry that is there for clauses alone: what a value is written as.
+    pub fn append_as<S, M: Means<S, E>>(&mut self, chronicle: &Chronicle<E>, what: &S) -> Mark<E>
+        requires book { chronicle.now ≡ self.old.line.book }
+        ensures grown { self.new ≡ written self.old.line (self.old.entries ++ M.means what.now ∷ []) }
+        ensures mark { result ≡ self.new }
+        ensures stands { Stands result (length self.old.entries) (M.means what.now) }
+    {
         let mut seen = self.seen.again();
         let (pen, next) = chronicle.new_right(&mut seen);
         let draft = Draft {
@@ -67,7 +77,7 @@ impl<E> Writer<E> {
             next: Snapshot::of(&next),
             what: Snapshot::of(what),
         };
-        chronicle.write(&draft, &mut self.seen, &mut self.pen);
+        chronicle.write::<S, M>(&draft, &mut self.seen, &mut self.pen);
         self.pen = pen;
         Mark::at(&self.seen)
     }

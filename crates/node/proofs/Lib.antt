@@ -5,3 +5,4 @@ pub mod Receipts
 pub mod Readings
 pub mod Prefixes
 pub mod Sound
+pub mod Begins

@@ -9,7 +9,8 @@ use Rattle.translog.specs.Pieces.{Piece, some_records, upgrade, records_in, HasR
 use Rattle.replica.specs.Logged.{Logged, IsLogged}
 use Rattle.journal.specs.declared.journal.Deed.{Deed}
 use Rattle.node.specs.Entry.{HasSoundRecords}
-use Rattle.node.specs.Held.{journal, opening_of, IsHeld}
+use Rattle.replica.specs.Copy.{Copy}
+use Rattle.node.specs.Held.{journal, IsHeld}
 
 of_group : (r : Record) → IsOfGroup r → IsRecord r
 of_group (Kept g o) is = is
@@ -41,11 +42,11 @@ log_rules : (bytes : List ℕ) (rs : List Record) (groups : Bool) → IsTranslog
 log_rules bytes rs groups log = subst (λ (l : List Record). AllByRecursion IsRecord l) (sym log.records) (pieces_rules log.pieces log.log.each)
 
 -- an open copy has the records of its log
-sound : (l : Logged) → IsLogged l → l.closed ≡ false → HasSoundRecords l.copy
+pub sound : (l : Logged) → IsLogged l → l.closed ≡ false → HasSoundRecords l.copy
 sound l logged now_open = log_rules l.log l.copy.records l.groups (logged now_open)
 
 -- a journal that begins is that of its copy
-pub held_new : (kept : Bool) (ds : List Deed) (l : Logged) (ls : List Logged) → IsLogged l → l.closed ≡ false → ls ≡ l ∷ [] → ds ≡ [] → IsHeld (journal kept (opening_of ls) ds) l
-held_new kept ds l ls logged now_open noted none =
-    subst (λ (x : List Logged). IsHeld (journal kept (opening_of x) ds) l) (sym noted)
+pub held_new : (kept : Bool) (ds : List Deed) (l : Logged) (began : Copy) → IsLogged l → l.closed ≡ false → began ≡ l.copy → ds ≡ [] → IsHeld (journal kept began ds) l
+held_new kept ds l began logged now_open begins none =
+    subst (λ (x : Copy). IsHeld (journal kept x ds) l) (sym begins)
     (subst (λ (x : List Deed). IsHeld (journal kept l.copy x) l) (sym none) (record { sound = sound l logged now_open; legal = tt; replayed = (now_open, refl) }))

@@ -1,7 +1,7 @@
 -- A copy with its journal.
-use Rattle.std.specs.Prelude.{◌≡◌, Bool, false, List, [], ◌∷◌, ◌++◌, length, Err}
+use Rattle.std.specs.Prelude.{◌≡◌, Bool, List, [], ◌∷◌, ◌++◌, length, Err}
 use Rattle.replica.specs.declared.input.Input.{Input}
-use Rattle.replica.specs.Copy.{Copy, begun}
+use Rattle.replica.specs.Copy.{Copy}
 use Rattle.replica.specs.Logged.{Logged}
 use Rattle.journal.specs.declared.journal.Deed.{Deed}
 use Rattle.journal.specs.Journal.{IsLegal, IsLegalAt, after, open_at}
@@ -16,11 +16,6 @@ pub record JournalData : Type 0 where
   pub kept : Bool
   pub opening : Copy
   pub deeds : List Deed
-
--- the first of some copies (a held copy has noted one, as it was at the beginning)
-abbrev pub opening_of : List Logged → Copy
-opening_of [] = begun 0 0 (record { strict = false; fields = [] })
-opening_of (l ∷ ls) = l.copy
 
 abbrev pub journal : Bool → Copy → List Deed → JournalData
 journal kept opening deeds = record { kept = kept; opening = opening; deeds = deeds }

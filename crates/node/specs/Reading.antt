@@ -1,5 +1,5 @@
 -- Documents that a copy is asked for without an entry of its journal.
-use Rattle.std.specs.Prelude.{◌≡◌, ℕ, List, [], length, Option, Some, None, is_some, true}
+use Rattle.std.specs.Prelude.{◌≡◌, ℕ, false, List, [], length, Option, Some, None, is_some, true}
 use Rattle.doc.specs.Id.{Id}
 use Rattle.op.specs.Documents.{document_at, documents}
 use Rattle.replica.specs.declared.fault.CopyFault.{CopyFault}
@@ -13,7 +13,7 @@ use Rattle.chronicle.specs.Registered.{PrefixData}
 use Rattle.node.specs.declared.fault.NodeFault.{NodeFault}
 use Rattle.node.specs.declared.fault.NodeFault.TheVariants.{NoMemory, NoSeat, Copy as Refused, Stray, Forgotten}
 use Rattle.node.specs.Entry.{HasSoundRecords}
-use Rattle.node.specs.Held.{JournalData}
+use Rattle.node.specs.Held.{JournalData, journal}
 
 -- what a copy has of an id, of all its records
 abbrev pub got_by : Copy → Id → Answer
@@ -65,6 +65,14 @@ pub record IsGot (g : GotData) : Type 0 where
   pub deeds_is : journal.deeds ≡ g.deeds
   pub place_is : g.place ≡ length g.deeds
   pub read : IsRead journal g.id g.answer
+
+-- it is what the copy has after these entries of its journal, which began with this copy
+pub record IsGotSince (opening : Copy) (g : GotData) : Type 0 where
+  pub sound : HasSoundRecords opening
+  pub legal : IsLegal (open_at opening) 0 g.deeds
+  pub node_is : opening.id ≡ g.node
+  pub place_is : g.place ≡ length g.deeds
+  pub read : IsRead (journal false opening g.deeds) g.id g.answer
 
 -- the copy is closed
 abbrev pub IsUnreadable : JournalData → CopyFault → Type 0

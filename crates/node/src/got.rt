@@ -2,8 +2,9 @@
 ghost use Rattle.std.specs.Prelude.{◌≡◌, ◌<◌, ◌≤◌, [], length, IsTrue, IfNone, IfSome};
 ghost use Rattle.chronicle.specs.Registered.{prefix};
 ghost use mathlib.Core.List.{IsPrefix};
-ghost use Rattle.node.specs.Reading.{IsGot, IsGotAt};
+ghost use Rattle.node.specs.Reading.{IsGot, IsGotAt, IsGotSince};
 
+use crate::began::Began;
 use crate::heard::Heard;
 use crate::receipt::Receipt;
 use chronicle::{Prefix, RegistryName};
@@ -20,17 +21,18 @@ pub struct Got<J: RegistryName> {
     pub(crate) id: DocId,
     pub(crate) answer: Answer,
     pub(crate) upto: Option<Prefix<Deed, J>>,
+    pub(crate) began: Began<J>,
 }
 
 impl<J: RegistryName> Model for Got<J> {
     ghost use Rattle.std.specs.Prelude.{◌≡◌, IfSome};
-    ghost use Rattle.node.specs.Reading.{entries_in, GotData, IsGot};
+    ghost use Rattle.node.specs.Reading.{entries_in, GotData, IsGot, IsGotSince};
 
     ghost Value = { GotData };
 
     ghost view = { λ g. record { node = g.node; place = g.place; deeds = entries_in g.upto; id = g.id; answer = g.answer } };
 
-    ghost invariant = { λ g. IfSome g.upto (λ p. p.number ≡ g.node) × IsGot (record { node = g.node; place = g.place; deeds = entries_in g.upto; id = g.id; answer = g.answer }) };
+    ghost invariant = { λ g. IfSome g.upto (λ p. p.number ≡ g.node) × IsGot (record { node = g.node; place = g.place; deeds = entries_in g.upto; id = g.id; answer = g.answer }) × IsGotSince g.began (record { node = g.node; place = g.place; deeds = entries_in g.upto; id = g.id; answer = g.answer }) };
 }
 
 impl<J: RegistryName> Got<J> {
@@ -54,6 +56,13 @@ impl<J: RegistryName> Got<J> {
         ensures read { IsGot self.now }
     {
         &self.id
+    }
+
+    /// What the copy was when its journal began.
+    pub fn began(&self) -> &Began<J>
+        ensures { IsGotSince result.now self.now }
+    {
+        &self.began
     }
 
     /// A copy has one journal: that of an earlier entry begins the entries that the journal had, and these begin that of a later one.
@@ -110,6 +119,7 @@ impl<J: RegistryName> Got<J> {
             id: _id,
             answer,
             upto: _upto,
+            began: _began,
         } = self;
         answer
     }

@@ -11,6 +11,7 @@ ghost use Rattle.node.specs.Stands.{IsBarred, IsDenied, LastStands};
 ghost use Rattle.node.specs.Held.{journal, IsCall, IsHeld, IsLastOf, IsRefusal};
 ghost use Rattle.node.specs.Telling.{receipt, IsEntered, IsGivenAs};
 
+use crate::began::{Began, begun, noted};
 use crate::both::both;
 use crate::fault::NodeFault;
 use crate::got::Got;
@@ -22,7 +23,7 @@ use crate::receipt::Receipt;
 use crate::standing::equal_deed;
 use crate::syncing::synced;
 use crate::telling::{Entered, Inputs, Told, tell};
-use chronicle::{Chronicle, Ledger, Mark, Prefix, Registered, Registry, RegistryName, Upto};
+use chronicle::{Ledger, Prefix, Registered, Registry, RegistryName, Upto};
 use doc::DocId;
 use engine::Merged;
 use journal::{Deed, Deeds, Journal, Opening};
@@ -31,19 +32,10 @@ use std::alloc::{AllocError, Global};
 use std::marker::Model;
 use translog::LogDevice;
 
-/// What a copy is, for clauses alone.
-fn noted<D: LogDevice>(copy: &Copy<D>) -> Mark<Copy<D>>
-    ensures { result.entries ≡ copy.now ∷ [] }
-{
-    let chronicle = Chronicle::new();
-    let mut writer = chronicle.writer();
-    writer.append(&chronicle, copy)
-}
-
 /// A copy with its journal, which is one of a cluster. Contracts see the journal, which is legal; memory has it where it is to be kept.
 #[derive(Drop)]
 pub struct Held<D: LogDevice, J: RegistryName> {
-    first: Mark<Copy<D>>,
+    began: Began<J>,
     opening: Option<Opening>,
     deeds: Registered<Deed, J>,
     copy: Copy<D>,
@@ -51,18 +43,19 @@ pub struct Held<D: LogDevice, J: RegistryName> {
 
 impl<D: LogDevice, J: RegistryName> Model for Held<D, J> {
     ghost use Rattle.std.specs.Prelude.{◌≡◌, is_some, IfSome};
-    ghost use Rattle.node.specs.Held.{JournalData, journal, opening_of, IsHeld};
+    ghost use Rattle.node.specs.Held.{JournalData, journal, IsHeld};
 
     ghost Value = { JournalData };
 
-    ghost view = { λ h. journal h.deeds.ledger.kept (opening_of h.first.entries) h.deeds.ledger.entries };
+    ghost view = { λ h. journal h.deeds.ledger.kept h.began h.deeds.ledger.entries };
 
-    ghost invariant = { λ h. (h.deeds.number ≡ (opening_of h.first.entries).id) × IsHeld (journal h.deeds.ledger.kept (opening_of h.first.entries) h.deeds.ledger.entries) h.copy × (is_some h.opening ≡ h.deeds.ledger.kept) × IfSome h.opening (λ o. o ≡ (opening_of h.first.entries)) };
+    ghost invariant = { λ h. (h.deeds.number ≡ h.began.id) × IsHeld (journal h.deeds.ledger.kept h.began h.deeds.ledger.entries) h.copy × (is_some h.opening ≡ h.deeds.ledger.kept) × IfSome h.opening (λ o. o ≡ h.began) };
 }
 
 impl<D: LogDevice, J: RegistryName> Held<D, J> {
     /// A copy that has made no step since its opening, whose journal memory is to have. Where the registry has a journal with its id or a greater one
     /// the copy is given back.
+    #[tactic(auto, using(crate::proofs::Sound::sound))]
     pub fn new(
         alloc: Global,
         opening: Opening,
@@ -77,9 +70,9 @@ impl<D: LogDevice, J: RegistryName> Held<D, J> {
     {
         copy.is_logged();
         let first = noted(&copy);
-        match registry.add(copy.id(), Ledger::kept(alloc)) {
+        match registry.add(copy.id(), Ledger::kept(alloc), &first) {
             Ok(deeds) => Ok(Held {
-                first,
+                began: begun(&copy, &deeds, &first),
                 opening: Some(opening),
                 deeds,
                 copy,
@@ -93,6 +86,7 @@ impl<D: LogDevice, J: RegistryName> Held<D, J> {
     }
 
     /// A copy whose journal begins with what the copy is, and which memory isn't to have.
+    #[tactic(auto, using(crate::proofs::Sound::sound))]
     pub fn unkept(copy: Copy<D>, registry: &mut Registry<Deed, J>) -> Result<Held<D, J>, Copy<D>>
         requires open { copy.closed ≡ false }
         ensures held { IfOk result (λ h. h ≡ journal false copy.copy []) }
@@ -101,9 +95,9 @@ impl<D: LogDevice, J: RegistryName> Held<D, J> {
     {
         copy.is_logged();
         let first = noted(&copy);
-        match registry.add(copy.id(), Ledger::unkept()) {
+        match registry.add(copy.id(), Ledger::unkept(), &first) {
             Ok(deeds) => Ok(Held {
-                first,
+                began: begun(&copy, &deeds, &first),
                 opening: None,
                 deeds,
                 copy,
@@ -127,6 +121,13 @@ impl<D: LogDevice, J: RegistryName> Held<D, J> {
         ensures { IsHeld self.now result.now }
     {
         &self.copy
+    }
+
+    /// What the copy was when its journal began.
+    pub fn began(&self) -> &Began<J>
+        ensures { result.now ≡ self.now.opening }
+    {
+        &self.began
     }
 
     /// The id of the copy, under which its receipts stand.
@@ -238,14 +239,14 @@ impl<D: LogDevice, J: RegistryName> Held<D, J> {
     }
 
     /// The receipt of the last entry.
-    #[tactic(auto, using(crate::proofs::Calls::entry_of))]
+    #[tactic(auto, using(crate::proofs::Calls::entry_of, crate::proofs::Begins::entry_since))]
     fn receipt(&self, place: u64, deed: Deed, upto: Prefix<Deed, J>) -> Receipt<J>
         requires last { place + 1 ≡ length self.now.deeds }
         requires there { slice_get self.now.deeds place ≡ Some deed }
         requires upto { upto ≡ prefix self.now.opening.id self.now.deeds }
         ensures { result ≡ receipt self.now.opening.id place deed self.now.deeds }
     {
-        Receipt::of(self.deeds.number(), place, deed, upto)
+        Receipt::of(self.deeds.number(), place, deed, upto, self.began.again())
     }
 
     /// What the copy has of an id, of all its records; it makes no entry. `Closed` where the copy is closed.
@@ -266,6 +267,7 @@ impl<D: LogDevice, J: RegistryName> Held<D, J> {
             id,
             answer,
             upto: self.deeds.prefix(),
+            began: self.began.again(),
         })
     }
 
@@ -330,7 +332,7 @@ impl<D: LogDevice, J: RegistryName> Held<D, J> {
         ensures legal { IsLegal (open_at self.opening) 0 self.deeds }
     {
         let Held {
-            first: _first,
+            began: _began,
             opening,
             deeds,
             copy,

@@ -2,6 +2,7 @@
 #![tactic(auto)]
 
 mod acting;
+pub mod began;
 mod both;
 pub mod fault;
 pub mod gathering;
@@ -16,6 +17,7 @@ mod standing;
 mod syncing;
 mod telling;
 
+pub use began::Began;
 pub use fault::NodeFault;
 pub use gathering::{Stray, gathered, stands_in};
 pub use got::Got;

@@ -1,9 +1,10 @@
 //! What a call leaves with its caller.
 ghost use Rattle.std.specs.Prelude.{◌≡◌, ◌≤◌, IfOk};
 ghost use mathlib.Core.List.{IsPrefix};
-ghost use Rattle.node.specs.Entry.{IsEntry};
+ghost use Rattle.node.specs.Entry.{IsEntry, IsEntryFrom};
 ghost use Rattle.node.specs.Telling.{receipt};
 
+use crate::began::Began;
 use chronicle::{Prefix, RegistryName};
 use journal::Deed;
 use replica::{CopyFault, Output};
@@ -17,24 +18,32 @@ pub struct Receipt<J: RegistryName> {
     place: u64,
     deed: Deed,
     upto: Prefix<Deed, J>,
+    began: Began<J>,
 }
 
 impl<J: RegistryName> Model for Receipt<J> {
     ghost use Rattle.std.specs.Prelude.{◌≡◌};
-    ghost use Rattle.node.specs.Entry.{Receipt as ReceiptData, IsEntry};
+    ghost use Rattle.node.specs.Entry.{Receipt as ReceiptData, IsEntry, IsEntryFrom};
     ghost use Rattle.node.specs.Telling.{receipt};
 
     ghost Value = { ReceiptData };
 
     ghost view = { λ r. receipt r.node r.place r.deed r.upto.entries };
 
-    ghost invariant = { λ r. (r.upto.number ≡ r.node) × IsEntry (receipt r.node r.place r.deed r.upto.entries) };
+    ghost invariant = { λ r. (r.upto.number ≡ r.node) × IsEntry (receipt r.node r.place r.deed r.upto.entries) × IsEntryFrom r.began (receipt r.node r.place r.deed r.upto.entries) };
 }
 
 impl<J: RegistryName> Receipt<J> {
-    pub(crate) fn of(node: u32, place: u64, deed: Deed, upto: Prefix<Deed, J>) -> Receipt<J>
+    pub(crate) fn of(
+        node: u32,
+        place: u64,
+        deed: Deed,
+        upto: Prefix<Deed, J>,
+        began: Began<J>,
+    ) -> Receipt<J>
         requires number { upto.number ≡ node }
         requires entry { IsEntry (receipt node place deed upto.entries) }
+        requires began { IsEntryFrom began (receipt node place deed upto.entries) }
         ensures { result ≡ receipt node place deed upto.entries }
     {
         Receipt {
@@ -42,6 +51,7 @@ impl<J: RegistryName> Receipt<J> {
             place,
             deed,
             upto,
+            began,
         }
     }
 
@@ -65,6 +75,13 @@ impl<J: RegistryName> Receipt<J> {
         ensures stands { IsEntry self.now }
     {
         &self.deed
+    }
+
+    /// What the copy was when its journal began.
+    pub fn began(&self) -> &Began<J>
+        ensures { IsEntryFrom result.now self.now }
+    {
+        &self.began
     }
 
     /// All entries of the journal up to it.
@@ -95,6 +112,7 @@ impl<J: RegistryName> Receipt<J> {
             place: _,
             deed,
             upto: _upto,
+            began: _began,
         } = self;
         deed
     }
@@ -109,6 +127,7 @@ impl<J: RegistryName> Receipt<J> {
             place: self.place,
             deed,
             upto: self.upto.again(),
+            began: self.began.again(),
         })
     }
 }

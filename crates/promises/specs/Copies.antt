@@ -188,8 +188,8 @@ SearchesNeverBackAtCopies J =
 abbrev pub MasterNeverBack : Type 0 → Type 0
 MasterNeverBack J = (c : Command) (r : Reply) (before after : KnownData) → IsTold J before c r after → IsPrefix before.past after.past
 
--- a client that was told that a copy is made the primary, and goes on from there, is told of documents by the copy that is the primary then, by that decision or a
--- later one
+-- a client that was told that a copy is made the primary, and goes on from there, is told of documents by the copy that is the primary after entries of the
+-- master that go on from that decision
 abbrev pub PromotionsAreFollowed : Type 0 → Type 0
 PromotionsAreFollowed J =
     (copy term : ℕ) (c : Command) (r : Reply) (before after later new : KnownData)

@@ -69,8 +69,8 @@ pub fn the_master_never_goes_back<J: RegistryName>()
     ensures { MasterNeverBack J }
 {}
 
-/// Of several copies: behind a promotion that a client was told its gets, searches and counts are answered by the copy that is the primary then, by that decision
-/// of the master or a later one.
+/// Of several copies: behind a promotion that a client was told its gets, searches and counts are answered by the copy that is the primary after entries of the
+/// master's journal that go on from that decision.
 pub fn promotions_are_followed<J: RegistryName>()
     ensures { PromotionsAreFollowed J }
 {}

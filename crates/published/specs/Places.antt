@@ -1,5 +1,5 @@
 -- Places of copies' journals, with the records that a copy has there.
-use Rattle.std.specs.Prelude.{◌≡◌, ℕ, List}
+use Rattle.std.specs.Prelude.{◌≡◌, ℕ, List, [], ◌∷◌}
 use Rattle.std.specs.List.{AllByRecursion}
 use Rattle.chronicle.specs.Written.{Line}
 use Rattle.op.specs.declared.record.Record.{Record}
@@ -21,6 +21,15 @@ place_at registry node deeds records = record { registry = registry; node = node
 -- the records are those of the copy with this number after a legal journal with these entries
 pub record IsStanding (node : ℕ) (deeds : List Deed) (records : List Record) : Type 0 where
   pub opening : Copy
+  pub sound : AllByRecursion IsRecord opening.records
+  pub legal : IsLegal (open_at opening) 0 deeds
+  pub node_is : opening.id ≡ node
+  pub records_is : records ≡ (after (open_at opening) 0 deeds).copy.records
+
+-- they are so after the journal that began with one copy
+pub record IsStandingSince (began : List Copy) (node : ℕ) (deeds : List Deed) (records : List Record) : Type 0 where
+  pub opening : Copy
+  pub is : began ≡ opening ∷ []
   pub sound : AllByRecursion IsRecord opening.records
   pub legal : IsLegal (open_at opening) 0 deeds
   pub node_is : opening.id ≡ node

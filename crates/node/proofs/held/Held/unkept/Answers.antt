@@ -1,16 +1,14 @@
 use Rattle.std.proofs.Common.{◌≡◌, false, [], ap, sym, ◌∙◌}
-use Rattle.node.specs.Held.{opening_of}
 use Rattle.node.proofs.Sound.{held_new}
 use Rattle.node.proofs.held.Held.unkept.Goals as goal
 
 pub invariant_of-result : goal.invariant_of-result
 invariant_of-result g c =
     let deeds = c.in-Ok.deeds in
-    let first = c.noted-first.result.entries in
     let kept : deeds.ledger.kept ≡ false = ap (λ r. r.ledger.kept) c.in-Ok.ensures.added.0 ∙ ap (λ l. l.kept) c.unkept.ensures in
     let entries : deeds.ledger.entries ≡ [] = ap (λ r. r.ledger.entries) c.in-Ok.ensures.added.0 ∙ ap (λ l. l.entries) c.unkept.ensures in (
-      ap (λ r. r.number) c.in-Ok.ensures.added.0 ∙ (c.id.ensures ∙ sym (ap (λ ls. (opening_of ls).id) c.noted-first.ensures)),
-      held_new deeds.ledger.kept deeds.ledger.entries c.args.copy first c.is_logged.ensures c.requires.open c.noted-first.ensures entries,
+      ap (λ r. r.number) c.in-Ok.ensures.added.0 ∙ (c.id.ensures ∙ sym (ap (λ x. x.id) c.begun.ensures)),
+      held_new deeds.ledger.kept deeds.ledger.entries c.args.copy c.begun.result c.is_logged.ensures c.requires.open c.begun.ensures entries,
       sym kept,
       tt,
     )

@@ -3,7 +3,7 @@ use Rattle.logbook.specs.Pages.{nib, may_write}
 use Rattle.chronicle.specs.Written.{line, written, Stands}
 use Rattle.chronicle.specs.Log.{entries_of, written_in, last_of, first_of}
 use Rattle.chronicle.proofs.Lines.{added-entries, added-last, added-first, stands-last}
-use Rattle.chronicle.proofs.writer.Writer.append.Goals as goal
+use Rattle.chronicle.proofs.writer.Writer.append_as.Goals as goal
 
 pub invariant_of-self : goal.invariant_of-self
 invariant_of-self g c =
@@ -20,9 +20,9 @@ returns-clause-grown g c =
     let mine = c.self.inside.seen.log in
     let after = c.write.new.seen.log in
     let is : last_of first mine ≡ c.self.inside.pen.nib.key = ap (λ n. n.key) (sym c.self.invariant.1) in
-    let more : entries_of first after ≡ entries_of first mine ++ c.args.what.now ∷ [] = added-entries first c.self.inside.pen.nib.key _ c.args.what.now mine after is refl (ap Some c.of-4.ensures) c.write.ensures.added in
+    let more : entries_of first after ≡ entries_of first mine ++ g.M.Means.means c.args.what.now ∷ [] = added-entries first c.self.inside.pen.nib.key _ (g.M.Means.means c.args.what.now) mine after is refl (ap (λ x. Some (g.M.Means.means x)) c.of-4.ensures) c.write.ensures.added in
     ap (λ b. written (line b first) (entries_of first after)) c.write.ensures.book
-    ∙ (ap (λ entries. written (line c.self.inside.seen.book first) entries) more ∙ ap (λ w. written w.line (w.entries ++ c.args.what.now ∷ [])) c.self.view_is)
+    ∙ (ap (λ entries. written (line c.self.inside.seen.book first) entries) more ∙ ap (λ w. written w.line (w.entries ++ g.M.Means.means c.args.what.now ∷ [])) c.self.view_is)
 
 pub returns-clause-mark : goal.returns-clause-mark
 returns-clause-mark g c =
@@ -31,4 +31,4 @@ returns-clause-mark g c =
 
 pub returns-clause-stands : goal.returns-clause-stands
 returns-clause-stands g c =
-    subst (λ w. Stands w (length c.args.self.now.entries) c.args.what.now) (sym (returns-clause-mark g c ∙ returns-clause-grown g c)) (stands-last c.args.self.now.entries c.args.what.now)
+    subst (λ w. Stands w (length c.args.self.now.entries) (g.M.Means.means c.args.what.now)) (sym (returns-clause-mark g c ∙ returns-clause-grown g c)) (stands-last c.args.self.now.entries (g.M.Means.means c.args.what.now))
