@@ -20,7 +20,8 @@ use Rattle.published.specs.declared.listing.Listing.{Listing}
 use Rattle.published.specs.declared.listing.Published.{Published}
 use Rattle.published.specs.declared.showing.Showing.{Showing}
 use Rattle.published.specs.Line.{Line, line, line_behind}
-use Rattle.published.specs.Listings.{GoesOn, StartsWith}
+use Rattle.op.specs.Records.{StartsWith}
+use Rattle.published.specs.Listings.{GoesOn}
 use Rattle.published.specs.Places.{IsStanding, IsStandingSince}
 use Rattle.published.specs.Showing.{cell_of, listing, registry_of}
 use Rattle.published.proofs.Orders.{self-GoesOn, trans-GoesOn, trans-StartsWith}

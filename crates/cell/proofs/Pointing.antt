@@ -9,6 +9,7 @@ use Rattle.journal.specs.declared.journal.Deed.{Deed}
 use Rattle.replica.specs.Copy.{Copy}
 use Rattle.node.specs.Entry.{opening_of, HasSoundRecords, IsJournalOf}
 use Rattle.published.specs.declared.listing.Published.{Published}
+use Rattle.published.proofs.Orders.{trans-ComesAfterAll}
 use Rattle.published.specs.Line.{Line}
 use Rattle.published.specs.Listings.{GoesOn}
 use Rattle.published.specs.Places.{PlaceData, IsStandingSince, place_at}
@@ -54,6 +55,10 @@ pub found_in : (l : chronicle.Line) (before after : List Published) (q : Query) 
 found_in l before after q page h at p registry is f =
     let whole : at ≡ place_in l p = (λ i. place_at (registry i) at.node at.deeds at.records) ∙ ap (place_in l) (sym is) in
     subst (λ (x : PlaceData). Finds before after q page h x) whole f
+
+-- whoever knows what was found knows all of before
+pub finds_no_less : (before after : List Published) (q : Query) (page : PageData) (h : Answer) (at : PlaceData) → Finds before after q page h at → IsNoLess before after
+finds_no_less before after q page h at f = record { kept = λ p on. trans-ComesAfterAll before f.now p f.later (f.known p on) }
 
 -- what a cell shows
 pub shown_leads : (l : chronicle.Line) (p : Line) (known : List Published) → GoesOn p.top p.shown.listing → p.top.registry ≡ registry_of l → known ≡ p.shown ∷ [] → LeadsTo l known

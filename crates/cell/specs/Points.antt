@@ -41,6 +41,14 @@ pub record IsPointSince (opening : Copy) (p : PointData) : Type 0 where
 abbrev pub IsShownBehind : PrefixData Deed → PointData → Type 0
 IsShownBehind h p = p.node ≡ h.number → IsPrefix h.entries p.deeds
 
+-- of which copy a searcher is, and what it knows of what that shows
+pub record SearcherData : Type 0 where
+  pub node : ℕ
+  pub known : List Published
+
+abbrev pub searcher_of : ℕ → List Published → SearcherData
+searcher_of node known = record { node = node; known = known }
+
 -- whatever comes after all that is known is of a journal of this registry
 abbrev pub LeadsTo : Line → List Published → Type 0
 LeadsTo l known = (p : Published) → ComesAfterAll p known → p.listing.registry ≡ registry_of l

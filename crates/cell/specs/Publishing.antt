@@ -6,7 +6,8 @@ use Rattle.replica.specs.declared.input.Input.{Input}
 use Rattle.replica.specs.Logged.{is_refresh}
 use Rattle.chronicle.specs.Written as chronicle
 use Rattle.published.specs.Line.{Line}
-use Rattle.published.specs.Listings.{GoesOn, StartsWith}
+use Rattle.op.specs.Records.{StartsWith}
+use Rattle.published.specs.Listings.{GoesOn}
 use Rattle.published.specs.Showing.{cell_of}
 use Rattle.published.specs.declared.showing.Showing.{Showing}
 use Rattle.node.specs.declared.fault.NodeFault.{NodeFault}

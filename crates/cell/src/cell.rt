@@ -7,6 +7,7 @@ ghost use Rattle.translog.specs.declared.fault.LogFault.TheVariants.{Device};
 ghost use Rattle.replica.specs.declared.fault.CopyFault.TheVariants.{Log};
 ghost use Rattle.node.specs.declared.fault.NodeFault.TheVariants.{Copy as Refused};
 ghost use Rattle.node.specs.Held.{IsCall, IsHeld};
+ghost use Rattle.cell.specs.Points.{searcher_of};
 ghost use Rattle.cell.specs.Publishing.{IsBegun, IsKept, IsPublished, IsRefusedCall, IsShownAfter, IsShownBy, IsStepped, IsAllShown};
 ghost use Rattle.cell.specs.Refreshing.{IsRefreshed, IsUnnoted, IsUnrefreshed, IsWriteRefreshed};
 ghost use Rattle.published.specs.Told.{IsOf};
@@ -308,10 +309,10 @@ impl<D: LogDevice, J: RegistryName> CopyCell<D, J> {
     #[tactic(auto, using(crate::proofs::Pointing::shown_leads))]
     pub fn copy_searcher(&mut self) -> Result<CopySearcher<J>, AllocError>
         ensures same { self.new ≡ self.old }
-        ensures knows { IfOk result (λ s. s ≡ self.old.line.shown ∷ []) }
+        ensures knows { IfOk result (λ s. s ≡ searcher_of self.old.journal.opening.id (self.old.line.shown ∷ [])) }
     {
         let searcher = self.publisher.searcher::<Unnamed>()?;
-        Ok(CopySearcher::of(searcher))
+        Ok(CopySearcher::of(self.held.node(), searcher))
     }
 
     /// The journal where memory has it, for which the copy is given up. Searches show nothing any more, which waits for those that are just taking

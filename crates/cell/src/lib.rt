@@ -8,4 +8,4 @@ pub mod searching;
 
 pub use cell::CopyCell;
 pub use point::JournalPoint;
-pub use searching::{CopySearcher, FoundAt};
+pub use searching::{CopySearchFault, CopySearcher, FoundAt};

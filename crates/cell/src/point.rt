@@ -1,7 +1,8 @@
 //! Places of the journals of a cluster's copies.
-ghost use Rattle.std.specs.Prelude.{◌≡◌, [], length, IsTrue, IfNone, IfSome};
+ghost use Rattle.std.specs.Prelude.{◌≡◌, [], length, IsFalse, IsTrue, IfNone, IfSome};
 ghost use Rattle.chronicle.specs.Registered.{prefix};
 ghost use Rattle.cell.specs.Points.{point_of, IsPoint, IsPointSince, IsShownBehind};
+ghost use Rattle.node.specs.Heard.{IsEarlier};
 
 use chronicle::RegistryName;
 use node::{Began, Heard};
@@ -10,10 +11,18 @@ use std::marker::{Model, PhantomData};
 
 /// A place of a copy's journal, which is one of a cluster. Contracts see the copy's number, the entries before the place, and the records that the copy has
 /// there.
-#[derive(Drop)]
 pub struct JournalPoint<J: RegistryName> {
     place: Place,
     of: PhantomData<J>,
+}
+
+impl<J: RegistryName> Drop for JournalPoint<J> {
+    fn drop(self) {
+        let JournalPoint {
+            place: _place,
+            of: _,
+        } = self;
+    }
 }
 
 impl<J: RegistryName> Model for JournalPoint<J> {
@@ -77,14 +86,15 @@ impl<J: RegistryName> JournalPoint<J> {
 
     /// Whether it is of another copy's journal, or behind all of these entries.
     pub fn is_behind(&self, heard: &Heard<J>) -> bool
-        ensures { IsTrue result → IsShownBehind heard.now self.now }
+        ensures behind { IsTrue result → IsShownBehind heard.now self.now }
+        ensures earlier { IsFalse result → IsEarlier heard.now self.now.node self.now.deeds }
     {
         if heard.node() != self.place.node() {
             return true;
         }
         match self.place.upto().named::<J>() {
             Some(upto) => heard.is_within(&upto, self.place.entries()),
-            None => false,
+            None => heard.place() < self.place.entries(),
         }
     }
 }

@@ -3,7 +3,7 @@ ghost use Rattle.std.specs.Prelude.{◌≡◌, IfErr, IfOk};
 ghost use Rattle.engine.specs.Shown.{hits_view};
 ghost use Rattle.query.specs.View.{query_view};
 ghost use Rattle.published.specs.Search.{Finds, IsNoLess};
-ghost use Rattle.cell.specs.Points.{place_in, LeadsTo};
+ghost use Rattle.cell.specs.Points.{place_in, searcher_of, LeadsTo};
 
 use crate::point::JournalPoint;
 use chronicle::RegistryName;
@@ -20,45 +20,99 @@ pub struct FoundAt<J: RegistryName> {
     pub point: JournalPoint<J>,
 }
 
-/// Searches what a copy of a cluster shows. Contracts see it as what it knows of that.
-#[derive(Drop)]
+/// Why a search of a copy has no hits.
+#[derive(Clone, Copy, Debug, PartialEq, Eq)]
+pub enum CopySearchFault {
+    NoMemory,
+    /// The copy has ended.
+    Ended,
+    /// What was found is of another copy, behind so many entries of its journal. That is never met.
+    Stray(u64),
+}
+
+impl From<SearchFault> for CopySearchFault {
+    fn from(fault: SearchFault) -> CopySearchFault {
+        match fault {
+            SearchFault::NoMemory => CopySearchFault::NoMemory,
+            SearchFault::Ended => CopySearchFault::Ended,
+        }
+    }
+}
+
+/// Searches what a copy of a cluster shows. Contracts see the copy's number, and what it knows of what that shows.
 pub struct CopySearcher<J: RegistryName> {
+    node: u32,
     searcher: Searcher<Unnamed>,
     of: PhantomData<J>,
 }
 
+impl<J: RegistryName> Drop for CopySearcher<J> {
+    fn drop(self) {
+        let CopySearcher {
+            node: _,
+            searcher: _searcher,
+            of: _,
+        } = self;
+    }
+}
+
 impl<J: RegistryName> Model for CopySearcher<J> {
-    ghost use Rattle.std.specs.Prelude.{List};
-    ghost use Rattle.published.specs.declared.listing.Published.{Published};
-    ghost use Rattle.cell.specs.Points.{LeadsTo};
+    ghost use Rattle.cell.specs.Points.{searcher_of, LeadsTo, SearcherData};
 
-    ghost Value = { List Published };
+    ghost Value = { SearcherData };
 
-    ghost view = { λ s. s.searcher };
+    ghost view = { λ s. searcher_of s.node s.searcher };
 
     ghost invariant = { λ s. LeadsTo J.registry s.searcher };
 }
 
 impl<J: RegistryName> CopySearcher<J> {
-    pub(crate) fn of(searcher: Searcher<Unnamed>) -> CopySearcher<J>
+    pub(crate) fn of(node: u32, searcher: Searcher<Unnamed>) -> CopySearcher<J>
         requires { LeadsTo J.registry searcher }
-        ensures { result ≡ searcher }
+        ensures { result ≡ searcher_of node searcher }
     {
         CopySearcher {
+            node,
             searcher,
             of: PhantomData,
         }
     }
 
-    /// Searches what is shown now: no less than all that is known. Where the copy has ended there is nothing any more.
+    /// The number of the copy.
+    pub fn node(&self) -> u32
+        ensures { result ≡ self.now.node }
+    {
+        self.node
+    }
+
+    /// Searches what the copy shows now: no less than all that is known. Where the copy has ended there is nothing any more.
+    #[tactic(auto, using(crate::proofs::Pointing::finds_no_less))]
     pub fn search(
         &mut self,
         alloc: Global,
         query: &Query,
         page: Page,
-    ) -> Result<FoundAt<J>, SearchFault>
-        ensures found { IfOk result (λ f. Finds self.old self.new (query_view query.now) page (hits_view f.hits) (place_in J.registry f.point)) }
-        ensures refused { IfErr result (λ _. IsNoLess self.old self.new) }
+    ) -> Result<FoundAt<J>, CopySearchFault>
+        ensures found { IfOk result (λ f. Finds self.old.known self.new.known (query_view query.now) page (hits_view f.hits) (place_in J.registry f.point)) }
+        ensures copy { IfOk result (λ f. f.point.node ≡ self.old.node) }
+        ensures same { self.new.node ≡ self.old.node }
+        ensures refused { IfErr result (λ _. IsNoLess self.old.known self.new.known) }
+    {
+        match self.find(alloc, query, page) {
+            Ok(found) => if found.point.node() == self.node {
+                Ok(found)
+            } else {
+                Err(CopySearchFault::Stray(found.point.entries()))
+            },
+            Err(fault) => Err(CopySearchFault::from(fault)),
+        }
+    }
+
+    /// What it finds, of whichever copy.
+    fn find(&mut self, alloc: Global, query: &Query, page: Page) -> Result<FoundAt<J>, SearchFault>
+        ensures found { IfOk result (λ f. Finds self.old.known self.new.known (query_view query.now) page (hits_view f.hits) (place_in J.registry f.point)) }
+        ensures same { self.new.node ≡ self.old.node }
+        ensures refused { IfErr result (λ _. IsNoLess self.old.known self.new.known) }
     {
         let found = self.searcher.search(alloc, query, page)?;
         let Found { hits, place } = found;

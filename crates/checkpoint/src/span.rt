@@ -14,10 +14,18 @@ const END: u64 = 1 << 63;
 
 /// A set of sequence numbers that lie near one another, in seventeen blocks of 64. It is seen as their list, in ascending order.
 /// It takes the same small memory whatever is in it, and none from an allocator.
-#[derive(Drop)]
 pub struct Span {
     first: u64,
     words: [u64; 17],
+}
+
+impl Drop for Span {
+    fn drop(self) {
+        let Span {
+            first: _,
+            words: _words,
+        } = self;
+    }
 }
 
 impl Model for Span {

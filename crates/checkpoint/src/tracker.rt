@@ -16,10 +16,18 @@ pub const WINDOW: u64 = window::SIZE;
 
 /// A set of sequence numbers: all up to its checkpoint, and some of the 1,024 above it. It is seen as their list, in ascending order.
 /// The checkpoint is the greatest number up to which none is missing, or -1 (Elasticsearch reference, "Sequence numbers and checkpoints").
-#[derive(Drop)]
 pub struct Tracker {
     count: u64,
     words: [u64; 16],
+}
+
+impl Drop for Tracker {
+    fn drop(self) {
+        let Tracker {
+            count: _,
+            words: _words,
+        } = self;
+    }
 }
 
 impl Model for Tracker {

@@ -8,10 +8,18 @@ use crate::registry::Numbered;
 use std::marker::Model;
 
 /// What a ledger of a registry began with. Contracts see which registry it is, the ledger's number and what the mark had that it was registered with.
-#[derive(Drop)]
 pub struct Beginning<B, E> {
     seat: Mark<Numbered<E>>,
     first: Mark<B>,
+}
+
+impl<B, E> Drop for Beginning<B, E> {
+    fn drop(self) {
+        let Beginning {
+            seat: _seat,
+            first: _first,
+        } = self;
+    }
 }
 
 impl<B, E> Model for Beginning<B, E> {

@@ -6,10 +6,18 @@ use logbook::{Offer, Pen, Seen, Start, Word};
 use std::marker::Model;
 
 /// A list that writers append to. Contracts see its name.
-#[derive(Drop)]
 pub struct Chronicle<E> {
     head: Word<Noted<E>, u64, Law>,
     seen: Seen<Noted<E>, u64, Law>,
+}
+
+impl<E> Drop for Chronicle<E> {
+    fn drop(self) {
+        let Chronicle {
+            head: _head,
+            seen: _seen,
+        } = self;
+    }
 }
 
 impl<E> Model for Chronicle<E> {

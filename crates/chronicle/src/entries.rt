@@ -7,10 +7,15 @@ use crate::name::RegistryName;
 use std::marker::{Model, PhantomData};
 
 /// The first entries of the ledger of a name. Contracts see them.
-#[derive(Drop)]
 pub struct Entries<E, N: RegistryName> {
     mark: Mark<E>,
     of: PhantomData<N>,
+}
+
+impl<E, N: RegistryName> Drop for Entries<E, N> {
+    fn drop(self) {
+        let Entries { mark: _mark, of: _ } = self;
+    }
 }
 
 impl<E, N: RegistryName> Model for Entries<E, N> {

@@ -33,7 +33,6 @@ impl<E: Drop> Memory<E> {
 }
 
 /// Entries in order. Contracts see all of them; memory has them in a ledger that was begun to keep them, and the last alone in another.
-#[derive(Drop)]
 pub struct Ledger<E> {
     chronicle: Chronicle<E>,
     writer: Writer<E>,
@@ -41,6 +40,19 @@ pub struct Ledger<E> {
     count: u64,
     ready: bool,
     memory: Memory<E>,
+}
+
+impl<E: Drop> Drop for Ledger<E> {
+    fn drop(self) {
+        let Ledger {
+            chronicle: _chronicle,
+            writer: _writer,
+            last: _last,
+            count: _,
+            ready: _,
+            memory: _memory,
+        } = self;
+    }
 }
 
 impl<E> Model for Ledger<E> {

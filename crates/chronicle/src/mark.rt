@@ -5,9 +5,14 @@ use logbook::Seen;
 use std::marker::Model;
 
 /// What a writer had written once it wrote an entry, which is the last of it. Contracts see its line and the entries.
-#[derive(Drop)]
 pub struct Mark<E> {
     seen: Seen<Noted<E>, u64, Law>,
+}
+
+impl<E> Drop for Mark<E> {
+    fn drop(self) {
+        let Mark { seen: _seen } = self;
+    }
 }
 
 impl<E> Model for Mark<E> {

@@ -9,10 +9,18 @@ use std::alloc::{AllocError, Global};
 use std::marker::{Model, PhantomData};
 
 /// The ledger of a name, while it has no entries.
-#[derive(Drop)]
 pub struct Blank<E, N: RegistryName> {
     ledger: Ledger<E>,
     of: PhantomData<N>,
+}
+
+impl<E: Drop, N: RegistryName> Drop for Blank<E, N> {
+    fn drop(self) {
+        let Blank {
+            ledger: _ledger,
+            of: _,
+        } = self;
+    }
 }
 
 impl<E, N: RegistryName> Model for Blank<E, N> {
@@ -63,10 +71,18 @@ impl<E: Drop, N: RegistryName> Blank<E, N> {
 }
 
 /// The ledger of a name. Contracts see the ledger.
-#[derive(Drop)]
 pub struct NamedLedger<E, N: RegistryName> {
     ledger: Ledger<E>,
     of: PhantomData<N>,
+}
+
+impl<E: Drop, N: RegistryName> Drop for NamedLedger<E, N> {
+    fn drop(self) {
+        let NamedLedger {
+            ledger: _ledger,
+            of: _,
+        } = self;
+    }
 }
 
 impl<E, N: RegistryName> Model for NamedLedger<E, N> {

@@ -9,10 +9,18 @@ use crate::seat::Seat;
 use std::marker::Model;
 
 /// The first entries of a ledger of a registry. Contracts see its number and them.
-#[derive(Drop)]
 pub struct Prefix<E, N: RegistryName> {
     seat: Seat<E, N>,
     mark: Mark<E>,
+}
+
+impl<E, N: RegistryName> Drop for Prefix<E, N> {
+    fn drop(self) {
+        let Prefix {
+            seat: _seat,
+            mark: _mark,
+        } = self;
+    }
 }
 
 impl<E, N: RegistryName> Model for Prefix<E, N> {

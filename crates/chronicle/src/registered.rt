@@ -14,11 +14,20 @@ use std::alloc::AllocError;
 use std::marker::Model;
 
 /// A ledger of a registry. Contracts see its number and the ledger.
-#[derive(Drop)]
 pub struct Registered<E, N: RegistryName> {
     seat: Seat<E, N>,
     number: u32,
     ledger: Ledger<E>,
+}
+
+impl<E: Drop, N: RegistryName> Drop for Registered<E, N> {
+    fn drop(self) {
+        let Registered {
+            seat: _seat,
+            number: _,
+            ledger: _ledger,
+        } = self;
+    }
 }
 
 impl<E, N: RegistryName> Model for Registered<E, N> {

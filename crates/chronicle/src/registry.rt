@@ -52,11 +52,20 @@ impl<E, B> Means<Entering<E, B>, Numbered<E>> for Registers {
 }
 
 /// A registry and the ledger beside it, which have no name yet. Contracts see which they are.
-#[derive(Drop)]
 pub struct Unnamed<E, F> {
     chronicle: Chronicle<Numbered<E>>,
     writer: Writer<Numbered<E>>,
     ledger: Ledger<F>,
+}
+
+impl<E, F: Drop> Drop for Unnamed<E, F> {
+    fn drop(self) {
+        let Unnamed {
+            chronicle: _chronicle,
+            writer: _writer,
+            ledger: _ledger,
+        } = self;
+    }
 }
 
 impl<E, F> Model for Unnamed<E, F> {
@@ -116,12 +125,22 @@ pub struct Ledgers<E, F, N: RegistryName> {
 }
 
 /// The ledgers of one owner. Contracts see each as it was when it was registered. Whoever has it alone can add one.
-#[derive(Drop)]
 pub struct Registry<E, N: RegistryName> {
     chronicle: Chronicle<Numbered<E>>,
     writer: Writer<Numbered<E>>,
     last: u32,
     of: PhantomData<N>,
+}
+
+impl<E, N: RegistryName> Drop for Registry<E, N> {
+    fn drop(self) {
+        let Registry {
+            chronicle: _chronicle,
+            writer: _writer,
+            last: _,
+            of: _,
+        } = self;
+    }
 }
 
 impl<E, N: RegistryName> Model for Registry<E, N> {

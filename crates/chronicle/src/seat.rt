@@ -8,10 +8,15 @@ use crate::registry::Numbered;
 use std::marker::{Model, PhantomData};
 
 /// That a ledger is one of a registry. Contracts see its number and its line.
-#[derive(Drop)]
 pub(crate) struct Seat<E, N: RegistryName> {
     mark: Mark<Numbered<E>>,
     of: PhantomData<N>,
+}
+
+impl<E, N: RegistryName> Drop for Seat<E, N> {
+    fn drop(self) {
+        let Seat { mark: _mark, of: _ } = self;
+    }
 }
 
 impl<E, N: RegistryName> Model for Seat<E, N> {

@@ -10,10 +10,18 @@ use crate::seat::Seat;
 use std::marker::Model;
 
 /// The first entries of a ledger of a registry, without the name of that. Contracts see which registry it is, the ledger's number and the entries.
-#[derive(Drop)]
 pub struct Upto<E> {
     seat: Mark<Numbered<E>>,
     mark: Option<Mark<E>>,
+}
+
+impl<E> Drop for Upto<E> {
+    fn drop(self) {
+        let Upto {
+            seat: _seat,
+            mark: _mark,
+        } = self;
+    }
 }
 
 impl<E> Model for Upto<E> {

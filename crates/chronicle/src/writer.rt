@@ -8,11 +8,20 @@ use std::marker::Model;
 use std::snapshot::Snapshot;
 
 /// The right to append to a list, and what was appended by it so far. Contracts see its line and its entries.
-#[derive(Drop)]
 pub struct Writer<E> {
     pen: Pen,
     first: Word<Noted<E>, u64, Law>,
     seen: Seen<Noted<E>, u64, Law>,
+}
+
+impl<E> Drop for Writer<E> {
+    fn drop(self) {
+        let Writer {
+            pen: _pen,
+            first: _first,
+            seen: _seen,
+        } = self;
+    }
 }
 
 impl<E> Model for Writer<E> {

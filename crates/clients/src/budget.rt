@@ -5,10 +5,18 @@ use std::alloc::{AllocError, Global};
 use std::collections::VecDeque;
 
 /// Places of one size, and those who wait for one, the first to come in front.
-#[derive(Drop)]
 pub(crate) struct Places {
     free: usize,
     line: VecDeque<usize>,
+}
+
+impl Drop for Places {
+    fn drop(self) {
+        let Places {
+            free: _,
+            line: _line,
+        } = self;
+    }
 }
 
 impl Places {

@@ -35,7 +35,6 @@ struct NextJob<K: Drop> {
 }
 
 /// The connections of a listener, whose clients know this of the service.
-#[derive(Drop)]
 pub struct Clients<'w, W: Watcher, K: Drop> {
     alloc: Global,
     limits: Limits,
@@ -47,6 +46,23 @@ pub struct Clients<'w, W: Watcher, K: Drop> {
     all_begun: AtomicBool,
     ended: AtomicBool,
     notes: Notes,
+}
+
+impl<'w, W: Watcher, K: Drop> Drop for Clients<'w, W, K> {
+    fn drop(self) {
+        let Clients {
+            alloc: _,
+            limits: _limits,
+            watcher: _watcher,
+            started: _started,
+            poller: _poller,
+            table: _table,
+            waker: _waker,
+            all_begun: _all_begun,
+            ended: _ended,
+            notes: _notes,
+        } = self;
+    }
 }
 
 impl<'w, W: Watcher, K: Drop> Clients<'w, W, K> {

@@ -11,7 +11,6 @@ use std::io::{Read, Write};
 use wire::{StreamFault, Whole, read_request};
 
 /// The bytes that were received and aren't answered yet, the page that is being sent, and what the client knows.
-#[derive(Drop)]
 pub struct Conversation<K: Drop> {
     alloc: Global,
     waiting: Vec<u8>,
@@ -20,6 +19,20 @@ pub struct Conversation<K: Drop> {
     ended: bool,
     greets: bool,
     known: Option<K>,
+}
+
+impl<K: Drop> Drop for Conversation<K> {
+    fn drop(self) {
+        let Conversation {
+            alloc: _,
+            waiting: _waiting,
+            page: _page,
+            sent: _,
+            ended: _,
+            greets: _,
+            known: _known,
+        } = self;
+    }
 }
 
 impl<K: Drop> Conversation<K> {

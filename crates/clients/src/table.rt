@@ -22,7 +22,6 @@ pub(crate) struct Job<K: Drop> {
 }
 
 /// The connections, the places that are free, and those that may have something to do, in turn.
-#[derive(Drop)]
 pub(crate) struct Table<K: Drop> {
     slots: Vec<Slot<K>>,
     free: Vec<usize>,
@@ -30,6 +29,19 @@ pub(crate) struct Table<K: Drop> {
     budget: Budget,
     open: usize,
     idle: u64,
+}
+
+impl<K: Drop> Drop for Table<K> {
+    fn drop(self) {
+        let Table {
+            slots: _slots,
+            free: _free,
+            ready: _ready,
+            budget: _budget,
+            open: _,
+            idle: _,
+        } = self;
+    }
 }
 
 impl<K: Drop> Table<K> {

@@ -1,7 +1,9 @@
 pub mod Bulks
 pub mod Confirmed
 pub mod Faults
+pub mod Given
 pub mod Journals
 pub mod Leaving
 pub mod Opening
+pub mod Opened
 pub mod Refreshed

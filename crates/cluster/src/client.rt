@@ -29,13 +29,29 @@ use std::sync::{Arc, Wait};
 use translog::LogDevice;
 
 /// Asks the copies of a cluster, from any thread. A cluster gives it out, and ends what it asks.
-#[derive(Drop)]
 pub struct Client<D: LogDevice, J: RegistryName> {
     pub(crate) alloc: Global,
     pub(crate) shared: Arc<Shared<D, J>, Global>,
 }
 
+impl<D: LogDevice, J: RegistryName> Drop for Client<D, J> {
+    fn drop(self) {
+        let Client {
+            alloc: _,
+            shared: _shared,
+        } = self;
+    }
+}
+
 impl<D: LogDevice, J: RegistryName> Client<D, J> {
+    /// What it asks.
+    pub(crate) fn into_shared(self) -> Arc<Shared<D, J>, Global>
+        ensures { result ≡ self.shared }
+    {
+        let Client { alloc: _, shared } = self;
+        shared
+    }
+
     /// Has the primary do a write, and waits until every member has it. Where there is no primary since the master could make none, its fault says why.
     pub fn write<R: Wait>(&self, rt: &R, write: Write) -> Result<Confirmed<J>, WriteFault<J>>
         ensures confirmed { IfOk result (IsConfirmed write) }
@@ -119,7 +135,9 @@ impl<D: LogDevice, J: RegistryName> Client<D, J> {
 
     /// A searcher of a copy, which sees what the copy shows from then on, and waits for nobody. Eight are given out at once, else `NoSeat`; one that
     /// is dropped makes room.
-    pub fn searcher<R: Wait>(&self, rt: &R, copy: u32) -> Result<CopySearcher<J>, ClusterFault> {
+    pub fn searcher<R: Wait>(&self, rt: &R, copy: u32) -> Result<CopySearcher<J>, ClusterFault>
+        ensures { IfOk result (λ s. s.node ≡ copy) }
+    {
         let (to, answers) = bounded(self.alloc, 1)?;
         if !self.shared.hand(rt, copy, Post::Seat(to)) {
             return Err(ClusterFault::Master(MasterFault::NotInSync));
@@ -127,7 +145,12 @@ impl<D: LogDevice, J: RegistryName> Client<D, J> {
         let Ok(answer) = answers.recv(rt) else {
             return Err(ClusterFault::NoMemory);
         };
-        Ok(answer?)
+        let searcher = answer?;
+        if searcher.node() == copy {
+            Ok(searcher)
+        } else {
+            Err(ClusterFault::Stray(0))
+        }
     }
 
     /// Refreshes each copy that isn't gone, and gives the entries of those in sync, in the order of their ids. One that is closed is passed over.

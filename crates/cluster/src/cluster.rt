@@ -1,35 +1,38 @@
 //! Starting the threads of a cluster, and ending them.
-ghost use Rattle.std.specs.Prelude.{◌≡◌, ◌+◌, ◌≤◌, [], false, is_some, vec_len, IsOk, IfOk, IfSome, OnOk};
+ghost use Rattle.std.specs.Prelude.{◌≡◌, ◌+◌, ◌≤◌, ◌++◌, ◌∷◌, [], false, map, is_some, vec_len, Ok, Some, IsOk, IfNone, IfOk, IfSome, OnOk};
+ghost use mathlib.Core.List.{IsPrefix};
 ghost use Rattle.master.specs.declared.state.Request.TheVariants.{Allocate};
+ghost use Rattle.master.specs.Log.{kept_state};
+ghost use Rattle.master.specs.Logged.{begun_state};
+ghost use Rattle.cluster.specs.Given.{given};
 ghost use Rattle.cluster.specs.Journals.{AreHandedOut};
-ghost use Rattle.cluster.specs.Opening.{keeps};
+ghost use Rattle.cluster.specs.Opened.{copy_of, AreNew, AreTried, HasKept, IsLed, IsLeftOut, IsNewIndex, IsOpened, IsOpenedAs, IsPromoted, IsReopened, IsStarted};
+ghost use Rattle.cluster.specs.Opening.{keeps, BeganWith};
+ghost use Rattle.ruled.specs.declared.entry.MasterEntry.TheVariants.{Opened as Starts};
 ghost use Rattle.ruled.specs.Entries.{IsDecided};
 
-use crate::bench::{Bench, Start, start_both};
 use crate::client::Client;
+use crate::crew::Crew;
 use crate::devices::Devices;
 use crate::fault::{ClusterFault, OpenFault, ShortLog, Unopened, of_master_log};
 use crate::gate::Gate;
 use crate::handing::{HandedOut, handed_out};
 use crate::left::Left;
-use crate::merging::Merger;
 use crate::opening::{
     Journals, Opened, beginning, birth_of, joining_copy, kept_copy, lacking, leader_of, new_copy,
 };
 use crate::ready::Ready;
-use crate::routes::{inbox_of, remove_route, stop};
+use crate::routes::stop;
 use crate::shared::Shared;
-use crate::worker::Tools;
-use chronicle::{Blank, Ledgers, NamedLedger, Registry, RegistryName};
-use crossbeam_channel::{Sender, bounded, unbounded};
+use chronicle::{Blank, Ledgers, NamedLedger, RegistryName};
 use doc::Mapping;
-use engine::Merging;
 use journal::Deed;
-use master::{Master, MasterFault, Request};
-use node::{Pass, Receipt};
-use replica::{Birth, CopyFault};
-use ruled::{Decided, Known, MasterEntry, Ruled};
-use std::alloc::{AllocError, Global};
+use master::{Master, MasterFault};
+use node::{Began, Receipt};
+use op::CopyIds;
+use replica::CopyFault;
+use ruled::{Decided, Known, MasterEntry, Past, Ruled};
+use std::alloc::Global;
 use std::sync::{Arc, Mutex, Wait};
 use std::thread::{JoinHandle, Threads};
 use translog::LogDevice;
@@ -46,19 +49,29 @@ struct Setting<V, G, J: RegistryName> {
 }
 
 /// The master and its copies, each copy on a thread of its own. End it by `close`.
-#[derive(Drop)]
 pub struct Cluster<D: LogDevice, V: Devices<D>, G: Gate, J: RegistryName> {
     mapping: Mapping,
     devices: V,
-    gate: Arc<G, Global>,
     journals: Journals,
-    registry: Registry<Deed, J>,
-    client: Client<D, J>,
-    threads: Vec<JoinHandle<Left<J>>>,
-    /// The threads that build merges, one for each of the others.
-    mergers: Vec<JoinHandle<()>>,
+    crew: Crew<D, G, J>,
+    /// The master's entries up to the one by which a copy leads.
+    past: Past<J>,
     unopened: Vec<Unopened>,
     short_log: Option<ShortLog>,
+}
+
+impl<D: LogDevice, V: Devices<D>, G: Gate, J: RegistryName> Drop for Cluster<D, V, G, J> {
+    fn drop(self) {
+        let Cluster {
+            mapping: _mapping,
+            devices: _devices,
+            journals: _,
+            crew: _crew,
+            past: _past,
+            unopened: _unopened,
+            short_log: _short_log,
+        } = self;
+    }
 }
 
 impl<D, V, G, J> Cluster<D, V, G, J>
@@ -81,8 +94,9 @@ where
         ledgers: Ledgers<Deed, MasterEntry, J>,
     ) -> Result<Cluster<D, V, G, J>, ClusterFault>
         requires { (1 ≤ copies) × (copies ≤ 5) }
-        ensures threads { IfOk result (λ c. vec_len c.threads ≡ copies) }
+        ensures threads { IfOk result (λ c. vec_len c.crew.threads ≡ copies) }
         ensures journals { IfOk result (λ c. c.journals ≡ journals) }
+        ensures opened { IfOk result (λ c. IsStarted (V.gave c.devices) mapping copies c.crew.began.items c.past) }
     {
         let mut setting = Setting {
             alloc,
@@ -115,7 +129,8 @@ where
         ledgers: Ledgers<Deed, MasterEntry, J>,
     ) -> Result<Cluster<D, V, G, J>, ClusterFault>
         requires { (1 ≤ copies) × (copies ≤ 5) }
-        ensures { IfOk result (λ c. c.journals ≡ journals) }
+        ensures journals { IfOk result (λ c. c.journals ≡ journals) }
+        ensures opened { IfOk result (λ c. IsOpened (V.gave c.devices) mapping copies c.crew.began.items c.unopened.items c.past) }
     {
         let mut setting = Setting {
             alloc,
@@ -141,8 +156,10 @@ where
         device: D,
     ) -> Result<Cluster<D, V, G, J>, ClusterFault>
         requires { (1 ≤ copies) × (copies ≤ 5) }
-        ensures threads { IfOk result (λ c. vec_len c.threads ≡ copies) }
+        ensures threads { IfOk result (λ c. vec_len c.crew.threads ≡ copies) }
         ensures journals { IfOk result (λ c. c.journals ≡ setting.journals) }
+        ensures gave { IfOk result (λ c. IsPrefix (V.gave setting.devices) (V.gave c.devices)) }
+        ensures opened { IfOk result (λ c. IsNewIndex (D.bytes device) setting.mapping copies c.crew.began.items c.past) }
     {
         let mut setting = setting;
         let alloc = setting.alloc;
@@ -170,8 +187,12 @@ where
         master: Result<Master<D>, ClusterFault>,
     ) -> Result<Cluster<D, V, G, J>, ClusterFault>
         requires { IfOk master (λ m. m.closed ≡ false) }
-        ensures threads { IfOk result (λ c. vec_len c.threads ≡ vec_len ready) }
+        ensures threads { IfOk result (λ c. vec_len c.crew.threads ≡ vec_len ready) }
         ensures journals { IfOk result (λ c. c.journals ≡ setting.journals) }
+        ensures devices { IfOk result (λ c. c.devices ≡ setting.devices) }
+        ensures began { IfOk result (λ c. c.crew.began.items ≡ map copy_of ready.items) }
+        ensures past { IfOk result (λ c. IfOk master (λ m. c.past ≡ Starts m.state ∷ [])) }
+        ensures whole { IsOk result → IsOk master }
     {
         match master {
             Ok(master) => Cluster::launch_over(rt, Cluster::over(setting, master), ready),
@@ -189,14 +210,18 @@ where
         cluster: Result<Cluster<D, V, G, J>, ClusterFault>,
         ready: Vec<Ready<D>>,
     ) -> Result<Cluster<D, V, G, J>, ClusterFault>
-        requires { IfOk cluster (λ c. vec_len c.threads ≡ 0) }
-        ensures threads { IfOk result (λ c. vec_len c.threads ≡ vec_len ready) }
-        ensures journals { IfOk result (λ c. IfOk cluster (λ began. c.journals ≡ began.journals)) }
-        ensures began { IsOk result → IsOk cluster }
+        requires threads { IfOk cluster (λ c. vec_len c.crew.threads ≡ 0) }
+        requires began { IfOk cluster (λ c. c.crew.began.items ≡ []) }
+        ensures threads { IfOk result (λ c. vec_len c.crew.threads ≡ vec_len ready) }
+        ensures journals { IfOk result (λ c. IfOk cluster (λ before. c.journals ≡ before.journals)) }
+        ensures devices { IfOk result (λ c. IfOk cluster (λ before. c.devices ≡ before.devices)) }
+        ensures past { IfOk result (λ c. IfOk cluster (λ before. c.past ≡ before.past)) }
+        ensures began { IfOk result (λ c. c.crew.began.items ≡ map copy_of ready.items) }
+        ensures whole { IsOk result → IsOk cluster }
     {
         match cluster {
             Ok(mut cluster) => {
-                let begun = cluster.launch_all(rt, ready);
+                let begun = cluster.crew.launch_all(rt, ready);
                 cluster.or_closed(rt, begun)
             }
             Err(fault) => {
@@ -212,7 +237,9 @@ where
         count: u8,
         device: D,
     ) -> Result<Cluster<D, V, G, J>, ClusterFault>
-        ensures { IfOk result (λ c. c.journals ≡ setting.journals) }
+        ensures journals { IfOk result (λ c. c.journals ≡ setting.journals) }
+        ensures gave { IfOk result (λ c. IsPrefix (V.gave setting.devices) (V.gave c.devices)) }
+        ensures opened { IfOk result (λ c. IsReopened (V.gave c.devices) (D.bytes device) setting.mapping count c.crew.began.items c.unopened.items c.past) }
     {
         let master = kept_master(setting.alloc, device)?;
         let mut cluster = Cluster::over(setting, master)?;
@@ -226,8 +253,13 @@ where
         master: Master<D>,
     ) -> Result<Cluster<D, V, G, J>, ClusterFault>
         requires { master.closed ≡ false }
-        ensures threads { IfOk result (λ c. vec_len c.threads ≡ 0) }
+        ensures threads { IfOk result (λ c. vec_len c.crew.threads ≡ 0) }
         ensures journals { IfOk result (λ c. c.journals ≡ setting.journals) }
+        ensures devices { IfOk result (λ c. c.devices ≡ setting.devices) }
+        ensures mapping { IfOk result (λ c. c.mapping ≡ setting.mapping) }
+        ensures began { IfOk result (λ c. c.crew.began.items ≡ []) }
+        ensures unopened { IfOk result (λ c. c.unopened.items ≡ []) }
+        ensures past { IfOk result (λ c. c.past ≡ Starts master.state ∷ []) }
     {
         let Setting {
             alloc,
@@ -238,10 +270,12 @@ where
             ledgers,
         } = setting;
         let Ledgers { registry, blank } = ledgers;
+        let master = Ruled::begin(alloc, ledger_of(alloc, journals, blank), master)?;
+        let past = master.past();
         let shared = Arc::new(
             alloc,
             Shared {
-                master: Mutex::new(Ruled::begin(alloc, ledger_of(alloc, journals, blank), master)?),
+                master: Mutex::new(master),
                 routes: Mutex::new(Vec::new(alloc)),
                 unled: Mutex::new(None),
             },
@@ -249,12 +283,16 @@ where
         Ok(Cluster {
             mapping,
             devices,
-            gate: Arc::new(alloc, gate)?,
             journals,
-            registry,
-            client: Client { alloc, shared },
-            threads: Vec::new(alloc),
-            mergers: Vec::new(alloc),
+            crew: Crew {
+                gate: Arc::new(alloc, gate)?,
+                registry,
+                client: Client { alloc, shared },
+                threads: Vec::new(alloc),
+                mergers: Vec::new(alloc),
+                began: Vec::new(alloc),
+            },
+            past,
             unopened: Vec::new(alloc),
             short_log: None,
         })
@@ -283,54 +321,77 @@ where
         drop(self.ended(rt));
     }
 
-    fn launch_all<R: Threads + Wait + Copy + Send + Drop + 'static>(
-        &mut self,
-        rt: &R,
-        copies: Vec<Ready<D>>,
-    ) -> Result<(), ClusterFault>
-        ensures threads { OnOk result (vec_len self.new.threads ≡ vec_len self.old.threads + vec_len copies) }
-        ensures journals { self.new.journals ≡ self.old.journals }
-    {
-        for ready in copies {
-            self.launch(rt, ready)?;
-        }
-        Ok(())
-    }
-
     /// Opens the copies that are in sync, and has one of them lead.
     fn open_all<R: Threads + Wait + Copy + Send + Drop + 'static>(
         &mut self,
         rt: &R,
         count: u8,
     ) -> Result<(), ClusterFault>
-        ensures { self.new.journals ≡ self.old.journals }
+        requires { (self.old.crew.began.items ≡ []) × (self.old.unopened.items ≡ []) }
+        ensures same { (self.new.journals ≡ self.old.journals) × (self.new.mapping ≡ self.old.mapping) }
+        ensures gave { IsPrefix (V.gave self.old.devices) (V.gave self.new.devices) }
+        ensures past { IsPrefix self.old.past self.new.past }
+        ensures led { OnOk result (IsLed (V.gave self.new.devices) self.new.mapping count self.new.crew.began.items self.new.unopened.items self.new.past) }
     {
-        let alloc = self.client.alloc;
-        let Known { state, past } = self.client.state(rt)?;
-        drop(past);
-        let mut opened = Vec::new(alloc);
-        self.devices.will_open(&state.in_sync);
-        for id in state.in_sync.as_slice() {
-            if let Some(next) = self.open_one(rt, *id, birth_of(*id, count))? {
-                opened.push(Opened { copy: *id, next })?;
-            }
-        }
+        let Known { state, past } = self.crew.client.state(rt)?;
+        let opened = self.open_each(rt, &state.in_sync, count)?;
         match leader_of(state.primary, opened.as_slice()) {
             Some(leader) => {
                 self.note_short_log(state.primary, leader, opened.as_slice());
-                self.client.promote(rt, leader)?;
-                Ok(())
+                self.lead(rt, &past, leader)
             }
             None => {
+                let alloc = self.crew.client.alloc;
                 let tried = std::mem::replace(&mut self.unopened, Vec::new(alloc));
                 Err(ClusterFault::Unopened(tried))
             }
         }
     }
 
+    /// Has a copy lead, by an entry of the master behind those that are known.
+    #[tactic(auto, using(crate::proofs::Opened::self_begins))]
+    fn lead<R: Wait>(&mut self, rt: &R, known: &Past<J>, leader: u32) -> Result<(), ClusterFault>
+        ensures same { (self.new.journals ≡ self.old.journals) × (self.new.mapping ≡ self.old.mapping) }
+        ensures others { (self.new.devices ≡ self.old.devices) × (self.new.crew ≡ self.old.crew) × (self.new.unopened ≡ self.old.unopened) }
+        ensures past { IsPrefix self.old.past self.new.past }
+        ensures since { OnOk result (IsPrefix known.now self.new.past) }
+        ensures promoted { OnOk result (IsPromoted leader self.new.past) }
+    {
+        let Decided { decision, past } = self.crew.client.promote(rt, leader)?;
+        drop(decision);
+        if !known.is_within(&past) || !self.past.is_within(&past) {
+            return Err(ClusterFault::Stray(0));
+        }
+        self.past = past;
+        Ok(())
+    }
+
+    /// Opens copies, in order, and tells what each is that opened.
+    fn open_each<R: Threads + Wait + Copy + Send + Drop + 'static>(
+        &mut self,
+        rt: &R,
+        copies: &CopyIds,
+        count: u8,
+    ) -> Result<Vec<Opened>, ClusterFault>
+        requires { (self.old.crew.began.items ≡ []) × (self.old.unopened.items ≡ []) }
+        ensures same { (self.new.journals ≡ self.old.journals) × (self.new.mapping ≡ self.old.mapping) × (self.new.past ≡ self.old.past) }
+        ensures gave { IsPrefix (V.gave self.old.devices) (V.gave self.new.devices) }
+        ensures tried { IfOk result (λ os. AreTried (V.gave self.new.devices) self.new.mapping count copies.now self.new.crew.began.items self.new.unopened.items os.items) }
+    {
+        let mut opened = Vec::new(self.crew.client.alloc);
+        self.devices.will_open(copies);
+        for id in copies.as_slice() {
+            match self.open_one(rt, *id, count)? {
+                Some(one) => opened.push(one)?,
+                None => {}
+            }
+        }
+        Ok(opened)
+    }
+
     /// Notes that the copy that led last lacks operations that the one has that is to lead.
     fn note_short_log(&mut self, primary: u32, leader: u32, opened: &[Opened])
-        ensures { self.new.journals ≡ self.old.journals }
+        ensures { self.new ≡ record self.old { short_log = self.new.short_log } }
     {
         if let Some(lacking) = lacking(primary, opened) {
             self.short_log = Some(ShortLog {
@@ -347,41 +408,51 @@ where
         &mut self,
         rt: &R,
         id: u32,
-        birth: Birth,
-    ) -> Result<Option<u64>, ClusterFault>
-        ensures { self.new.journals ≡ self.old.journals }
+        count: u8,
+    ) -> Result<Option<Opened>, ClusterFault>
+        ensures same { (self.new.journals ≡ self.old.journals) × (self.new.mapping ≡ self.old.mapping) × (self.new.past ≡ self.old.past) }
+        ensures gave { IsPrefix (V.gave self.old.devices) (V.gave self.new.devices) }
+        ensures opened { IfOk result (λ o. IfSome o (λ x. IsOpenedAs (V.gave self.new.devices) self.new.mapping count id self.old.crew.began.items self.new.crew.began.items x × (self.new.unopened ≡ self.old.unopened))) }
+        ensures left { IfOk result (λ o. IfNone o ((self.new.crew ≡ self.old.crew) × IsLeftOut id self.old.unopened.items self.new.unopened.items)) }
     {
-        match self.kept(id, birth) {
+        match self.kept(id, count) {
             Ok(ready) => {
                 let next = ready.copy().next_seq();
-                self.launch(rt, ready)?;
-                Ok(Some(next))
+                self.crew.launch(rt, ready)?;
+                Ok(Some(Opened { copy: id, next }))
             }
-            Err(fault) => self.leave_out(id, fault),
+            Err(fault) => {
+                self.leave_out(id, fault)?;
+                Ok(None)
+            }
         }
     }
 
     /// Notes that a copy didn't open, and why.
-    fn leave_out(&mut self, copy: u32, fault: OpenFault) -> Result<Option<u64>, ClusterFault>
-        ensures { self.new.journals ≡ self.old.journals }
+    fn leave_out(&mut self, copy: u32, fault: OpenFault) -> Result<(), ClusterFault>
+        ensures same { self.new ≡ record self.old { unopened = self.new.unopened } }
+        ensures left { OnOk result (IsLeftOut copy self.old.unopened.items self.new.unopened.items) }
     {
         if let OpenFault::Copy(CopyFault::NoMemory) = &fault {
             return Err(ClusterFault::NoMemory);
         }
         self.unopened.push(Unopened { copy, fault })?;
-        Ok(None)
+        Ok(())
     }
 
     /// The copy that its device holds.
-    fn kept(&mut self, id: u32, birth: Birth) -> Result<Ready<D>, OpenFault>
-        ensures { self.new.journals ≡ self.old.journals }
+    fn kept(&mut self, id: u32, count: u8) -> Result<Ready<D>, OpenFault>
+        ensures same { self.new ≡ record self.old { devices = self.new.devices } }
+        ensures gave { IsPrefix (V.gave self.old.devices) (V.gave self.new.devices) }
+        ensures kept { IfOk result (λ r. HasKept (V.gave self.new.devices) self.old.mapping count r.copy × (r.copy.id ≡ id)) }
     {
         let device = match self.devices.kept(id) {
             Ok(Some(device)) => device,
             Ok(None) => return Err(OpenFault::Missing),
             Err(fault) => return Err(OpenFault::Copy(CopyFault::from(fault))),
         };
-        let alloc = self.client.alloc;
+        let alloc = self.crew.client.alloc;
+        let birth = birth_of(id, count);
         match kept_copy(alloc, self.journals, id, birth, &self.mapping, device) {
             Ok(ready) => Ok(ready),
             Err(fault) => Err(OpenFault::Copy(fault)),
@@ -408,164 +479,36 @@ where
         rt: &R,
     ) -> Result<Decided<J>, ClusterFault>
         ensures decided { IfOk result (λ d. IsDecided Allocate d.decision d.past) }
-        ensures runs { OnOk result (vec_len self.new.threads ≡ vec_len self.old.threads + 1) }
+        ensures runs { OnOk result (vec_len self.new.crew.threads ≡ vec_len self.old.crew.threads + 1) }
     {
-        let alloc = self.client.alloc;
-        let Ok(next) = u32::try_from(self.client.state(rt)?.state.next) else {
+        let alloc = self.crew.client.alloc;
+        let Ok(next) = u32::try_from(self.crew.client.state(rt)?.state.next) else {
             return Err(ClusterFault::Master(MasterFault::Full));
         };
         let device = device_of(&mut self.devices, next)?;
         let ready = joining_copy(alloc, self.journals, next, &self.mapping, device)?;
-        match self.start_of(rt, next) {
-            Ok(start) => self.join(rt, next, start, ready),
-            Err(fault) => {
-                drop(ready);
-                Err(fault)
-            }
-        }
+        self.crew.join(rt, next, ready)
     }
 
-    /// Has the master add a copy, and starts its thread.
-    fn join<R: Threads + Wait + Copy + Send + Drop + 'static>(
-        &mut self,
-        rt: &R,
-        copy: u32,
-        start: Start<D, G, J>,
-        ready: Ready<D>,
-    ) -> Result<Decided<J>, ClusterFault>
-        ensures decided { IfOk result (λ d. IsDecided Allocate d.decision d.past) }
-        ensures runs { OnOk result (vec_len self.new.threads ≡ vec_len self.old.threads + 1) }
+    /// What each copy was when its journal began: those that were opened or made in the order of their ids, and then those that were added.
+    pub fn began(&self) -> &[Began<J>]
+        ensures { result.now ≡ self.now.crew.began.items }
     {
-        match self
-            .client
-            .shared
-            .ask(rt, self.client.alloc, 0, Request::Allocate)
-        {
-            Ok(decided) => match self.run(rt, start, ready) {
-                Ok(()) => Ok(decided),
-                Err(fault) => {
-                    drop(decided);
-                    Err(fault)
-                }
-            },
-            Err(fault) => {
-                drop(start);
-                drop(ready);
-                remove_route(rt, &*self.client.shared, copy);
-                Err(ClusterFault::from(fault))
-            }
-        }
+        self.crew.began.as_slice()
+    }
+
+    /// The master's entries up to the one by which a copy leads since the cluster was opened: for a new one that which says what the master was.
+    pub fn past(&self) -> &Past<J>
+        ensures { result.now ≡ self.now.past }
+    {
+        &self.past
     }
 
     /// What callers ask the copies by.
     pub fn client(&self) -> &Client<D, J>
-        ensures { result.now ≡ self.now.client }
+        ensures { result.now ≡ self.now.crew.client }
     {
-        &self.client
-    }
-
-    /// Starts the thread of a copy, which posts reach from now on.
-    fn launch<R: Threads + Wait + Copy + Send + Drop + 'static>(
-        &mut self,
-        rt: &R,
-        ready: Ready<D>,
-    ) -> Result<(), ClusterFault>
-        ensures threads { OnOk result (vec_len self.new.threads ≡ vec_len self.old.threads + 1) }
-        ensures journals { self.new.journals ≡ self.old.journals }
-    {
-        match self.start_of(rt, ready.copy().id()) {
-            Ok(start) => self.run(rt, start, ready),
-            Err(fault) => {
-                drop(ready);
-                Err(fault)
-            }
-        }
-    }
-
-    /// What the threads of a copy are to be started with, whom posts reach from now on.
-    fn start_of<R: Wait>(&self, rt: &R, copy: u32) -> Result<Start<D, G, J>, ClusterFault> {
-        let alloc = self.client.alloc;
-        let (to, merges) = unbounded(alloc)?;
-        let tools = self.tools(copy, to)?;
-        match inbox_of(rt, alloc, &*self.client.shared, copy) {
-            Ok((worker, inbox)) => Ok(Start {
-                alloc,
-                tools,
-                inbox,
-                merges,
-                worker,
-            }),
-            Err(fault) => {
-                drop(tools);
-                Err(fault)
-            }
-        }
-    }
-
-    /// What the worker of a copy needs beside it.
-    fn tools(
-        &self,
-        copy: u32,
-        merges: Sender<Merging, Global>,
-    ) -> Result<Tools<D, G, J>, AllocError> {
-        let gate = another(&self.gate)?;
-        let shared = another(&self.client.shared)?;
-        Ok(Tools {
-            gate,
-            shared,
-            merges,
-            pass: Pass::new(self.client.alloc, copy as u64),
-        })
-    }
-
-    /// Starts the threads of a copy, and waits until it serves. Where none can be had, or it doesn't serve, memory is wanting.
-    fn run<R: Threads + Wait + Copy + Send + Drop + 'static>(
-        &mut self,
-        rt: &R,
-        start: Start<D, G, J>,
-        ready: Ready<D>,
-    ) -> Result<(), ClusterFault>
-        ensures threads { OnOk result (vec_len self.new.threads ≡ vec_len self.old.threads + 1) }
-        ensures journals { self.new.journals ≡ self.old.journals }
-    {
-        let copy = match ready.registered(self.client.alloc, &mut self.registry) {
-            Ok(copy) => copy,
-            Err(_) => {
-                drop(start);
-                return Err(ClusterFault::NoMemory);
-            }
-        };
-        let Ok((begun, heard)) = bounded(self.client.alloc, 1) else {
-            drop(start);
-            drop(copy);
-            return Err(ClusterFault::NoMemory);
-        };
-        let Start {
-            alloc,
-            tools,
-            inbox,
-            merges,
-            worker,
-        } = start;
-        let bench = Bench {
-            rt: *rt,
-            alloc,
-            begun,
-            tools,
-            inbox,
-            copy,
-        };
-        let merger = Merger {
-            rt: *rt,
-            alloc,
-            merges,
-            worker,
-        };
-        start_both(rt, &mut self.mergers, merger, &mut self.threads, bench)?;
-        match heard.recv(rt) {
-            Ok(true) => Ok(()),
-            _ => Err(ClusterFault::NoMemory),
-        }
+        &self.crew.client
     }
 
     /// Ends all threads, and hands out the journals, where they are kept: the master's first, with all its entries, then those of the copies in the order
@@ -577,7 +520,7 @@ where
         receipts: &[Receipt<J>],
     ) -> Result<Option<HandedOut<J>>, ClusterFault>
         ensures kept { IfOk result (λ o. is_some o ≡ keeps self.journals) }
-        ensures journals { IfOk result (λ o. IfSome o (λ h. AreHandedOut (vec_len self.threads) receipts.now h.past h.journals.items)) }
+        ensures journals { IfOk result (λ o. IfSome o (λ h. AreHandedOut (vec_len self.crew.threads) receipts.now h.past h.journals.items)) }
     {
         let Ended {
             alloc,
@@ -601,16 +544,25 @@ where
     /// Ends all threads.
     fn ended<R: Threads + Wait>(self, rt: &R) -> Result<Ended<D, J>, ClusterFault>
         ensures journals { IfOk result (λ e. e.journals ≡ self.journals) }
-        ensures all { IfOk result (λ e. vec_len e.lefts ≡ vec_len self.threads) }
+        ensures all { IfOk result (λ e. vec_len e.lefts ≡ vec_len self.crew.threads) }
     {
         let Cluster {
+            mapping: _mapping,
+            devices: _devices,
             journals,
+            crew,
+            past: _past,
+            unopened: _unopened,
+            short_log: _short_log,
+        } = self;
+        let Crew {
             client,
             threads,
             mergers,
             ..
-        } = self;
-        let Client { alloc, shared } = client;
+        } = crew;
+        let alloc = client.alloc;
+        let shared = client.into_shared();
         stop(rt, &*shared);
         let lefts = joined(rt, alloc, threads)?;
         end_mergers(rt, mergers);
@@ -672,13 +624,10 @@ fn end_mergers<R: Threads>(rt: &R, mergers: Vec<JoinHandle<()>>) {
     }
 }
 
-/// Another handle of what is shared.
-fn another<T>(shared: &Arc<T, Global>) -> Result<Arc<T, Global>, AllocError> {
-    Arc::try_clone(shared)
-}
-
 /// The device of the master, whether or not it holds a log.
-fn master_device<D: LogDevice, V: Devices<D>>(devices: &mut V) -> Result<D, ClusterFault> {
+fn master_device<D: LogDevice, V: Devices<D>>(devices: &mut V) -> Result<D, ClusterFault>
+    ensures { IfOk result (λ d. V.gave devices.new ≡ V.gave devices.old ++ given 0 (D.bytes d) ∷ []) }
+{
     let device = match devices.kept(0) {
         Ok(Some(device)) => Ok(device),
         Ok(None) => devices.device(0),
@@ -693,7 +642,8 @@ fn master_device<D: LogDevice, V: Devices<D>>(devices: &mut V) -> Result<D, Clus
 /// The master of a new index.
 fn new_master<D: LogDevice>(alloc: Global, copies: u8, device: D) -> Result<Master<D>, ClusterFault>
     requires { (1 ≤ copies) × (copies ≤ 5) }
-    ensures { IfOk result (λ m. m.closed ≡ false) }
+    ensures open { IfOk result (λ m. m.closed ≡ false) }
+    ensures state { IfOk result (λ m. begun_state copies (D.bytes device) ≡ Ok m.state) }
 {
     match Master::begin(alloc, copies, device) {
         Ok(master) => Ok(master),
@@ -703,7 +653,8 @@ fn new_master<D: LogDevice>(alloc: Global, copies: u8, device: D) -> Result<Mast
 
 /// The master that a log keeps.
 fn kept_master<D: LogDevice>(alloc: Global, device: D) -> Result<Master<D>, ClusterFault>
-    ensures { IfOk result (λ m. m.closed ≡ false) }
+    ensures open { IfOk result (λ m. m.closed ≡ false) }
+    ensures state { IfOk result (λ m. kept_state (D.bytes device) ≡ Ok m.state) }
 {
     match Master::open(alloc, device) {
         Ok(master) => Ok(master),
@@ -719,7 +670,10 @@ fn new_copies<D: LogDevice, V: Devices<D>>(
     mapping: &Mapping,
     devices: &mut V,
 ) -> Result<Vec<Ready<D>>, ClusterFault>
-    ensures { IfOk result (λ all. vec_len all ≡ copies) }
+    requires { 1 ≤ copies }
+    ensures all { IfOk result (λ all. vec_len all ≡ copies) }
+    ensures new { IfOk result (λ all. AreNew mapping.now copies 1 (map copy_of all.items)) }
+    ensures gave { IsPrefix (V.gave devices.old) (V.gave devices.new) }
 {
     let count = copies as u32;
     let mut all = Vec::new(alloc);
@@ -731,7 +685,9 @@ fn new_copies<D: LogDevice, V: Devices<D>>(
     Ok(all)
 }
 
-fn device_of<D: LogDevice, V: Devices<D>>(devices: &mut V, id: u32) -> Result<D, ClusterFault> {
+fn device_of<D: LogDevice, V: Devices<D>>(devices: &mut V, id: u32) -> Result<D, ClusterFault>
+    ensures { IsPrefix (V.gave devices.old) (V.gave devices.new) }
+{
     match devices.device(id) {
         Ok(device) => Ok(device),
         Err(fault) => Err(ClusterFault::from(CopyFault::from(fault))),

@@ -23,10 +23,18 @@ use std::{slice, str};
 const MAX_LEVELS: usize = 20;
 
 /// A source, and its values under the mapping that it was read by.
-#[derive(Drop)]
 pub struct Doc {
     source: Source,
     fields: Vec<FieldValues>,
+}
+
+impl Drop for Doc {
+    fn drop(self) {
+        let Doc {
+            source: _source,
+            fields: _fields,
+        } = self;
+    }
 }
 
 impl Model for Doc {

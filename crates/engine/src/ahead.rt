@@ -10,9 +10,16 @@ use std::alloc::{AllocError, Global};
 use std::marker::Model;
 
 /// Operations that an engine is to have, found by id without a walk. The engine has none of them yet.
-#[derive(Drop)]
 pub struct Ahead {
     operations: OperationIndex,
+}
+
+impl Drop for Ahead {
+    fn drop(self) {
+        let Ahead {
+            operations: _operations,
+        } = self;
+    }
 }
 
 impl Model for Ahead {

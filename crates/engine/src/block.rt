@@ -28,13 +28,24 @@ use std::sync::Arc;
 const MAX_DOCUMENTS: usize = 4_294_967_296;
 
 /// A document that searches show.
-#[derive(Drop)]
 pub(crate) struct Shown {
     id: DocId,
     seq: u64,
     term: u64,
     version: u64,
     source: Source,
+}
+
+impl Drop for Shown {
+    fn drop(self) {
+        let Shown {
+            id: _id,
+            seq: _,
+            term: _,
+            version: _,
+            source: _source,
+        } = self;
+    }
 }
 
 impl Shown {
@@ -47,10 +58,18 @@ impl Shown {
 }
 
 /// Documents in byte order of their ids, and the segment of their sources. It never changes.
-#[derive(Drop)]
 pub(crate) struct Block {
     documents: Vec<Shown>,
     segment: Segment,
+}
+
+impl Drop for Block {
+    fn drop(self) {
+        let Block {
+            documents: _documents,
+            segment: _segment,
+        } = self;
+    }
 }
 
 impl Model for Block {

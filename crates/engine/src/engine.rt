@@ -40,12 +40,22 @@ pub struct Last {
 
 /// The records of a copy, the documents that they make, and those that searches show.
 /// A get shows all records, a search those that were there at the last refresh or opening.
-#[derive(Drop)]
 pub struct Engine {
     mapping: Arc<Mapping, Global>,
     history: History,
     showing: Showing,
     point: usize,
+}
+
+impl Drop for Engine {
+    fn drop(self) {
+        let Engine {
+            mapping: _mapping,
+            history: _history,
+            showing: _showing,
+            point: _,
+        } = self;
+    }
 }
 
 impl Model for Engine {

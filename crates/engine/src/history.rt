@@ -39,10 +39,18 @@ pub struct Found<'a> {
 }
 
 /// The records in the order in which they came, and their operations in order of number.
-#[derive(Drop)]
 pub(crate) struct History {
     records: Vec<Record>,
     operations: OperationIndex,
+}
+
+impl Drop for History {
+    fn drop(self) {
+        let History {
+            records: _records,
+            operations: _operations,
+        } = self;
+    }
 }
 
 impl Model for History {

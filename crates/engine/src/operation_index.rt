@@ -22,11 +22,20 @@ use std::marker::Model;
 type Latest = HashMap<String, u64>;
 
 /// Operations in ascending order of their numbers.
-#[derive(Drop)]
 pub(crate) struct OperationIndex {
     operations: Vec<Op>,
     latest: Latest,
     local: u64,
+}
+
+impl Drop for OperationIndex {
+    fn drop(self) {
+        let OperationIndex {
+            operations: _operations,
+            latest: _latest,
+            local: _,
+        } = self;
+    }
 }
 
 impl Model for OperationIndex {

@@ -22,7 +22,6 @@ use std::marker::Model;
 use std::sync::Arc;
 
 /// Documents that were put into one segment, and which of them are live: those that no later part has, and that weren't deleted.
-#[derive(Drop)]
 pub(crate) struct Part {
     number: u64,
     block: Arc<Block, Global>,
@@ -31,6 +30,18 @@ pub(crate) struct Part {
     live_len: usize,
     /// Where it is set, no document is dead.
     all_live: bool,
+}
+
+impl Drop for Part {
+    fn drop(self) {
+        let Part {
+            number: _,
+            block: _block,
+            live: _live,
+            live_len: _,
+            all_live: _,
+        } = self;
+    }
 }
 
 impl Model for Part {

@@ -41,10 +41,18 @@ struct AllHits<'a> {
 }
 
 /// Parts, the newest first, in which no document stands twice. It never changes.
-#[derive(Drop)]
 pub(crate) struct PartList {
     mapping: Arc<Mapping, Global>,
     parts: Vec<Part>,
+}
+
+impl Drop for PartList {
+    fn drop(self) {
+        let PartList {
+            mapping: _mapping,
+            parts: _parts,
+        } = self;
+    }
 }
 
 impl Model for PartList {

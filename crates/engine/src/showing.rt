@@ -22,11 +22,20 @@ use std::marker::Model;
 use std::sync::Arc;
 
 /// What searches show, the parts that they look through, and the number of the next part.
-#[derive(Drop)]
 pub(crate) struct Showing {
     parts: Arc<PartList, Global>,
     snapshot: Arc<Snapshot, Global>,
     next: u64,
+}
+
+impl Drop for Showing {
+    fn drop(self) {
+        let Showing {
+            parts: _parts,
+            snapshot: _snapshot,
+            next: _,
+        } = self;
+    }
 }
 
 impl Model for Showing {

@@ -14,9 +14,14 @@ use std::marker::Model;
 use std::sync::Arc;
 
 /// What searches show. It never changes.
-#[derive(Drop)]
 pub struct Snapshot {
     parts: Arc<PartList, Global>,
+}
+
+impl Drop for Snapshot {
+    fn drop(self) {
+        let Snapshot { parts: _parts } = self;
+    }
 }
 
 impl Model for Snapshot {

@@ -1,6 +1,6 @@
 //! What a client knows of the copies of an index.
-ghost use Rattle.std.specs.Prelude.{◌≡◌, [], None, Some, IfSome, IsTrue};
-ghost use Rattle.node.specs.Heard.{IsAheadOf, IsNotBefore};
+ghost use Rattle.std.specs.Prelude.{◌≡◌, ◌<◌, [], length, None, Some, IfSome, IsFalse, IsSomeAnd, IsTrue};
+ghost use Rattle.node.specs.Heard.{HasEntry, IsAheadOf, IsEarlier, IsNotBefore};
 ghost use Rattle.cell.specs.Points.{IsShownBehind};
 ghost use Rattle.group.specs.Known.{heard_by, known, seen_at};
 ghost use mathlib.Core.List.{IsPrefix};
@@ -13,11 +13,20 @@ use std::marker::Model;
 
 /// What a client knows: entries of the journal of the copy that it heard of last, of the one that it saw last, by a refresh or a search, and of the
 /// master's. Contracts see all.
-#[derive(Drop)]
 pub struct Known<J: RegistryName> {
     heard: Option<Heard<J>>,
     seen: Option<Heard<J>>,
     past: Option<Past<J>>,
+}
+
+impl<J: RegistryName> Drop for Known<J> {
+    fn drop(self) {
+        let Known {
+            heard: _heard,
+            seen: _seen,
+            past: _past,
+        } = self;
+    }
 }
 
 impl<J: RegistryName> Model for Known<J> {
@@ -116,7 +125,8 @@ impl<J: RegistryName> Known<J> {
 
     /// Whether a past of the master goes on from what is known of it.
     pub(crate) fn is_followed_by(&self, past: &Past<J>) -> bool
-        ensures { IsTrue result → IsPrefix self.now.past past.now }
+        ensures behind { IsTrue result → IsPrefix self.now.past past.now }
+        ensures fewer { IsFalse result → length past.now < length self.now.past }
     {
         match &self.past {
             Some(known) => known.is_within(past),
@@ -126,7 +136,8 @@ impl<J: RegistryName> Known<J> {
 
     /// Whether what was read is of another copy, or its journal had all by then that was heard.
     pub(crate) fn is_in(&self, got: &Got<J>) -> bool
-        ensures { IsTrue result → IfSome self.now.heard (λ h. IsNotBefore h got.now) }
+        ensures later { IsTrue result → IfSome self.now.heard (λ h. IsNotBefore h got.now) }
+        ensures earlier { IsFalse result → IsSomeAnd self.now.heard (λ h. IsEarlier h got.now.node got.now.deeds) }
     {
         match &self.heard {
             Some(heard) => heard.is_in(got),
@@ -136,7 +147,8 @@ impl<J: RegistryName> Known<J> {
 
     /// Whether a place is of another copy's journal, or behind all that was seen.
     pub(crate) fn is_shown_by(&self, point: &JournalPoint<J>) -> bool
-        ensures { IsTrue result → IfSome self.now.seen (λ h. IsShownBehind h point.now) }
+        ensures behind { IsTrue result → IfSome self.now.seen (λ h. IsShownBehind h point.now) }
+        ensures earlier { IsFalse result → IsSomeAnd self.now.seen (λ h. IsEarlier h point.now.node point.now.deeds) }
     {
         match &self.seen {
             Some(seen) => point.is_behind(seen),
@@ -167,7 +179,8 @@ fn past_again<J: RegistryName>(past: &Option<Past<J>>) -> Option<Past<J>>
 
 /// Whether an entry is of another copy, or stands behind all that was told.
 pub(crate) fn is_ahead<J: RegistryName>(told: &Option<Heard<J>>, receipt: &Receipt<J>) -> bool
-    ensures { IsTrue result → IfSome told.now (λ h. IsAheadOf h receipt.now) }
+    ensures ahead { IsTrue result → IfSome told.now (λ h. IsAheadOf h receipt.now) }
+    ensures among { IsFalse result → IsSomeAnd told.now (λ h. HasEntry h receipt.now) }
 {
     match told {
         Some(told) => told.is_before(receipt),

@@ -6,12 +6,11 @@ ghost use Rattle.front.specs.ReplyView.{reply_view};
 ghost use Rattle.shard.specs.Answering as spec;
 ghost use Rattle.group.specs.Searching.{IsFoundAt};
 
-use cell::{CopySearcher, FoundAt};
+use cell::{CopySearchFault, CopySearcher, FoundAt};
 use chronicle::RegistryName;
 use cluster::{Client, ClusterFault};
 use engine::Hits;
 use front::reply::Reply;
-use published::SearchFault;
 use query::{Page, Query};
 use replica::CopyFault;
 use shard::answering::hits_of;
@@ -19,25 +18,23 @@ use std::alloc::{AllocError, Global};
 use std::sync::{Mutex, Wait};
 use translog::LogDevice;
 
-/// A searcher of a copy.
-#[derive(Drop)]
-struct Seat<J: RegistryName> {
-    copy: u32,
-    searcher: CopySearcher<J>,
-}
-
 /// A place for a searcher. A copy has eight seats, so where there are more threads some share a place, and one of them waits for the search of another
 /// there, and for no write.
-#[derive(Drop)]
 pub struct Chair<J: RegistryName> {
-    seat: Mutex<Option<Seat<J>>>,
+    seat: Mutex<Option<CopySearcher<J>>>,
+}
+
+impl<J: RegistryName> Drop for Chair<J> {
+    fn drop(self) {
+        let Chair { seat: _seat } = self;
+    }
 }
 
 impl<J: RegistryName> Chair<J> {
     /// A place with a searcher of the primary where that can be had; else the first search there asks for it.
     pub fn new<R: Wait, D: LogDevice>(rt: &R, client: &Client<D, J>) -> Chair<J> {
         Chair {
-            seat: Mutex::new(seat_of(rt, client, client.primary(rt).primary).ok()),
+            seat: Mutex::new(client.searcher(rt, client.primary(rt).primary).ok()),
         }
     }
 
@@ -64,61 +61,46 @@ impl<J: RegistryName> Chair<J> {
     }
 }
 
-/// A searcher of a copy.
-fn seat_of<R: Wait, D: LogDevice, J: RegistryName>(
-    rt: &R,
-    client: &Client<D, J>,
-    copy: u32,
-) -> Result<Seat<J>, ClusterFault>
-    ensures { IfOk result (λ s. s.copy ≡ copy) }
-{
-    let searcher = client.searcher(rt, copy)?;
-    Ok(Seat { copy, searcher })
-}
-
 /// A searcher of a copy: the one of before, or where that was of another copy a new one.
 fn seated<R: Wait, D: LogDevice, J: RegistryName>(
     rt: &R,
     client: &Client<D, J>,
     copy: u32,
-    before: Option<Seat<J>>,
-) -> Result<Seat<J>, ClusterFault>
-    ensures { IfOk result (λ s. s.copy ≡ copy) }
+    before: Option<CopySearcher<J>>,
+) -> Result<CopySearcher<J>, ClusterFault>
+    ensures { IfOk result (λ s. s.node ≡ copy) }
 {
     if let Some(seat) = before {
-        if seat.copy == copy {
+        if seat.node() == copy {
             return Ok(seat);
         }
     }
-    seat_of(rt, client, copy)
+    client.searcher(rt, copy)
 }
 
-/// What a searcher finds, where that is of its copy.
+/// What a searcher finds.
 #[tactic(auto, using(crate::proofs::Found::found_at))]
 fn found_by<J: RegistryName>(
-    seat: &mut Seat<J>,
+    seat: &mut CopySearcher<J>,
     alloc: Global,
     query: &Query,
     page: Page,
 ) -> Result<FoundAt<J>, ClusterFault>
     ensures found { IfOk result (λ f. IsFoundAt (query_view query.now) page (hits_view f.hits) f.point) }
-    ensures copy { IfOk result (λ f. f.point.node ≡ seat.old.copy) }
+    ensures copy { IfOk result (λ f. f.point.node ≡ seat.old.node) }
 {
-    match seat.searcher.search(alloc, query, page) {
-        Ok(found) => if found.point.node() == seat.copy {
-            Ok(found)
-        } else {
-            Err(ClusterFault::Stray(found.point.entries()))
-        },
+    match seat.search(alloc, query, page) {
+        Ok(found) => Ok(found),
         Err(fault) => Err(unsearched(fault)),
     }
 }
 
 /// Why a search has no hits. A searcher is let in no more once its copy has ended.
-fn unsearched(fault: SearchFault) -> ClusterFault {
+fn unsearched(fault: CopySearchFault) -> ClusterFault {
     match fault {
-        SearchFault::NoMemory => ClusterFault::NoMemory,
-        SearchFault::Ended => ClusterFault::Copy(CopyFault::Closed),
+        CopySearchFault::NoMemory => ClusterFault::NoMemory,
+        CopySearchFault::Ended => ClusterFault::Copy(CopyFault::Closed),
+        CopySearchFault::Stray(place) => ClusterFault::Stray(place),
     }
 }
 

@@ -14,9 +14,14 @@ pub struct Deed {
 }
 
 /// The calls of a copy, in order.
-#[derive(Drop)]
 pub struct Deeds {
     items: Vec<Deed>,
+}
+
+impl Drop for Deeds {
+    fn drop(self) {
+        let Deeds { items: _items } = self;
+    }
 }
 
 impl Model for Deeds {
@@ -54,9 +59,14 @@ pub struct Ruling {
 }
 
 /// The calls of the master, in order.
-#[derive(Drop)]
 pub struct Rulings {
     items: Vec<Ruling>,
+}
+
+impl Drop for Rulings {
+    fn drop(self) {
+        let Rulings { items: _items } = self;
+    }
 }
 
 impl Model for Rulings {

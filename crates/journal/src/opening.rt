@@ -17,9 +17,16 @@ pub enum Beginning {
 }
 
 /// A copy as it is when its journal begins.
-#[derive(Drop)]
 pub struct Opening {
     beginning: Beginning,
+}
+
+impl Drop for Opening {
+    fn drop(self) {
+        let Opening {
+            beginning: _beginning,
+        } = self;
+    }
 }
 
 impl Model for Opening {

@@ -25,11 +25,20 @@ use translog::{Frame, Frames, LogDevice, LogFault, Refused};
 const RSM1: [u8; 4] = [b'R', b'S', b'M', b'1'];
 
 /// The state of the master, and the log of its decisions. After a fault of the log it answers that fault until it is opened again.
-#[derive(Drop)]
 pub struct Master<D: LogDevice> {
     state: State,
     frames: Frames<D>,
     closed: bool,
+}
+
+impl<D: LogDevice> Drop for Master<D> {
+    fn drop(self) {
+        let Master {
+            state: _state,
+            frames: _frames,
+            closed: _,
+        } = self;
+    }
 }
 
 impl<D: LogDevice> Model for Master<D> {
@@ -177,9 +186,9 @@ impl<D: LogDevice> Master<D> {
         ensures failures { D.failures result ≡ self.failures }
     {
         let Master {
-            state: _,
+            state: _state,
             frames,
-            ..
+            closed: _,
         } = self;
         frames.into_device()
     }

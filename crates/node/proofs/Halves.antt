@@ -7,7 +7,7 @@ use Rattle.op.specs.declared.record.Record.{Record}
 use Rattle.translog.specs.Kept.{kept}
 use Rattle.translog.specs.declared.fault.LogFault.TheVariants.{Device}
 use Rattle.translog.proofs.KeptLaws.{kept_stays}
-use Rattle.op.specs.Records.{AreOfOneFrame}
+use Rattle.op.specs.Records.{AreOfOneFrame, StartsWith}
 use Rattle.replica.specs.declared.fault.CopyFault.{CopyFault}
 use Rattle.replica.specs.declared.fault.CopyFault.TheVariants.{Closed, Log, NoMemory}
 use Rattle.replica.specs.declared.input.Input.{Input}
@@ -23,7 +23,7 @@ use Rattle.replica.proofs.Accepted.{restart_keeps}
 use Rattle.replica.proofs.Failures.{refused_at_once, refused_in}
 use Rattle.journal.specs.Journal.{keeps_record, left_by}
 use Rattle.node.specs.Acting.{IsCommitted}
-use Rattle.node.specs.Replay.{IsIdle, IsStep, MayFail, StartsWith}
+use Rattle.node.specs.Replay.{IsIdle, IsStep, MayFail}
 
 and_false : (a b : Bool) → (a ≡ true → b ≡ false) → (a && b) ≡ false
 and_false false b h = refl

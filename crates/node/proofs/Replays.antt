@@ -19,7 +19,8 @@ use Rattle.replica.specs.Logged.{Logged, IsFailed, IsLogged, IsReopened, IsRefus
 use Rattle.replica.specs.Step.{Step, copy_step, members_of, stepped}
 use Rattle.journal.specs.declared.journal.Deed.{Deed}
 use Rattle.journal.specs.Journal.{Shut, Standing, left_by, reopened, found, is_kept, is_point, answered, refused_at, may_shut, MayAnswer, MayRefuse, next, IsLegalAt}
-use Rattle.node.specs.Replay.{IsIdle, IsReplayed, IsReplayedAs, IsShutAs, IsStep, MayFail, StartsWith}
+use Rattle.op.specs.Records.{StartsWith}
+use Rattle.node.specs.Replay.{IsIdle, IsReplayed, IsReplayedAs, IsShutAs, IsStep, MayFail}
 
 itself : (c : Copy) → IsSameCopy c c
 itself c = record { id = refl; birth = refl; mapping = refl }

@@ -1,5 +1,5 @@
 -- What somebody was told of a copy's journal, and what comes later.
-use Rattle.std.specs.Prelude.{◌≡◌, ◌≤◌, length}
+use Rattle.std.specs.Prelude.{◌≡◌, ℕ, ◌<◌, ◌≤◌, List, length}
 use mathlib.Core.List.{IsPrefix}
 use Rattle.chronicle.specs.Registered.{PrefixData}
 use Rattle.journal.specs.declared.journal.Deed.{Deed}
@@ -22,3 +22,8 @@ pub record HasEntry (h : PrefixData Deed) (r : Receipt) : Type 0 where
 -- what was read is of another copy, or of this one after all of these
 abbrev pub IsNotBefore : PrefixData Deed → GotData → Type 0
 IsNotBefore h g = g.node ≡ h.number → IsPrefix h.entries g.deeds
+
+-- they are of this copy's journal, which had fewer entries then
+pub record IsEarlier (h : PrefixData Deed) (node : ℕ) (deeds : List Deed) : Type 0 where
+  pub same : node ≡ h.number
+  pub fewer : length deeds < length h.entries

@@ -1,7 +1,7 @@
 -- A copy is what its journal says.
-use Rattle.std.specs.Prelude.{◌≡◌, ◌⊎◌, ◌||◌, ◌++◌, List, true, false, Option, Some, None, Result, Ok, Err, IfOk, OnOk, IfErr}
+use Rattle.std.specs.Prelude.{◌≡◌, ◌⊎◌, ◌||◌, true, false, Option, Some, None, Result, Ok, Err, IfOk, OnOk, IfErr}
 use Rattle.doc.specs.Outcome.{Gives}
-use Rattle.op.specs.declared.record.Record.{Record}
+use Rattle.op.specs.Records.{StartsWith}
 use Rattle.translog.specs.Kept.{kept}
 use Rattle.replica.specs.declared.fault.CopyFault.{CopyFault}
 use Rattle.replica.specs.declared.fault.CopyFault.TheVariants.{Closed}
@@ -12,10 +12,6 @@ use Rattle.replica.specs.Fault.{fault_of, is_log}
 use Rattle.replica.specs.Logged.{Logged, IsRefusal, IsReopened, IsSameCopy, IsUnread, is_restart}
 use Rattle.replica.specs.Step.{Step, copy_step, members_of, stepped}
 use Rattle.journal.specs.Journal.{Shut, Standing, keeps_record, left_by}
-
--- some records begin with others
-abbrev pub StartsWith : List Record → List Record → Type 0
-StartsWith rs start = (rest : List Record) × (rs ≡ start ++ rest)
 
 -- a copy whose log failed: it is closed, and its log keeps the records of before, or also that of the step that failed
 pub record IsShutAs (c : Copy) (f : Shut) (l : Logged) : Type 0 where

@@ -42,11 +42,20 @@ pub(crate) fn begun<D: LogDevice, J: RegistryName>(
 
 /// What a copy was when its journal began, with the records that it had then. Contracts see the copy. Only a journal of this cluster gives one out, and a
 /// copy has one.
-#[derive(Drop)]
 pub struct Began<J: RegistryName> {
     node: u32,
     beginning: Beginning<Opening, Deed>,
     of: PhantomData<J>,
+}
+
+impl<J: RegistryName> Drop for Began<J> {
+    fn drop(self) {
+        let Began {
+            node: _,
+            beginning: _beginning,
+            of: _,
+        } = self;
+    }
 }
 
 impl<J: RegistryName> Model for Began<J> {

@@ -1,5 +1,5 @@
 //! What a copy has of an id.
-ghost use Rattle.std.specs.Prelude.{◌≡◌, ◌<◌, ◌≤◌, [], length, IsTrue, IfNone, IfSome};
+ghost use Rattle.std.specs.Prelude.{◌≡◌, ◌<◌, ◌≤◌, [], length, IfNone, IfSome};
 ghost use Rattle.chronicle.specs.Registered.{prefix};
 ghost use mathlib.Core.List.{IsPrefix};
 ghost use Rattle.node.specs.Reading.{IsGot, IsGotAt, IsGotSince};
@@ -93,19 +93,13 @@ impl<J: RegistryName> Got<J> {
         }
     }
 
-    /// Whether the journal had entries, of which these of the same copy are the first.
-    pub(crate) fn has(&self, upto: &Prefix<Deed, J>) -> bool
-        requires number { upto.now.number ≡ self.now.node }
-        requires fewer { length upto.now.entries ≤ self.now.place }
-        ensures { IsTrue result → IsPrefix upto.now.entries self.now.deeds }
+    /// The entries that the journal had, where it had any.
+    pub(crate) fn upto(&self) -> &Option<Prefix<Deed, J>>
+        ensures some { IfSome result.now (λ p. (p.number ≡ self.now.node) × (p.entries ≡ self.now.deeds)) }
+        ensures none { IfNone result.now (self.now.deeds ≡ []) }
+        ensures place { self.now.place ≡ length self.now.deeds }
     {
-        match &self.upto {
-            Some(own) => {
-                upto.agrees(own);
-                true
-            }
-            None => false,
-        }
+        &self.upto
     }
 
     /// What the copy had.

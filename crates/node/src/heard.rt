@@ -1,9 +1,9 @@
 //! What a caller has heard of a copy.
-ghost use Rattle.std.specs.Prelude.{◌≡◌, ◌+◌, ◌≤◌, length, IsTrue};
+ghost use Rattle.std.specs.Prelude.{◌≡◌, ◌+◌, ◌<◌, ◌≤◌, length, IsFalse, IsTrue};
 ghost use mathlib.Core.List.{IsPrefix};
 ghost use Rattle.chronicle.specs.Registered.{prefix};
 ghost use Rattle.node.specs.Entry.{IsJournalOf};
-ghost use Rattle.node.specs.Heard.{HasEntry, IsAheadOf, IsNotBefore};
+ghost use Rattle.node.specs.Heard.{HasEntry, IsAheadOf, IsEarlier, IsNotBefore};
 
 use crate::got::Got;
 use crate::receipt::Receipt;
@@ -12,11 +12,20 @@ use journal::Deed;
 use std::marker::Model;
 
 /// The first entries of a copy's journal, of which somebody was told. Contracts see the copy's number and them.
-#[derive(Drop)]
 pub struct Heard<J: RegistryName> {
     node: u32,
     place: u64,
     upto: Prefix<Deed, J>,
+}
+
+impl<J: RegistryName> Drop for Heard<J> {
+    fn drop(self) {
+        let Heard {
+            node: _,
+            place: _,
+            upto: _upto,
+        } = self;
+    }
 }
 
 impl<J: RegistryName> Model for Heard<J> {
@@ -63,34 +72,41 @@ impl<J: RegistryName> Heard<J> {
 
     /// Whether an entry is of another copy, or stands behind all that was heard.
     pub fn is_before(&self, receipt: &Receipt<J>) -> bool
-        ensures { IsTrue result → IsAheadOf self.now receipt.now }
+        ensures ahead { IsTrue result → IsAheadOf self.now receipt.now }
+        ensures among { IsFalse result → HasEntry self.now receipt.now }
     {
         if receipt.node() != self.node {
             return true;
         }
         self.upto.agrees(receipt.upto());
+        receipt.upto().agrees(&self.upto);
         self.place < receipt.place()
     }
 
     /// Whether an entry is of this copy, and among those that were heard.
     pub fn has(&self, receipt: &Receipt<J>) -> bool
-        ensures { IsTrue result → HasEntry self.now receipt.now }
+        ensures among { IsTrue result → HasEntry self.now receipt.now }
+        ensures ahead { IsFalse result → IsAheadOf self.now receipt.now }
     {
-        if receipt.node() != self.node || receipt.place() > self.place {
-            return false;
-        }
-        receipt.upto().agrees(&self.upto);
-        true
+        !self.is_before(receipt)
     }
 
     /// Whether these first entries of the copy's journal, which are so many, have all that was heard.
     pub fn is_within(&self, upto: &Prefix<Deed, J>, entries: u64) -> bool
         requires number { upto.now.number ≡ self.now.number }
         requires entries { entries ≡ length upto.now.entries }
-        ensures { IsTrue result → IsPrefix self.now.entries upto.now.entries }
+        ensures within { IsTrue result → IsPrefix self.now.entries upto.now.entries }
+        ensures fewer { IsFalse result → length upto.now.entries < length self.now.entries }
     {
         self.upto.agrees(upto);
         self.place < entries
+    }
+
+    /// The place of the last that was heard.
+    pub fn place(&self) -> u64
+        ensures { result + 1 ≡ length self.now.entries }
+    {
+        self.place
     }
 
     /// The id of the copy.
@@ -102,11 +118,15 @@ impl<J: RegistryName> Heard<J> {
 
     /// Whether what was read is of another copy, or its journal had all by then that was heard.
     pub fn is_in(&self, got: &Got<J>) -> bool
-        ensures { IsTrue result → IsNotBefore self.now got.now }
+        ensures later { IsTrue result → IsNotBefore self.now got.now }
+        ensures earlier { IsFalse result → IsEarlier self.now got.now.node got.now.deeds }
     {
         if got.node() != self.node {
             return true;
         }
-        self.place < got.place() && got.has(&self.upto)
+        match got.upto() {
+            Some(upto) => self.is_within(upto, got.place()),
+            None => false,
+        }
     }
 }

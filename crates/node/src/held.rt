@@ -33,12 +33,22 @@ use std::marker::Model;
 use translog::LogDevice;
 
 /// A copy with its journal, which is one of a cluster. Contracts see the journal, which is legal; memory has it where it is to be kept.
-#[derive(Drop)]
 pub struct Held<D: LogDevice, J: RegistryName> {
     began: Began<J>,
     opening: Option<Opening>,
     deeds: Registered<Deed, J>,
     copy: Copy<D>,
+}
+
+impl<D: LogDevice, J: RegistryName> Drop for Held<D, J> {
+    fn drop(self) {
+        let Held {
+            began: _began,
+            opening: _opening,
+            deeds: _deeds,
+            copy: _copy,
+        } = self;
+    }
 }
 
 impl<D: LogDevice, J: RegistryName> Model for Held<D, J> {

@@ -5,10 +5,18 @@ use std::marker::Model;
 use translog::Synced;
 
 /// The steps of so many entries of a copy's journal, from the first on, are on the disk for sure. Only a sync of the copy gives one.
-#[derive(Drop)]
 pub struct OnDisk {
     log: Synced,
     entries: u64,
+}
+
+impl Drop for OnDisk {
+    fn drop(self) {
+        let OnDisk {
+            log: _log,
+            entries: _,
+        } = self;
+    }
 }
 
 impl Model for OnDisk {

@@ -12,13 +12,24 @@ use std::alloc::{AllocError, Global};
 use std::marker::Model;
 
 /// The node and the place of an entry, and the entry. Contracts see all entries of the copy's journal up to it, too. Only a journal of this cluster gives one out.
-#[derive(Drop)]
 pub struct Receipt<J: RegistryName> {
     node: u32,
     place: u64,
     deed: Deed,
     upto: Prefix<Deed, J>,
     began: Began<J>,
+}
+
+impl<J: RegistryName> Drop for Receipt<J> {
+    fn drop(self) {
+        let Receipt {
+            node: _,
+            place: _,
+            deed: _deed,
+            upto: _upto,
+            began: _began,
+        } = self;
+    }
 }
 
 impl<J: RegistryName> Model for Receipt<J> {

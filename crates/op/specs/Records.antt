@@ -9,6 +9,10 @@ use Rattle.op.specs.declared.record.Record.TheVariants.{Op as Kept, Resync, Reco
 use Rattle.op.specs.Checkpoint.{known}
 use Rattle.op.specs.Operations.{add, below}
 
+-- some records begin with others
+abbrev pub StartsWith : List Record → List Record → Type 0
+StartsWith rs start = (rest : List Record) × (rs ≡ start ++ rest)
+
 -- versions begin at 1; an operation that does nothing has none
 abbrev pub IsVersion : Body → ℕ → Type 0
 IsVersion (Index id source) version = 0 < version

@@ -6,9 +6,14 @@ use std::alloc::{AllocError, Global};
 use std::marker::Model;
 
 /// A list of operations, made from a `Vec` and turned back into one without memory.
-#[derive(Drop)]
 pub struct Operations {
     items: Vec<Op>,
+}
+
+impl Drop for Operations {
+    fn drop(self) {
+        let Operations { items: _items } = self;
+    }
 }
 
 impl Model for Operations {

@@ -1,5 +1,5 @@
 -- What a client knows of copies never goes back.
-use Rattle.std.proofs.Common.{◌≡◌, ◌⊎◌, ℕ, Bool, true, false, List, [], ◌∷◌, Some, inl, inr, refl, sym, ap, subst, ◌∙◌, append-nil, ⊎_elim}
+use Rattle.std.proofs.Common.{◌≡◌, ◌⊎◌, ℕ, Bool, true, false, List, [], ◌∷◌, Some, inl, inr, refl, sym, ap, subst, ◌∙◌, ⊎_elim}
 use Rattle.std.specs.Prelude.{IfSome}
 use mathlib.Core.List.{IsPrefix}
 use Rattle.chronicle.specs.Registered.{PrefixData, prefix}
@@ -7,6 +7,7 @@ use Rattle.chronicle.proofs.Lines.{prefix_trans}
 use Rattle.journal.specs.declared.journal.Deed.{Deed}
 use Rattle.node.specs.Entry.{Receipt}
 use Rattle.node.specs.Heard.{IsAheadOf, IsNotBefore}
+use Rattle.published.proofs.Orders.{self-IsPrefix}
 use Rattle.cell.specs.Points.{IsShownBehind}
 use Rattle.front.specs.Command.{Command, write, bulk, get, search, count, refresh, promote}
 use Rattle.front.specs.Reply.{Reply}
@@ -14,12 +15,9 @@ use Rattle.group.specs.Known.{Heard, KnownData, HasRefreshed, IsSeenAmong, heard
 use Rattle.promises.specs.Copies.{NeverBackAtCopies, SearchesNeverBackAtCopies}
 use Rattle.promises.proofs.AtCopies.{known_one}
 
-pub self : {A : Type 0} (xs : List A) → IsPrefix xs xs
-self xs = ([], append-nil xs)
-
 module _ (before after : Heard) (p q : PrefixData Deed) (was : before ≡ Some p) (is : after ≡ Some q) where
   as_before : after ≡ before → IsPrefix p.entries q.entries
-  as_before same = subst (λ (x : PrefixData Deed). IsPrefix p.entries x.entries) (known_one p q (sym was ∙ sym same ∙ is)) (self p.entries)
+  as_before same = subst (λ (x : PrefixData Deed). IsPrefix p.entries x.entries) (known_one p q (sym was ∙ sym same ∙ is)) (self-IsPrefix p.entries)
 
   -- what comes next of the same copy begins with all of it
   as_next : (node : ℕ) (deeds : List Deed) → after ≡ Some (prefix node deeds) → (node ≡ p.number → IsPrefix p.entries deeds) → q.number ≡ p.number → IsPrefix p.entries q.entries

@@ -10,14 +10,14 @@ use Rattle.ruled.specs.declared.entry.MasterEntry.{MasterEntry}
 use Rattle.promises.specs.Promises.{is_refused}
 use Rattle.promises.specs.Copies.{IsOfPrimary, IsPromotion, MasterNeverBack, PromotionsAreFollowed, reads}
 use Rattle.promises.proofs.AtCopies.{left_after, read_of}
-use Rattle.promises.proofs.InOrder.{self}
+use Rattle.published.proofs.Orders.{self-IsPrefix}
 use Rattle.promises.proofs.SeenAtCopies.{not_refused, sought, sought_of}
 
 -- ---- its journal
 
 module _ (before after : KnownData) where
   past_as_before : after.past ≡ before.past → IsPrefix before.past after.past
-  past_as_before same = subst (λ (es : List MasterEntry). IsPrefix before.past es) (sym same) (self before.past)
+  past_as_before same = subst (λ (es : List MasterEntry). IsPrefix before.past es) (sym same) (self-IsPrefix before.past)
 
   past_wanted : (b : Bool) → (b ≡ true → (copies : ℕ) × HasRefreshed before copies after) → (b ≡ false → (after.seen ≡ before.seen) × (after.past ≡ before.past)) → IsPrefix before.past after.past
   past_wanted true does other = let r = does refl in r.1.later

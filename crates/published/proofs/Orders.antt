@@ -4,7 +4,8 @@ use Rattle.op.specs.declared.record.Record.{Record}
 use mathlib.Core.List.{IsPrefix}
 use Rattle.published.specs.declared.listing.Listing.{Listing}
 use Rattle.published.specs.declared.listing.Published.{Published}
-use Rattle.published.specs.Listings.{StartsWith, GoesOn, ComesAfter, ComesAfterAll}
+use Rattle.op.specs.Records.{StartsWith}
+use Rattle.published.specs.Listings.{GoesOn, ComesAfter, ComesAfterAll}
 
 pub self-StartsWith : (rs : List Record) → StartsWith rs rs
 self-StartsWith rs = ([], sym (append-nil rs))

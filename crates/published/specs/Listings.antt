@@ -1,13 +1,9 @@
 -- Lists of records that were published.
-use Rattle.std.specs.Prelude.{◌≡◌, List, [], ◌∷◌, ◌++◌}
+use Rattle.std.specs.Prelude.{◌≡◌, List, [], ◌∷◌}
 use mathlib.Core.List.{IsPrefix}
-use Rattle.op.specs.declared.record.Record.{Record}
+use Rattle.op.specs.Records.{StartsWith}
 use Rattle.published.specs.declared.listing.Listing.{Listing}
 use Rattle.published.specs.declared.listing.Published.{Published}
-
--- a list begins with another
-abbrev pub StartsWith : List Record → List Record → Type 0
-StartsWith rs start = (rest : List Record) × (rs ≡ start ++ rest)
 
 -- a listing goes on from another of its cell
 pub record GoesOn (new old : Listing) : Type 0 where

@@ -67,11 +67,20 @@ impl Plain<Draft, Listing, u64> for Add {
 }
 
 /// The history of a cell, with the word that counts it. Contracts see it as its cell's book and its listings.
-#[derive(Drop)]
 pub struct History {
     head: Word<Listing, u64, Law>,
     count: u64,
     seen: Seen<Listing, u64, Law>,
+}
+
+impl Drop for History {
+    fn drop(self) {
+        let History {
+            head: _head,
+            count: _,
+            seen: _seen,
+        } = self;
+    }
 }
 
 impl Model for History {

@@ -14,10 +14,18 @@ use std::marker::{Model, PhantomData};
 use std::sync::Arc;
 
 /// A list that a cell published. Contracts see it with the history of the cell up to it.
-#[derive(Drop)]
 pub struct Note<N: Name> {
     entry: Arc<Entry, Global>,
     of: PhantomData<N>,
+}
+
+impl<N: Name> Drop for Note<N> {
+    fn drop(self) {
+        let Note {
+            entry: _entry,
+            of: _,
+        } = self;
+    }
 }
 
 impl<N: Name> Model for Note<N> {

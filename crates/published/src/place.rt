@@ -10,13 +10,24 @@ use std::marker::Model;
 
 /// A place of a copy's journal. Contracts see which registry the journal is of, the copy's number, the entries before the place and the records that the
 /// copy has there.
-#[derive(Drop)]
 pub struct Place {
     node: u32,
     entries: u64,
     records: ShownRecords,
     upto: Upto<Deed>,
     beginning: Beginning<Opening, Deed>,
+}
+
+impl Drop for Place {
+    fn drop(self) {
+        let Place {
+            node: _,
+            entries: _,
+            records: _records,
+            upto: _upto,
+            beginning: _beginning,
+        } = self;
+    }
 }
 
 impl Model for Place {

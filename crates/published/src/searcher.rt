@@ -117,10 +117,18 @@ fn taken_in<N: Name>(told: Option<Note<N>>, note: Note<N>) -> Note<N>
 }
 
 /// Reads what a cell publishes. Contracts see it as what it knows of that: what it finds comes after it.
-#[derive(Drop)]
 pub struct Searcher<N: Name> {
     reader: Line,
     told: Option<Note<N>>,
+}
+
+impl<N: Name> Drop for Searcher<N> {
+    fn drop(self) {
+        let Searcher {
+            reader: _reader,
+            told: _told,
+        } = self;
+    }
 }
 
 impl<N: Name> Model for Searcher<N> {

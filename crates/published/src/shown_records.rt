@@ -14,9 +14,14 @@ impl SlotRule<Listed> for Anything {
 }
 
 /// A list of records that clauses alone see: it takes no memory, and may cross threads.
-#[derive(Drop)]
 pub struct ShownRecords {
     written: Written<Listed>,
+}
+
+impl Drop for ShownRecords {
+    fn drop(self) {
+        let ShownRecords { written: _written } = self;
+    }
 }
 
 impl Model for ShownRecords {

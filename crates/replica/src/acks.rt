@@ -12,10 +12,18 @@ use std::marker::Model;
 
 /// Sequence numbers, one behind another. Those that lie near the least take a few words, however many they are; the list behind them has
 /// what doesn't lie there, which is nothing where they rise within a window.
-#[derive(Drop)]
 pub struct Numbers {
     near: Span,
     far: Vec<u64>,
+}
+
+impl Drop for Numbers {
+    fn drop(self) {
+        let Numbers {
+            near: _near,
+            far: _far,
+        } = self;
+    }
 }
 
 impl Model for Numbers {
@@ -84,9 +92,14 @@ impl Numbers {
 }
 
 /// What each other copy has acknowledged, by its id.
-#[derive(Drop)]
 pub struct Acks {
     items: Vec<(u32, Tracker)>,
+}
+
+impl Drop for Acks {
+    fn drop(self) {
+        let Acks { items: _items } = self;
+    }
 }
 
 impl Model for Acks {

@@ -10,9 +10,14 @@ use std::marker::Model;
 pub const MOST_WRITES: usize = 1024;
 
 /// The writes of a bulk in their order: 1 to 1,024.
-#[derive(Drop)]
 pub struct Writes {
     items: Vec<Write>,
+}
+
+impl Drop for Writes {
+    fn drop(self) {
+        let Writes { items: _items } = self;
+    }
 }
 
 impl Model for Writes {

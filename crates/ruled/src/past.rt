@@ -1,5 +1,5 @@
 //! What tells for good what the master was asked.
-ghost use Rattle.std.specs.Prelude.{◌≡◌, ◌≤◌, length, IsTrue};
+ghost use Rattle.std.specs.Prelude.{◌≡◌, ◌<◌, ◌≤◌, length, IsFalse, IsTrue};
 ghost use mathlib.Core.List.{IsPrefix};
 
 use crate::entry::MasterEntry;
@@ -7,10 +7,18 @@ use chronicle::{Entries, RegistryName};
 use std::marker::Model;
 
 /// The first entries of the master's journal, which is that of a cluster. Contracts see them.
-#[derive(Drop)]
 pub struct Past<J: RegistryName> {
     entries: Entries<MasterEntry, J>,
     count: u64,
+}
+
+impl<J: RegistryName> Drop for Past<J> {
+    fn drop(self) {
+        let Past {
+            entries: _entries,
+            count: _,
+        } = self;
+    }
 }
 
 impl<J: RegistryName> Model for Past<J> {
@@ -48,7 +56,8 @@ impl<J: RegistryName> Past<J> {
 
     /// Whether it begins another, as it does where that is no earlier.
     pub fn is_within(&self, other: &Past<J>) -> bool
-        ensures { IsTrue result → IsPrefix self.now other.now }
+        ensures within { IsTrue result → IsPrefix self.now other.now }
+        ensures longer { IsFalse result → length other.now < length self.now }
     {
         self.agrees(other);
         self.count <= other.count

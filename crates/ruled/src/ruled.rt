@@ -22,12 +22,21 @@ use translog::{LogDevice, LogFault};
 
 /// The master, and its journal: what it was when that began, and all that it was asked since. Contracts see the entries; memory has them where they
 /// are to be kept.
-#[derive(Drop)]
 pub struct Ruled<D: LogDevice, J: RegistryName> {
     entries: NamedLedger<MasterEntry, J>,
     /// The entry of a decision that the log failed to keep: where the master is closed the log may have it all the same.
     unsure: Option<Ruling>,
     master: Master<D>,
+}
+
+impl<D: LogDevice, J: RegistryName> Drop for Ruled<D, J> {
+    fn drop(self) {
+        let Ruled {
+            entries: _entries,
+            unsure: _unsure,
+            master: _master,
+        } = self;
+    }
 }
 
 impl<D: LogDevice, J: RegistryName> Model for Ruled<D, J> {

@@ -32,11 +32,20 @@ const PLACES_PER_LIST: usize = 16;
 const DOCUMENTS_PER_PLACE: usize = 8;
 
 /// Documents by the terms of their fields. It never changes.
-#[derive(Drop)]
 pub struct Segment {
     mapping: Arc<Mapping, Global>,
     sources: Vec<Source>,
     columns: BTreeMap<String, Box<Column>>,
+}
+
+impl Drop for Segment {
+    fn drop(self) {
+        let Segment {
+            mapping: _mapping,
+            sources: _sources,
+            columns: _columns,
+        } = self;
+    }
 }
 
 impl Model for Segment {

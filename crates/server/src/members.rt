@@ -109,7 +109,7 @@ where
         alloc,
         copied,
         copies,
-        InMemory { alloc },
+        InMemory::new(alloc),
         Open,
         kept_by(wanted.settings),
         ledgers,

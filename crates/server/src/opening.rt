@@ -194,6 +194,8 @@ impl<R: Files<File = File> + AllocGlobal + Copy + Drop> Counted<R> {
 }
 
 impl<R: Files<File = File> + AllocGlobal + Drop> Devices<FileDevice<File>> for Counted<R> {
+    ghost gave = { λ c. ⟦<InFolder<R> as Devices<FileDevice<File>>>⟧.gave c.files };
+
     fn device(&mut self, node: u32) -> Result<FileDevice<File>, LogFault> {
         self.files.device(node)
     }

@@ -152,7 +152,6 @@ enum Order {
 /// An index of one copy behind a lock, which a write holds until the device has synced it. What searches see stands behind a lock of its own, which
 /// is held no longer than it takes to look there, so no search waits for a write. Segments are merged by a thread of its own (`merge_beside`), which
 /// holds the lock only while it puts a merge in place.
-#[derive(Drop)]
 pub struct SharedShard<D: LogDevice, N: HistoryName> {
     alloc: Global,
     label: Label<N>,
@@ -163,6 +162,21 @@ pub struct SharedShard<D: LogDevice, N: HistoryName> {
     is_merging: Mutex<bool>,
     to_merger: Sender<Order, Global>,
     orders: Receiver<Order, Global>,
+}
+
+impl<D: LogDevice, N: HistoryName> Drop for SharedShard<D, N> {
+    fn drop(self) {
+        let SharedShard {
+            alloc: _,
+            label: _label,
+            shard: _shard,
+            seen: _seen,
+            begun: _begun,
+            is_merging: _is_merging,
+            to_merger: _to_merger,
+            orders: _orders,
+        } = self;
+    }
 }
 
 impl<D: LogDevice, N: HistoryName> SharedShard<D, N> {

@@ -116,11 +116,20 @@ impl<N: HistoryName> Label<N> {
 }
 
 /// A beginning of the history of an index that was reached. Contracts see what the index was after each command.
-#[derive(Drop)]
 pub struct Reached<D: LogDevice, N: HistoryName> {
     mark: Mark<Shard<D>>,
     count: u64,
     of: PhantomData<N>,
+}
+
+impl<D: LogDevice, N: HistoryName> Drop for Reached<D, N> {
+    fn drop(self) {
+        let Reached {
+            mark: _mark,
+            count: _,
+            of: _,
+        } = self;
+    }
 }
 
 impl<D: LogDevice, N: HistoryName> Model for Reached<D, N> {
@@ -186,12 +195,22 @@ impl<D: LogDevice, N: HistoryName> Reached<D, N> {
 }
 
 /// An index with its history. Contracts see what it is now.
-#[derive(Drop)]
 pub(crate) struct Kept<D: LogDevice, N: HistoryName> {
     shard: Shard<D>,
     chronicle: Chronicle<Shard<D>>,
     writer: Writer<Shard<D>>,
     last: Reached<D, N>,
+}
+
+impl<D: LogDevice, N: HistoryName> Drop for Kept<D, N> {
+    fn drop(self) {
+        let Kept {
+            shard: _shard,
+            chronicle: _chronicle,
+            writer: _writer,
+            last: _last,
+        } = self;
+    }
 }
 
 impl<D: LogDevice, N: HistoryName> Model for Kept<D, N> {

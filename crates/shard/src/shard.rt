@@ -24,12 +24,22 @@ use std::sync::Arc;
 use translog::{LogDevice, MemDevice};
 
 /// An index of a name over its one copy, and the master that makes the copy its primary again after it was opened anew.
-#[derive(Drop)]
 pub struct Shard<D: LogDevice> {
     alloc: Global,
     name: String,
     master: Master<D>,
     copy: Copy<D>,
+}
+
+impl<D: LogDevice> Drop for Shard<D> {
+    fn drop(self) {
+        let Shard {
+            alloc: _,
+            name: _name,
+            master: _master,
+            copy: _copy,
+        } = self;
+    }
 }
 
 impl Shard<MemDevice> {

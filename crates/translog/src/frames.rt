@@ -26,9 +26,14 @@ const LENGTH: usize = 4;
 const MAX_CONTENT: usize = 4_294_967_295;
 
 /// The bytes of one frame: a length and a content.
-#[derive(Drop)]
 pub struct Frame {
     bytes: Vec<u8>,
+}
+
+impl Drop for Frame {
+    fn drop(self) {
+        let Frame { bytes: _bytes } = self;
+    }
 }
 
 impl Model for Frame {
@@ -98,10 +103,18 @@ pub enum Torn {
 }
 
 /// A log of frames with any contents, behind a header of its own.
-#[derive(Drop)]
 pub struct Frames<D: LogDevice> {
     header: [u8; 4],
     device: D,
+}
+
+impl<D: LogDevice> Drop for Frames<D> {
+    fn drop(self) {
+        let Frames {
+            header: _header,
+            device: _device,
+        } = self;
+    }
 }
 
 impl<D: LogDevice> Model for Frames<D> {

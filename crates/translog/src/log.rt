@@ -24,10 +24,18 @@ use std::slice;
 
 /// The log of a copy's records, some of them in groups. It is seen as the device that holds it, and whether groups may stand behind what it
 /// holds, which an opening finds.
-#[derive(Drop)]
 pub struct Translog<D: LogDevice> {
     device: D,
     groups: bool,
+}
+
+impl<D: LogDevice> Drop for Translog<D> {
+    fn drop(self) {
+        let Translog {
+            device: _device,
+            groups: _,
+        } = self;
+    }
 }
 
 impl<D: LogDevice> Model for Translog<D> {

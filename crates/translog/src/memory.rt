@@ -6,10 +6,18 @@ use crate::device::{DeviceFault, Failed, LogDevice};
 use std::alloc::{AllocError, Global};
 
 /// Bytes in memory. An append within the room that was made doesn't fail; one past it fails where memory is refused.
-#[derive(Drop)]
 pub struct MemDevice {
     bytes: Vec<u8>,
     failures: u64,
+}
+
+impl Drop for MemDevice {
+    fn drop(self) {
+        let MemDevice {
+            bytes: _bytes,
+            failures: _,
+        } = self;
+    }
 }
 
 impl MemDevice {

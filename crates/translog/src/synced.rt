@@ -4,9 +4,14 @@ ghost use Rattle.std.specs.Prelude.{◌≡◌};
 use std::marker::Model;
 
 /// So many bytes of a log are on the disk for sure. Only a sync of the log gives one.
-#[derive(Drop)]
 pub struct Synced {
     bytes: usize,
+}
+
+impl Drop for Synced {
+    fn drop(self) {
+        let Synced { bytes: _ } = self;
+    }
 }
 
 impl Model for Synced {

@@ -27,7 +27,6 @@ use translog::MemDevice;
 pub type OneCopy = Copy<MemDevice>;
 
 /// The master, the copies, every message that was ever sent, and the acknowledged operations.
-#[derive(Drop)]
 pub(crate) struct Nodes {
     mapping: Mapping,
     master: Master<MemDevice>,
@@ -36,6 +35,19 @@ pub(crate) struct Nodes {
     acknowledged: Vec<Op>,
     /// Merges that were begun and not put in place yet, one a copy. They are no part of the world: what a copy keeps and shows doesn't hang on them.
     merges: Vec<Begun>,
+}
+
+impl Drop for Nodes {
+    fn drop(self) {
+        let Nodes {
+            mapping: _mapping,
+            master: _master,
+            copies: _copies,
+            messages: _messages,
+            acknowledged: _acknowledged,
+            merges: _merges,
+        } = self;
+    }
 }
 
 /// A merge that was begun at a copy.

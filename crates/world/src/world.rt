@@ -20,9 +20,14 @@ use std::alloc::{AllocError, Global};
 use std::marker::Model;
 
 /// The master, the copies, every message that was ever sent, and the acknowledged operations. Each world is one that events lead to.
-#[derive(Drop)]
 pub struct World {
     nodes: Nodes,
+}
+
+impl Drop for World {
+    fn drop(self) {
+        let World { nodes: _nodes } = self;
+    }
 }
 
 impl Model for World {

@@ -7,7 +7,7 @@ use Rattle.group.proofs.bulks.has_all.Goals as goal
 pub loop-entry-preserved : goal.loop-entry-preserved
 loop-entry-preserved g c =
     let yes : IsTrue true = refl in
-    let here = at_read c.args.entries.now (HasEntry c.args.heard.now) c.loop-entry.entry-index c.entry-item.result c.loop-entry-test.true c.entry-item.is (c.if-not-has.ensures yes) in
+    let here = at_read c.args.entries.now (HasEntry c.args.heard.now) c.loop-entry.entry-index c.entry-item.result c.loop-entry-test.true c.entry-item.is (c.if-not-has.ensures.among yes) in
     AllWithin-more (HasEntry c.args.heard.now) c.args.entries.now 0 c.loop-entry.entry-index c.loop-entry.invariant here
 
 pub returns : goal.returns

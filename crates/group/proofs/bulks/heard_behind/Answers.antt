@@ -8,4 +8,4 @@ use Rattle.group.proofs.bulks.heard_behind.Goals as goal
 pub returns-then-has_all : goal.returns-then-has_all
 returns-then-has_all g c =
     let yes : IsTrue true = refl in
-    has_bulk c.args.confirmed.now c.last_heard-heard.result (c.if-has.ensures yes) (subst (λ (rs : List Receipt). All (HasEntry c.last_heard-heard.result) rs) c.as_slice-entries.ensures.value (c.if-has_all.ensures yes))
+    has_bulk c.args.confirmed.now c.last_heard-heard.result (c.if-has.ensures.among yes) (subst (λ (rs : List Receipt). All (HasEntry c.last_heard-heard.result) rs) c.as_slice-entries.ensures.value (c.if-has_all.ensures yes))

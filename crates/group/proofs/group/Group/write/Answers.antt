@@ -15,7 +15,7 @@ returns-in-Ok g c =
     let yes : IsTrue true = refl in
     let before = c.args.self.now.known in
     let confirmed = c.in_ok-confirmed.confirmed in
-    let later = subst (λ (h : Heard). IfSome h (λ p. IsAheadOf p confirmed.write)) c.heard.ensures (c.if-not-is_ahead.ensures yes) in
+    let later = subst (λ (h : Heard). IfSome h (λ p. IsAheadOf p confirmed.write)) c.heard.ensures (c.if-not-is_ahead.ensures.ahead yes) in
     let acknowledged = subst (λ (w : taken.Write). IsConfirmed w confirmed) c.write_of.ensures c.in_ok-confirmed.ensures.confirmed in
     let next = c.hears-known.ensures ∙ ap (λ (p : PrefixData Deed). known (Some p) before.seen before.past) c.by.ensures in
     is_written before c.hears-known.result c.in-Ok.known c.args.write confirmed (reply_view c.told.result) later acknowledged c.told.ensures next c.in-Ok.ensures.heard c.in-Ok.ensures.refreshed
