@@ -3,6 +3,7 @@ use Rattle.std.proofs.Common.{◌≡◌, ℕ, suc, Bool, true, false, List, [], 
 use Rattle.std.specs.Prelude.{IsOk}
 use Rattle.chronicle.specs.Written as chronicle
 use Rattle.chronicle.specs.Registered.{UptoData, upto}
+use Rattle.doc.specs.Mapping.{MappingData}
 use Rattle.op.specs.declared.record.Record.{Record}
 use Rattle.replica.specs.declared.fault.CopyFault.{CopyFault}
 use Rattle.replica.specs.declared.input.Input.{Input}
@@ -28,6 +29,7 @@ use Rattle.published.proofs.Orders.{self-GoesOn, trans-GoesOn, trans-StartsWith}
 use Rattle.journal.specs.declared.journal.Deed.{Deed}
 use Rattle.journal.specs.Journal.{Shut, Standing, after, answered, found, is_kept, left_by, next, open_at, refused_at, reopened}
 use Rattle.node.specs.Held.{JournalData, IsHeld}
+use Rattle.cell.specs.Points.{IsListedIn}
 use Rattle.cell.specs.Publishing.{CellData, IsBegun, IsLater, IsPublishedOf, IsShownBy, IsAllShown}
 use Rattle.node.specs.Reading.{standing}
 use Rattle.node.specs.Replay.{IsReplayedAs}
@@ -161,8 +163,18 @@ shown_published r c p history s shown is = let top : p.top ≡ listing p.book s 
   shown = subst (λ (x : Line). GoesOn x.top x.shown.listing) (sym is) (self-GoesOn (listing p.book s));
 }
 
-pub begun_published : (r : chronicle.Line) (c : Copy) (p : Line) (s : Showing) → IsShownBy r c s → p ≡ line p.book (listing p.book s) → IsPublishedOf c p × (p.top.registry ≡ registry_of r)
-begun_published r c p s shown is = (shown_published r c p [] s shown is, ap (λ (x : Line). x.top.registry) is ∙ ap registry_of shown.registry)
+pub begun_published : (r : chronicle.Line) (m : MappingData) (c : Copy) (p : Line) (s : Showing) → IsShownBy r c s → c.mapping ≡ m → p ≡ line p.book (listing p.book s) → IsPublishedOf c p × IsListedIn r m p.top
+begun_published r m c p s shown under is = (
+  shown_published r c p [] s shown is,
+  record {
+    registry = ap (λ (x : Line). x.top.registry) is ∙ ap registry_of shown.registry;
+    mapping = ap (λ (x : Line). x.top.mapping) is ∙ (shown.mapping ∙ under);
+  },
+)
+
+-- the copy is under the mapping of what it shows
+pub is_under : (l : chronicle.Line) (m : MappingData) (c : Copy) (p : Line) → IsPublishedOf c p → IsListedIn l m p.top → c.mapping ≡ m
+is_under l m c p is was = sym is.mapping ∙ was.mapping
 
 -- after it was published, or refused
 still_published : {A E : Type 0} (l : chronicle.Line) (c : Copy) (old new : Line) (s : Showing) (r : Result A E) → IsPublishedOf c old → old.top.registry ≡ registry_of l → IsShownBy l c s → new.book ≡ old.book
@@ -189,9 +201,11 @@ still_registered : {A E : Type 0} (l : chronicle.Line) (c : Copy) (old new : Lin
 still_registered l c old new s (Ok x) was shown ok top = ap (λ (p : Line). p.top.registry) ok ∙ ap registry_of shown.registry
 still_registered l c old new s (Err e) was shown ok top = ⊎_elim (λ same. ap (λ (x : Listing). x.registry) same ∙ was) (λ next. ap (λ (x : Listing). x.registry) next ∙ ap registry_of shown.registry) top
 
-pub still_shown : {A E : Type 0} (l : chronicle.Line) (c : Copy) (old new : Line) (s : Showing) (r : Result A E) → IsPublishedOf c old → old.top.registry ≡ registry_of l → IsShownBy l c s → new.book ≡ old.book
-    → OnOk r (new ≡ line_behind old.book old.history (listing old.book s)) → OnErr r (new.shown ≡ old.shown) → OnErr r ((new.top ≡ old.top) ⊎ (new.top ≡ listing old.book s)) → IsPublishedOf c new × (new.top.registry ≡ registry_of l)
-still_shown l c old new s r is was shown book ok err top = (still_published l c old new s r is was shown book ok err top, still_registered l c old new s r was shown ok top)
+pub still_shown : {A E : Type 0} (l : chronicle.Line) (m : MappingData) (c : Copy) (old new : Line) (s : Showing) (r : Result A E) → IsPublishedOf c old → IsListedIn l m old.top → IsShownBy l c s → new.book ≡ old.book
+    → OnOk r (new ≡ line_behind old.book old.history (listing old.book s)) → OnErr r (new.shown ≡ old.shown) → OnErr r ((new.top ≡ old.top) ⊎ (new.top ≡ listing old.book s)) → IsPublishedOf c new × IsListedIn l m new.top
+still_shown l m c old new s r is was shown book ok err top =
+    let now : IsPublishedOf c new = still_published l c old new s r is was.registry shown book ok err top in
+    (now, record { registry = still_registered l c old new s r was.registry shown ok top; mapping = now.mapping ∙ (sym is.mapping ∙ was.mapping) })
 
 pub whole_after : {A E : Type 0} (l : chronicle.Line) (c : CellData) (old : Line) (s : Showing) (r : Result A E) → IsShownBy l (standing c.journal).copy s → OnOk r (c.line ≡ line_behind old.book old.history (listing old.book s)) → OnOk r (IsAllShown c)
 whole_after l c old s (Ok x) shown is = record {

@@ -2,12 +2,14 @@
 use Rattle.std.proofs.Common.{◌≡◌, ℕ, List, [], ◌∷◌, refl, sym, ap, subst, ◌∙◌}
 use Rattle.chronicle.specs.Registered.{PrefixData, prefix}
 use Rattle.chronicle.specs.Written as chronicle
+use Rattle.doc.specs.Mapping.{MappingData}
 use Rattle.engine.specs.Answer.{Answer}
 use Rattle.query.specs.Page.{PageData}
 use Rattle.query.specs.Query.{Query}
 use Rattle.journal.specs.declared.journal.Deed.{Deed}
 use Rattle.replica.specs.Copy.{Copy}
 use Rattle.node.specs.Entry.{opening_of, HasSoundRecords, IsJournalOf}
+use Rattle.published.specs.declared.listing.Listing.{Listing}
 use Rattle.published.specs.declared.listing.Published.{Published}
 use Rattle.published.proofs.Orders.{trans-ComesAfterAll}
 use Rattle.published.specs.Line.{Line}
@@ -15,7 +17,7 @@ use Rattle.published.specs.Listings.{GoesOn}
 use Rattle.published.specs.Places.{PlaceData, IsStandingSince, place_at}
 use Rattle.published.specs.Search.{Finds, IsNoLess}
 use Rattle.published.specs.Showing.{registry_of}
-use Rattle.cell.specs.Points.{IsPoint, IsPointSince, LeadsTo, PointData, place_in, point_of}
+use Rattle.cell.specs.Points.{FindsUnder, IsListedIn, IsPoint, IsPointSince, LeadsTo, PointData, place_in, point_of}
 
 -- a place tells a journal of its copy
 pub is_journal : (p : PointData) (u : PrefixData Deed) (n : ℕ) → IsPoint p → u ≡ prefix p.node p.deeds → n ≡ p.node → IsJournalOf n u.entries
@@ -42,24 +44,32 @@ pub same_line : (l m : chronicle.Line) → registry_of l ≡ registry_of m → l
 same_line l m e = λ i. record { book = record { number = (e i).0; log_name = (e i).1; cells_name = (e i).2 }; first = (e i).3 }
 
 -- what a searcher of a cluster's copy finds is of its journal
-pub found_registry : (l : chronicle.Line) (before after : List Published) (q : Query) (page : PageData) (h : Answer) (at : PlaceData) → LeadsTo l before → Finds before after q page h at → at.registry ≡ l
-found_registry l before after q page h at leads f = same_line at.registry l (f.found.registry ∙ leads f.now f.later)
+pub found_registry : (l : chronicle.Line) (m : MappingData) (before after : List Published) (q : Query) (page : PageData) (h : Answer) (at : PlaceData) → LeadsTo l m before → Finds before after q page h at → at.registry ≡ l
+found_registry l m before after q page h at leads f = same_line at.registry l (f.found.registry ∙ (leads f.now f.later).registry)
 
-pub found_leads : (l : chronicle.Line) (before after : List Published) (q : Query) (page : PageData) (h : Answer) (at : PlaceData) → LeadsTo l before → Finds before after q page h at → LeadsTo l after
-found_leads l before after q page h at leads f = λ p on. (f.known p on).listing.registry ∙ leads f.now f.later
+-- a list that goes on from one of an index is of that index
+listed_on : (l : chronicle.Line) (m : MappingData) (new old : Listing) → GoesOn new old → IsListedIn l m old → IsListedIn l m new
+listed_on l m new old on is = record { registry = on.registry ∙ is.registry; mapping = on.mapping ∙ is.mapping }
 
-pub refused_leads : (l : chronicle.Line) (before after : List Published) → LeadsTo l before → IsNoLess before after → LeadsTo l after
-refused_leads l before after leads less = λ p on. leads p (less.kept p on)
+pub found_leads : (l : chronicle.Line) (m : MappingData) (before after : List Published) (q : Query) (page : PageData) (h : Answer) (at : PlaceData) → LeadsTo l m before → Finds before after q page h at → LeadsTo l m after
+found_leads l m before after q page h at leads f = λ p on. listed_on l m p.listing f.now.listing (f.known p on).listing (leads f.now f.later)
 
-pub found_in : (l : chronicle.Line) (before after : List Published) (q : Query) (page : PageData) (h : Answer) (at : PlaceData) (p : PointData) → at.registry ≡ l → p ≡ point_of at → Finds before after q page h at → Finds before after q page h (place_in l p)
-found_in l before after q page h at p registry is f =
+pub refused_leads : (l : chronicle.Line) (m : MappingData) (before after : List Published) → LeadsTo l m before → IsNoLess before after → LeadsTo l m after
+refused_leads l m before after leads less = λ p on. leads p (less.kept p on)
+
+pub found_in : (l : chronicle.Line) (m : MappingData) (before after : List Published) (q : Query) (page : PageData) (h : Answer) (at : PlaceData) (p : PointData) → LeadsTo l m before → p ≡ point_of at → Finds before after q page h at
+    → FindsUnder m before after q page h (place_in l p)
+found_in l m before after q page h at p leads is f =
+    let registry : at.registry ≡ l = found_registry l m before after q page h at leads f in
     let whole : at ≡ place_in l p = (λ i. place_at (registry i) at.node at.deeds at.records) ∙ ap (place_in l) (sym is) in
-    subst (λ (x : PlaceData). Finds before after q page h x) whole f
+    subst (λ (x : PlaceData). FindsUnder m before after q page h x) whole (record { finds = f; mapping = (leads f.now f.later).mapping })
 
 -- whoever knows what was found knows all of before
-pub finds_no_less : (before after : List Published) (q : Query) (page : PageData) (h : Answer) (at : PlaceData) → Finds before after q page h at → IsNoLess before after
-finds_no_less before after q page h at f = record { kept = λ p on. trans-ComesAfterAll before f.now p f.later (f.known p on) }
+pub finds_no_less : (m : MappingData) (before after : List Published) (q : Query) (page : PageData) (h : Answer) (at : PlaceData) → FindsUnder m before after q page h at → IsNoLess before after
+finds_no_less m before after q page h at found = let f : Finds before after q page h at = found.finds in record { kept = λ p on. trans-ComesAfterAll before f.now p f.later (f.known p on) }
 
 -- what a cell shows
-pub shown_leads : (l : chronicle.Line) (p : Line) (known : List Published) → GoesOn p.top p.shown.listing → p.top.registry ≡ registry_of l → known ≡ p.shown ∷ [] → LeadsTo l known
-shown_leads l p known on is knows = subst (λ (k : List Published). LeadsTo l k) (sym knows) (λ q after. after.0.listing.registry ∙ sym on.registry ∙ is)
+pub shown_leads : (l : chronicle.Line) (m : MappingData) (p : Line) (known : List Published) → GoesOn p.top p.shown.listing → IsListedIn l m p.top → known ≡ p.shown ∷ [] → LeadsTo l m known
+shown_leads l m p known on is knows =
+    subst (λ (k : List Published). LeadsTo l m k) (sym knows)
+    (λ q after. record { registry = after.0.listing.registry ∙ (sym on.registry ∙ is.registry); mapping = after.0.listing.mapping ∙ (sym on.mapping ∙ is.mapping) })

@@ -1,3 +1,4 @@
 pub mod Publishing
 pub mod Refreshing
 pub mod Points
+pub mod Index

@@ -3,14 +3,20 @@ use Rattle.std.specs.Prelude.{◌≡◌, ℕ, List}
 use mathlib.Core.List.{IsPrefix}
 use Rattle.chronicle.specs.Registered.{PrefixData}
 use Rattle.chronicle.specs.Written.{Line}
+use Rattle.doc.specs.Mapping.{MappingData}
+use Rattle.engine.specs.Answer.{Answer}
 use Rattle.op.specs.declared.record.Record.{Record}
+use Rattle.query.specs.Page.{PageData}
+use Rattle.query.specs.Query.{Query}
 use Rattle.journal.specs.declared.journal.Deed.{Deed}
+use Rattle.published.specs.declared.listing.Listing.{Listing}
 use Rattle.published.specs.declared.listing.Published.{Published}
 use Rattle.published.specs.Listings.{ComesAfterAll}
 use Rattle.published.specs.Places.{PlaceData, IsStanding, place_at}
 use Rattle.replica.specs.Copy.{Copy}
 use Rattle.journal.specs.Journal.{IsLegal, after, open_at}
 use Rattle.node.specs.Entry.{HasSoundRecords}
+use Rattle.published.specs.Search.{Finds}
 use Rattle.published.specs.Showing.{registry_of}
 
 -- the copy's number, the entries before the place, and the records that the copy has there
@@ -49,6 +55,16 @@ pub record SearcherData : Type 0 where
 abbrev pub searcher_of : ℕ → List Published → SearcherData
 searcher_of node known = record { node = node; known = known }
 
--- whatever comes after all that is known is of a journal of this registry
-abbrev pub LeadsTo : Line → List Published → Type 0
-LeadsTo l known = (p : Published) → ComesAfterAll p known → p.listing.registry ≡ registry_of l
+-- a list of a copy whose journal is of this registry, under this mapping
+pub record IsListedIn (l : Line) (m : MappingData) (x : Listing) : Type 0 where
+  pub registry : x.registry ≡ registry_of l
+  pub mapping : x.mapping ≡ m
+
+-- whatever comes after all that is known is such a list
+abbrev pub LeadsTo : Line → MappingData → List Published → Type 0
+LeadsTo l m known = (p : Published) → ComesAfterAll p known → IsListedIn l m p.listing
+
+-- what a searcher finds is of a list under this mapping
+pub record FindsUnder (m : MappingData) (before after : List Published) (q : Query) (page : PageData) (hits : Answer) (at : PlaceData) : Type 0 where
+  pub finds : Finds before after q page hits at
+  pub mapping : finds.now.listing.mapping ≡ m

@@ -14,8 +14,8 @@ ghost use Rattle.published.specs.Told.{IsOf};
 ghost use Rattle.node.specs.Reading.{standing, IsGotFrom, IsUngot};
 ghost use Rattle.node.specs.Stands.{LastStands};
 
+use crate::index::IndexName;
 use crate::searching::CopySearcher;
-use chronicle::RegistryName;
 use doc::DocId;
 use engine::Merged;
 use journal::Journal;
@@ -29,21 +29,21 @@ use translog::LogDevice;
 
 /// A copy with its journal, and the publisher of what it shows. Contracts see the journal and the line of what was published, which is always a
 /// beginning of the copy's records. It is not `Drop`: end it by `close`.
-pub struct CopyCell<D: LogDevice, J: RegistryName> {
+pub struct CopyCell<D: LogDevice, J: IndexName> {
     held: Held<D, J>,
     publisher: Publisher,
 }
 
-impl<D: LogDevice, J: RegistryName> Model for CopyCell<D, J> {
+impl<D: LogDevice, J: IndexName> Model for CopyCell<D, J> {
     ghost use Rattle.std.specs.Prelude.{◌≡◌};
+    ghost use Rattle.cell.specs.Points.{IsListedIn};
     ghost use Rattle.cell.specs.Publishing.{CellData, IsPublished};
-    ghost use Rattle.published.specs.Showing.{registry_of};
 
     ghost Value = { CellData };
 
     ghost view = { λ c. record { journal = c.held; line = c.publisher } };
 
-    ghost invariant = { λ c. IsPublished c.held c.publisher × (c.publisher.top.registry ≡ registry_of J.registry) };
+    ghost invariant = { λ c. IsPublished c.held c.publisher × IsListedIn J.registry J.index.mapping c.publisher.top };
 }
 
 /// What an open copy shows at the end of its journal, where that is all of its records; nothing while it is closed.
@@ -64,7 +64,7 @@ fn showing_of<D: LogDevice>(copy: &Copy<D>, place: Place) -> Result<Option<Showi
 
 /// The place behind all entries of a copy's journal. Nothing while the copy is closed.
 #[tactic(auto, using(crate::proofs::Growing::stands_at, crate::proofs::Growing::stands_since))]
-fn place_of<D: LogDevice, J: RegistryName>(held: &Held<D, J>, copy: &Copy<D>) -> Option<Place>
+fn place_of<D: LogDevice, J: IndexName>(held: &Held<D, J>, copy: &Copy<D>) -> Option<Place>
     requires { IsHeld held.now copy.now }
     ensures registry { IfSome result (λ p. p.registry ≡ J.registry) }
     ensures records { IfSome result (λ p. p.records ≡ copy.now.copy.records) }
@@ -86,9 +86,7 @@ fn place_of<D: LogDevice, J: RegistryName>(held: &Held<D, J>, copy: &Copy<D>) ->
 
 /// The same of a copy with its journal.
 #[tactic(auto, using(crate::proofs::Growing::shown_in, crate::proofs::Growing::whole_copy))]
-fn showing_in<D: LogDevice, J: RegistryName>(
-    held: &Held<D, J>,
-) -> Result<Option<Showing>, AllocError>
+fn showing_in<D: LogDevice, J: IndexName>(held: &Held<D, J>) -> Result<Option<Showing>, AllocError>
     requires { (standing held.now).copy.point ≡ length (standing held.now).copy.records }
     ensures { IfOk result (λ o. IfSome o (IsShownBy J.registry (standing held.now).copy)) }
 {
@@ -109,7 +107,7 @@ fn is_refresh(input: &Input) -> bool
     matches!(input, Input::Refresh | Input::Restart)
 }
 
-impl<D: LogDevice, J: RegistryName> CopyCell<D, J> {
+impl<D: LogDevice, J: IndexName> CopyCell<D, J> {
     /// A copy that shows all of its records. Where memory is wanting, or the copy is closed, it is given back.
     #[tactic(auto, using(crate::proofs::Growing::begun_published, crate::proofs::Growing::begun_all))]
     pub fn begin<R: Wait>(
@@ -117,7 +115,8 @@ impl<D: LogDevice, J: RegistryName> CopyCell<D, J> {
         alloc: Global,
         held: Held<D, J>,
     ) -> Result<CopyCell<D, J>, Held<D, J>>
-        requires { (standing held).copy.point ≡ length (standing held).copy.records }
+        requires whole { (standing held).copy.point ≡ length (standing held).copy.records }
+        requires mapping { (standing held).copy.mapping ≡ J.index.mapping }
         ensures begun { IfOk result (IsBegun held) }
         ensures refused { IfErr result (λ h. h ≡ held) }
     {
@@ -128,6 +127,14 @@ impl<D: LogDevice, J: RegistryName> CopyCell<D, J> {
             Ok(publisher) => Ok(CopyCell { held, publisher }),
             Err(_) => Err(held),
         }
+    }
+
+    /// The copy is one of this index.
+    #[tactic(auto, using(crate::proofs::Growing::is_under))]
+    pub fn is_under(&self)
+        ensures { (standing self.now.journal).copy.mapping ≡ J.index.mapping }
+    {
+        let _ = &self.held;
     }
 
     /// The copy with its journal.

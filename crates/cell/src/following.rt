@@ -7,7 +7,7 @@ ghost use Rattle.published.specs.Told.{IsOf};
 ghost use Rattle.cell.specs.Publishing.{IsAllShown};
 
 use crate::cell::CopyCell;
-use chronicle::RegistryName;
+use crate::index::IndexName;
 use node::{NodeFault, Pass};
 use published::{Found, Name};
 use query::{Page, Query};
@@ -19,7 +19,7 @@ use translog::LogDevice;
 
 /// A searcher that was given out before a write finds what the write's note tells of.
 #[tactic(auto, using(crate::proofs::Refreshing::note_found))]
-fn found_behind<N: Name, R: Wait, D: LogDevice, J: RegistryName>(
+fn found_behind<N: Name, R: Wait, D: LogDevice, J: IndexName>(
     rt: &R,
     alloc: Global,
     cell: &mut CopyCell<D, J>,
@@ -47,7 +47,7 @@ fn found_behind<N: Name, R: Wait, D: LogDevice, J: RegistryName>(
 
 /// A write, and a search by a searcher that was given out before it, and has learned the write's note: it finds what the query means among all
 /// records of the copy, with the write's.
-pub fn write_is_found<R: Wait, D: LogDevice, J: RegistryName>(
+pub fn write_is_found<R: Wait, D: LogDevice, J: IndexName>(
     rt: &R,
     alloc: Global,
     cell: &mut CopyCell<D, J>,

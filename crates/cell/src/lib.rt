@@ -3,9 +3,11 @@
 
 mod cell;
 pub mod following;
+pub mod index;
 pub mod point;
 pub mod searching;
 
 pub use cell::CopyCell;
+pub use index::{IndexLabel, IndexName};
 pub use point::JournalPoint;
 pub use searching::{CopySearchFault, CopySearcher, FoundAt};

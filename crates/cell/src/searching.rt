@@ -2,9 +2,10 @@
 ghost use Rattle.std.specs.Prelude.{◌≡◌, IfErr, IfOk};
 ghost use Rattle.engine.specs.Shown.{hits_view};
 ghost use Rattle.query.specs.View.{query_view};
-ghost use Rattle.published.specs.Search.{Finds, IsNoLess};
-ghost use Rattle.cell.specs.Points.{place_in, searcher_of, LeadsTo};
+ghost use Rattle.published.specs.Search.{IsNoLess};
+ghost use Rattle.cell.specs.Points.{place_in, searcher_of, FindsUnder, LeadsTo};
 
+use crate::index::IndexName;
 use crate::point::JournalPoint;
 use chronicle::RegistryName;
 use engine::Hits;
@@ -40,13 +41,13 @@ impl From<SearchFault> for CopySearchFault {
 }
 
 /// Searches what a copy of a cluster shows. Contracts see the copy's number, and what it knows of what that shows.
-pub struct CopySearcher<J: RegistryName> {
+pub struct CopySearcher<J: IndexName> {
     node: u32,
     searcher: Searcher<Unnamed>,
     of: PhantomData<J>,
 }
 
-impl<J: RegistryName> Drop for CopySearcher<J> {
+impl<J: IndexName> Drop for CopySearcher<J> {
     fn drop(self) {
         let CopySearcher {
             node: _,
@@ -56,19 +57,19 @@ impl<J: RegistryName> Drop for CopySearcher<J> {
     }
 }
 
-impl<J: RegistryName> Model for CopySearcher<J> {
+impl<J: IndexName> Model for CopySearcher<J> {
     ghost use Rattle.cell.specs.Points.{searcher_of, LeadsTo, SearcherData};
 
     ghost Value = { SearcherData };
 
     ghost view = { λ s. searcher_of s.node s.searcher };
 
-    ghost invariant = { λ s. LeadsTo J.registry s.searcher };
+    ghost invariant = { λ s. LeadsTo J.registry J.index.mapping s.searcher };
 }
 
-impl<J: RegistryName> CopySearcher<J> {
+impl<J: IndexName> CopySearcher<J> {
     pub(crate) fn of(node: u32, searcher: Searcher<Unnamed>) -> CopySearcher<J>
-        requires { LeadsTo J.registry searcher }
+        requires { LeadsTo J.registry J.index.mapping searcher }
         ensures { result ≡ searcher_of node searcher }
     {
         CopySearcher {
@@ -93,7 +94,7 @@ impl<J: RegistryName> CopySearcher<J> {
         query: &Query,
         page: Page,
     ) -> Result<FoundAt<J>, CopySearchFault>
-        ensures found { IfOk result (λ f. Finds self.old.known self.new.known (query_view query.now) page (hits_view f.hits) (place_in J.registry f.point)) }
+        ensures found { IfOk result (λ f. FindsUnder J.index.mapping self.old.known self.new.known (query_view query.now) page (hits_view f.hits) (place_in J.registry f.point)) }
         ensures copy { IfOk result (λ f. f.point.node ≡ self.old.node) }
         ensures same { self.new.node ≡ self.old.node }
         ensures refused { IfErr result (λ _. IsNoLess self.old.known self.new.known) }
@@ -110,7 +111,7 @@ impl<J: RegistryName> CopySearcher<J> {
 
     /// What it finds, of whichever copy.
     fn find(&mut self, alloc: Global, query: &Query, page: Page) -> Result<FoundAt<J>, SearchFault>
-        ensures found { IfOk result (λ f. Finds self.old.known self.new.known (query_view query.now) page (hits_view f.hits) (place_in J.registry f.point)) }
+        ensures found { IfOk result (λ f. FindsUnder J.index.mapping self.old.known self.new.known (query_view query.now) page (hits_view f.hits) (place_in J.registry f.point)) }
         ensures same { self.new.node ≡ self.old.node }
         ensures refused { IfErr result (λ _. IsNoLess self.old.known self.new.known) }
     {

@@ -2,19 +2,19 @@
 ghost use Rattle.std.specs.Prelude.{◌≡◌, [], ◌∷◌, ◌++◌, List, IfErr, IfNone, IfSome, OnOk, OnErr};
 
 use crate::post::Post;
-use chronicle::RegistryName;
+use cell::IndexName;
 use std::alloc::Global;
 use std::collections::VecDeque;
 
 /// The posts that are held back, oldest first: a write or a bulk for which the window has no room, and what came from callers behind it.
 #[derive(Drop)]
-pub(crate) struct Backlog<J: RegistryName> {
+pub(crate) struct Backlog<J: IndexName> {
     posts: VecDeque<Post<J>>,
     /// How many of the oldest are to wait no longer.
     freed: usize,
 }
 
-impl<J: RegistryName> Backlog<J> {
+impl<J: IndexName> Backlog<J> {
     pub(crate) fn new(alloc: Global) -> Backlog<J>
         ensures { result.posts.items ≡ [] }
     {

@@ -8,7 +8,7 @@ use crate::merging::Merger;
 use crate::post::Post;
 use crate::ready::Journaling;
 use crate::worker::{Tools, Worker};
-use chronicle::RegistryName;
+use cell::IndexName;
 use crossbeam_channel::{Receiver, Sender};
 use engine::Merging;
 use std::alloc::{AllocError, Global};
@@ -21,13 +21,13 @@ use translog::LogDevice;
 const STACK: usize = 2 << 20;
 
 /// What a thread is started with.
-pub(crate) trait Work<J: RegistryName>: Drop {
+pub(crate) trait Work<J: IndexName>: Drop {
     fn run(self) -> Left<J>;
 }
 
 /// What the threads of a copy are started with, beside the copy.
 #[derive(Drop)]
-pub(crate) struct Start<D: LogDevice, G: Gate, J: RegistryName> {
+pub(crate) struct Start<D: LogDevice, G: Gate, J: IndexName> {
     pub(crate) alloc: Global,
     pub(crate) tools: Tools<D, G, J>,
     pub(crate) inbox: Receiver<Post<J>, Global>,
@@ -37,7 +37,7 @@ pub(crate) struct Start<D: LogDevice, G: Gate, J: RegistryName> {
 
 /// A copy that is to be served, and where it is told whether it is.
 #[derive(Drop)]
-pub(crate) struct Bench<R: Wait + Drop, D: LogDevice, G: Gate, J: RegistryName> {
+pub(crate) struct Bench<R: Wait + Drop, D: LogDevice, G: Gate, J: IndexName> {
     pub(crate) rt: R,
     pub(crate) alloc: Global,
     pub(crate) begun: Sender<bool, Global>,
@@ -46,7 +46,7 @@ pub(crate) struct Bench<R: Wait + Drop, D: LogDevice, G: Gate, J: RegistryName> 
     pub(crate) copy: Journaling<D, J>,
 }
 
-impl<R: Wait + Drop, D: LogDevice, G: Gate, J: RegistryName> Work<J> for Bench<R, D, G, J> {
+impl<R: Wait + Drop, D: LogDevice, G: Gate, J: IndexName> Work<J> for Bench<R, D, G, J> {
     /// Takes posts in order until it is told to stop. Without memory for what searches are to see the copy isn't served.
     fn run(self) -> Left<J> {
         let Bench {
@@ -71,7 +71,7 @@ impl<R: Wait + Drop, D: LogDevice, G: Gate, J: RegistryName> Work<J> for Bench<R
 }
 
 /// Serves a copy until its worker is told to stop.
-fn serve<R: Wait, D: LogDevice, G: Gate, J: RegistryName>(
+fn serve<R: Wait, D: LogDevice, G: Gate, J: IndexName>(
     rt: &R,
     inbox: &Receiver<Post<J>, Global>,
     worker: Worker<D, G, J>,
@@ -94,7 +94,7 @@ pub(crate) fn start_both<
     R: Threads,
     S: Wait + Drop + Send + 'static,
     W: Work<J> + Send + 'static,
-    J: RegistryName + Send + 'static,
+    J: IndexName + Send + 'static,
 >(
     rt: &R,
     mergers: &mut Vec<JoinHandle<()>>,
@@ -114,7 +114,7 @@ pub(crate) fn start_both<
 }
 
 /// Starts a thread, and keeps it with others.
-fn start_beside<R: Threads, W: Work<J> + Send + 'static, J: RegistryName + Send + 'static>(
+fn start_beside<R: Threads, W: Work<J> + Send + 'static, J: IndexName + Send + 'static>(
     rt: &R,
     threads: &mut Vec<JoinHandle<Left<J>>>,
     work: W,
@@ -130,7 +130,7 @@ fn start_beside<R: Threads, W: Work<J> + Send + 'static, J: RegistryName + Send 
 }
 
 /// Starts a thread that builds merges, and keeps it with others.
-fn start_merger<R: Threads, S: Wait + Drop + Send + 'static, J: RegistryName + Send + 'static>(
+fn start_merger<R: Threads, S: Wait + Drop + Send + 'static, J: IndexName + Send + 'static>(
     rt: &R,
     threads: &mut Vec<JoinHandle<()>>,
     merger: Merger<S, J>,
@@ -149,7 +149,7 @@ fn start_merger<R: Threads, S: Wait + Drop + Send + 'static, J: RegistryName + S
 }
 
 /// Starts a thread.
-fn started<R: Threads, W: Work<J> + Send + 'static, J: RegistryName + Send + 'static>(
+fn started<R: Threads, W: Work<J> + Send + 'static, J: IndexName + Send + 'static>(
     rt: &R,
     work: W,
 ) -> Option<JoinHandle<Left<J>>> {

@@ -9,7 +9,7 @@ use crate::confirmed::ConfirmedBulk;
 use crate::durable::Durable;
 use crate::fault::{ClusterFault, WriteFault};
 use crate::post::{BulkEnding, Post};
-use chronicle::RegistryName;
+use cell::IndexName;
 use crossbeam_channel::{Receiver, bounded};
 use node::Receipt;
 use replica::{Item, Writes, Written};
@@ -19,12 +19,12 @@ use translog::LogDevice;
 
 /// A bulk that its copy has answered, and where it is told how it ended.
 #[derive(Drop)]
-struct BegunBulk<J: RegistryName> {
+struct BegunBulk<J: IndexName> {
     receipt: Receipt<J>,
     endings: Receiver<BulkEnding<J>, Global>,
 }
 
-impl<D: LogDevice, J: RegistryName> Client<D, J> {
+impl<D: LogDevice, J: IndexName> Client<D, J> {
     /// Has the primary do the writes of a bulk with one step, and waits until every member has those that were kept. A bulk for which the window of the
     /// primary has no room waits for it, and what comes to that copy from callers behind it. Where there is no primary since the master could make
     /// none, its fault says why.
@@ -71,7 +71,7 @@ impl<D: LogDevice, J: RegistryName> Client<D, J> {
 }
 
 /// Waits until the writes of a bulk that were kept are acknowledged, or its copy leads no more.
-fn confirmed<R: Wait, J: RegistryName>(
+fn confirmed<R: Wait, J: IndexName>(
     rt: &R,
     alloc: Global,
     begun: BegunBulk<J>,
@@ -93,7 +93,7 @@ fn confirmed<R: Wait, J: RegistryName>(
 }
 
 /// Whether something was kept of the bulk of a receipt.
-fn is_kept_in<J: RegistryName>(receipt: &Receipt<J>) -> Option<bool>
+fn is_kept_in<J: IndexName>(receipt: &Receipt<J>) -> Option<bool>
     ensures { IfSome result (λ b. IsTrue b → HasKept receipt.now) }
 {
     match items_in(receipt) {
@@ -115,7 +115,7 @@ fn has_kept(items: &[Item]) -> bool
 }
 
 /// How a bulk ended of which something was kept.
-fn ended<R: Wait, J: RegistryName>(
+fn ended<R: Wait, J: IndexName>(
     rt: &R,
     alloc: Global,
     receipt: Receipt<J>,
@@ -133,7 +133,7 @@ fn ended<R: Wait, J: RegistryName>(
 
 /// A bulk whose writes these entries acknowledge.
 #[tactic(auto, using(crate::proofs::Bulks::settled_bulk))]
-fn settled<J: RegistryName>(
+fn settled<J: IndexName>(
     alloc: Global,
     receipt: Receipt<J>,
     entries: Vec<Durable<Receipt<J>>>,
@@ -152,7 +152,7 @@ fn settled<J: RegistryName>(
 }
 
 /// The entries alone.
-fn receipts_of<J: RegistryName>(
+fn receipts_of<J: IndexName>(
     alloc: Global,
     entries: Vec<Durable<Receipt<J>>>,
 ) -> Result<Vec<Receipt<J>>, AllocError> {
@@ -165,7 +165,7 @@ fn receipts_of<J: RegistryName>(
 
 /// For each item of a bulk's entry the place of an entry, which acknowledges the write where it was kept; nothing where one has none.
 #[tactic(auto, using(crate::proofs::Bulks::held_anyway))]
-fn places_in<J: RegistryName>(
+fn places_in<J: IndexName>(
     alloc: Global,
     receipt: &Receipt<J>,
     entries: &[Receipt<J>],
@@ -182,7 +182,7 @@ fn places_in<J: RegistryName>(
     }
 }
 
-fn places_of<J: RegistryName>(
+fn places_of<J: IndexName>(
     alloc: Global,
     items: &[Item],
     entries: &[Receipt<J>],
@@ -202,7 +202,7 @@ fn places_of<J: RegistryName>(
 }
 
 /// The place of an entry that acknowledges the write of an item, from a place on; where the write was refused that place.
-fn place_of<J: RegistryName>(item: &Item, entries: &[Receipt<J>], from: usize) -> Option<usize>
+fn place_of<J: IndexName>(item: &Item, entries: &[Receipt<J>], from: usize) -> Option<usize>
     ensures { IfSome result (IsSettledAt entries.now item.now) }
 {
     match item {
@@ -212,11 +212,7 @@ fn place_of<J: RegistryName>(item: &Item, entries: &[Receipt<J>], from: usize) -
 }
 
 /// The place of an entry that acknowledges a write: this one, the next, or the first.
-fn place_from<J: RegistryName>(
-    written: Written,
-    entries: &[Receipt<J>],
-    from: usize,
-) -> Option<usize>
+fn place_from<J: IndexName>(written: Written, entries: &[Receipt<J>], from: usize) -> Option<usize>
     ensures { IfSome result (λ p. IsAcknowledgedAt entries.now p written) }
 {
     if is_acknowledged_at(written, entries, from) {
@@ -229,7 +225,7 @@ fn place_from<J: RegistryName>(
     first_place(written, entries)
 }
 
-fn first_place<J: RegistryName>(written: Written, entries: &[Receipt<J>]) -> Option<usize>
+fn first_place<J: IndexName>(written: Written, entries: &[Receipt<J>]) -> Option<usize>
     ensures { IfSome result (λ p. IsAcknowledgedAt entries.now p written) }
 {
     for place in 0..entries.len() {
@@ -241,11 +237,7 @@ fn first_place<J: RegistryName>(written: Written, entries: &[Receipt<J>]) -> Opt
 }
 
 /// Whether the entry at a place acknowledges a write.
-fn is_acknowledged_at<J: RegistryName>(
-    written: Written,
-    entries: &[Receipt<J>],
-    place: usize,
-) -> bool
+fn is_acknowledged_at<J: IndexName>(written: Written, entries: &[Receipt<J>], place: usize) -> bool
     ensures { IsTrue result → IsAcknowledgedAt entries.now place written }
 {
     match entries.get(place) {

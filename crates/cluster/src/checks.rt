@@ -6,13 +6,13 @@ ghost use Rattle.cluster.specs.Confirmed as spec;
 ghost use Rattle.cluster.specs.Confirmed.{Acknowledges, IsAcknowledged, IsAnswerTo, IsBehind, IsEndedBy, wrote};
 ghost use Rattle.node.specs.Entry.{IsEntry};
 
-use chronicle::RegistryName;
+use cell::IndexName;
 use node::Receipt;
 use op::{Content, Op};
 use replica::{Answer, CopyFault, Input, Item, Output, Write, Writes, Written};
 
 /// Whether the receipt is of this node and this input.
-pub(crate) fn is_answer_to<J: RegistryName>(receipt: &Receipt<J>, node: u32, asked: &Input) -> bool
+pub(crate) fn is_answer_to<J: IndexName>(receipt: &Receipt<J>, node: u32, asked: &Input) -> bool
     ensures is { IsTrue result ↔ IsAnswerTo node asked.now receipt.now }
     ensures stands { IsEntry receipt.now }
 {
@@ -20,7 +20,7 @@ pub(crate) fn is_answer_to<J: RegistryName>(receipt: &Receipt<J>, node: u32, ask
 }
 
 /// Whether it is of this node and this write.
-pub(crate) fn is_of_write<J: RegistryName>(receipt: &Receipt<J>, node: u32, write: &Write) -> bool
+pub(crate) fn is_of_write<J: IndexName>(receipt: &Receipt<J>, node: u32, write: &Write) -> bool
     ensures is { IsTrue result ↔ IsAnswerTo node (Client write.now) receipt.now }
     ensures stands { IsEntry receipt.now }
 {
@@ -31,7 +31,7 @@ pub(crate) fn is_of_write<J: RegistryName>(receipt: &Receipt<J>, node: u32, writ
 }
 
 /// Whether it is of this node and this bulk.
-pub(crate) fn is_of_bulk<J: RegistryName>(receipt: &Receipt<J>, node: u32, writes: &Writes) -> bool
+pub(crate) fn is_of_bulk<J: IndexName>(receipt: &Receipt<J>, node: u32, writes: &Writes) -> bool
     ensures is { IsTrue result ↔ IsAnswerTo node (Bulk writes.now) receipt.now }
     ensures stands { IsEntry receipt.now }
 {
@@ -42,7 +42,7 @@ pub(crate) fn is_of_bulk<J: RegistryName>(receipt: &Receipt<J>, node: u32, write
 }
 
 /// What became of the writes of a receipt's bulk.
-pub(crate) fn items_in<J: RegistryName>(receipt: &Receipt<J>) -> Option<&[Item]>
+pub(crate) fn items_in<J: IndexName>(receipt: &Receipt<J>) -> Option<&[Item]>
     ensures some { IfSome result (λ items. bulked receipt.now.deed.answer ≡ Some items.now) }
     ensures none { IfNone result (bulked receipt.now.deed.answer ≡ None) }
 {
@@ -58,7 +58,7 @@ pub(crate) fn items_in<J: RegistryName>(receipt: &Receipt<J>) -> Option<&[Item]>
 }
 
 /// What the write of a receipt was kept as.
-pub(crate) fn written_in<J: RegistryName>(receipt: &Receipt<J>) -> Option<Written>
+pub(crate) fn written_in<J: IndexName>(receipt: &Receipt<J>) -> Option<Written>
     ensures { IfSome result (λ w. wrote receipt.now.deed.answer ≡ Some w) }
 {
     match &receipt.deed().answer {
@@ -85,7 +85,7 @@ pub(crate) fn has_write(operations: &[Op], seq: u64, term: u64) -> bool
 }
 
 /// Whether the entry of a receipt acknowledges a write.
-pub(crate) fn acknowledges<J: RegistryName>(receipt: &Receipt<J>, written: Written) -> bool
+pub(crate) fn acknowledges<J: IndexName>(receipt: &Receipt<J>, written: Written) -> bool
     ensures { IsTrue result → Acknowledges receipt.now written }
 {
     match &receipt.deed().answer {
@@ -95,7 +95,7 @@ pub(crate) fn acknowledges<J: RegistryName>(receipt: &Receipt<J>, written: Writt
 }
 
 /// Whether the second is of the same journal, at the place of the first or behind it.
-pub(crate) fn is_behind<J: RegistryName>(first: &Receipt<J>, second: &Receipt<J>) -> bool
+pub(crate) fn is_behind<J: IndexName>(first: &Receipt<J>, second: &Receipt<J>) -> bool
     ensures { IsTrue result → IsBehind first.now second.now }
 {
     if second.node() != first.node() {
@@ -107,7 +107,7 @@ pub(crate) fn is_behind<J: RegistryName>(first: &Receipt<J>, second: &Receipt<J>
 }
 
 /// Whether each of some is so.
-pub(crate) fn are_behind<J: RegistryName>(first: &Receipt<J>, others: &[Receipt<J>]) -> bool
+pub(crate) fn are_behind<J: IndexName>(first: &Receipt<J>, others: &[Receipt<J>]) -> bool
     ensures { IsTrue result → All (IsBehind first.now) others.now }
 {
     for other in others {
@@ -119,14 +119,14 @@ pub(crate) fn are_behind<J: RegistryName>(first: &Receipt<J>, others: &[Receipt<
 }
 
 /// Whether the second stands behind, and ends the lead in which the first was written.
-pub(crate) fn is_ended_by<J: RegistryName>(first: &Receipt<J>, second: &Receipt<J>) -> bool
+pub(crate) fn is_ended_by<J: IndexName>(first: &Receipt<J>, second: &Receipt<J>) -> bool
     ensures { IsTrue result → IsEndedBy first.now second.now }
 {
     is_behind(first, second) && is_end(second)
 }
 
 /// Whether the copy leads no more with this entry, or leads anew.
-fn is_end<J: RegistryName>(receipt: &Receipt<J>) -> bool
+fn is_end<J: IndexName>(receipt: &Receipt<J>) -> bool
     ensures { result ≡ spec.is_end receipt.now.deed }
 {
     match &receipt.deed().answer {
@@ -147,7 +147,7 @@ fn is_promotion(input: &Input) -> bool
 }
 
 /// Why the copy refused, where it did.
-pub(crate) fn refusal_in<J: RegistryName>(receipt: &Receipt<J>) -> Option<CopyFault>
+pub(crate) fn refusal_in<J: IndexName>(receipt: &Receipt<J>) -> Option<CopyFault>
     ensures { IfNone result (IsOk receipt.now.deed.answer) }
 {
     match &receipt.deed().answer {
@@ -157,7 +157,7 @@ pub(crate) fn refusal_in<J: RegistryName>(receipt: &Receipt<J>) -> Option<CopyFa
 }
 
 /// Whether the copy answered that it isn't the primary, or is closed.
-pub(crate) fn is_no_primary<J: RegistryName>(receipt: &Receipt<J>) -> bool
+pub(crate) fn is_no_primary<J: IndexName>(receipt: &Receipt<J>) -> bool
     ensures { result ≡ spec.is_no_primary receipt.now.deed.answer }
 {
     matches!(
@@ -167,7 +167,7 @@ pub(crate) fn is_no_primary<J: RegistryName>(receipt: &Receipt<J>) -> bool
 }
 
 /// Whether the log of the copy failed, now or before.
-pub(crate) fn is_shut<J: RegistryName>(receipt: &Receipt<J>) -> bool {
+pub(crate) fn is_shut<J: IndexName>(receipt: &Receipt<J>) -> bool {
     matches!(
         &receipt.deed().answer,
         Err(CopyFault::Log(_)) | Err(CopyFault::Closed)

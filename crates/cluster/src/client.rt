@@ -16,8 +16,7 @@ use crate::fault::{ClusterFault, WriteFault};
 use crate::post::{Answered, Ending, Post};
 use crate::refreshed::Refreshed;
 use crate::shared::Shared;
-use cell::CopySearcher;
-use chronicle::RegistryName;
+use cell::{CopySearcher, IndexName};
 use crossbeam_channel::{Receiver, bounded};
 use doc::DocId;
 use master::{MasterFault, Request, State};
@@ -29,12 +28,12 @@ use std::sync::{Arc, Wait};
 use translog::LogDevice;
 
 /// Asks the copies of a cluster, from any thread. A cluster gives it out, and ends what it asks.
-pub struct Client<D: LogDevice, J: RegistryName> {
+pub struct Client<D: LogDevice, J: IndexName> {
     pub(crate) alloc: Global,
     pub(crate) shared: Arc<Shared<D, J>, Global>,
 }
 
-impl<D: LogDevice, J: RegistryName> Drop for Client<D, J> {
+impl<D: LogDevice, J: IndexName> Drop for Client<D, J> {
     fn drop(self) {
         let Client {
             alloc: _,
@@ -43,7 +42,7 @@ impl<D: LogDevice, J: RegistryName> Drop for Client<D, J> {
     }
 }
 
-impl<D: LogDevice, J: RegistryName> Client<D, J> {
+impl<D: LogDevice, J: IndexName> Client<D, J> {
     /// What it asks.
     pub(crate) fn into_shared(self) -> Arc<Shared<D, J>, Global>
         ensures { result ≡ self.shared }
@@ -239,14 +238,14 @@ impl<D: LogDevice, J: RegistryName> Client<D, J> {
 
 /// A write that its copy has answered, and where it is told how the write ended.
 #[derive(Drop)]
-struct Begun<J: RegistryName> {
+struct Begun<J: IndexName> {
     receipt: Receipt<J>,
     endings: Receiver<Ending<J>, Global>,
 }
 
 /// Adds the entry by which a copy was refreshed, where it is in sync.
 #[tactic(auto, using(crate::proofs::Refreshes::no_more))]
-fn add_entry<J: RegistryName>(
+fn add_entry<J: IndexName>(
     state: &State,
     copy: u32,
     entry: Receipt<J>,
@@ -265,7 +264,7 @@ fn add_entry<J: RegistryName>(
 }
 
 /// A copy that refused is passed over, as not refreshed; want of memory is told.
-fn passed_over<J: RegistryName>(fault: ClusterFault) -> Result<Option<Receipt<J>>, ClusterFault>
+fn passed_over<J: IndexName>(fault: ClusterFault) -> Result<Option<Receipt<J>>, ClusterFault>
     ensures { IfOk result (λ o. o ≡ None) }
 {
     if let ClusterFault::NoMemory = &fault {
@@ -276,7 +275,7 @@ fn passed_over<J: RegistryName>(fault: ClusterFault) -> Result<Option<Receipt<J>
 }
 
 /// The entry that a worker answers with.
-pub(crate) fn received<R: Wait, J: RegistryName>(
+pub(crate) fn received<R: Wait, J: IndexName>(
     rt: &R,
     answers: &Receiver<Answered<J>, Global>,
 ) -> Result<Receipt<J>, ClusterFault> {
@@ -288,7 +287,7 @@ pub(crate) fn received<R: Wait, J: RegistryName>(
 }
 
 /// The entry, where it is the one that was asked for, and not a refusal.
-fn answered<J: RegistryName>(
+fn answered<J: IndexName>(
     receipt: Receipt<J>,
     copy: u32,
     input: &Input,
@@ -305,7 +304,7 @@ fn answered<J: RegistryName>(
 }
 
 /// What was read, where it is of this copy and this id.
-fn got_of<J: RegistryName>(got: Got<J>, copy: u32, id: &DocId) -> Result<Got<J>, ClusterFault>
+fn got_of<J: IndexName>(got: Got<J>, copy: u32, id: &DocId) -> Result<Got<J>, ClusterFault>
     ensures { IfOk result (λ g. IsGot g × (g.node ≡ copy) × (g.id ≡ id.now)) }
 {
     if got.node() != copy || !got.id().is(id) {
@@ -316,7 +315,7 @@ fn got_of<J: RegistryName>(got: Got<J>, copy: u32, id: &DocId) -> Result<Got<J>,
 
 /// Waits until a write is confirmed, or its copy leads no more.
 #[tactic(auto, using(crate::proofs::Confirming::confirmed_end, crate::proofs::Confirming::refused_end))]
-fn confirmed<R: Wait, J: RegistryName>(
+fn confirmed<R: Wait, J: IndexName>(
     rt: &R,
     begun: Begun<J>,
     copy: u32,
@@ -339,7 +338,7 @@ fn confirmed<R: Wait, J: RegistryName>(
 }
 
 /// Why a write or a bulk that its copy answered isn't kept.
-pub(crate) fn refusal_of<J: RegistryName>(receipt: Receipt<J>) -> WriteFault<J>
+pub(crate) fn refusal_of<J: IndexName>(receipt: Receipt<J>) -> WriteFault<J>
     ensures { IsRefusalBy receipt result }
 {
     if is_no_primary(&receipt) {
@@ -352,7 +351,7 @@ pub(crate) fn refusal_of<J: RegistryName>(receipt: Receipt<J>) -> WriteFault<J>
 }
 
 /// How a write that was kept ended.
-fn ended<J: RegistryName>(
+fn ended<J: IndexName>(
     receipt: Receipt<J>,
     written: Written,
     ending: Ending<J>,
@@ -377,7 +376,7 @@ fn ended<J: RegistryName>(
 }
 
 /// What was kept and is perhaps lost, by the entry that ended the lead in which it was; whether it stands is open where that entry doesn't.
-pub(crate) fn lost_by<J: RegistryName>(receipt: Receipt<J>, last: Receipt<J>) -> WriteFault<J>
+pub(crate) fn lost_by<J: IndexName>(receipt: Receipt<J>, last: Receipt<J>) -> WriteFault<J>
     ensures { IsEndOf receipt result }
 {
     if is_ended_by(&receipt, &last) {

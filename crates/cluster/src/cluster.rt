@@ -24,8 +24,8 @@ use crate::opening::{
 use crate::ready::Ready;
 use crate::routes::stop;
 use crate::shared::Shared;
-use chronicle::{Blank, Ledgers, NamedLedger, RegistryName};
-use doc::Mapping;
+use cell::{IndexLabel, IndexName};
+use chronicle::{Blank, Ledgers, NamedLedger};
 use journal::Deed;
 use master::{Master, MasterFault};
 use node::{Began, Receipt};
@@ -39,9 +39,9 @@ use translog::LogDevice;
 
 /// What a cluster is made of, beside its nodes.
 #[derive(Drop)]
-struct Setting<V, G, J: RegistryName> {
+struct Setting<V, G, J: IndexName> {
     alloc: Global,
-    mapping: Mapping,
+    label: IndexLabel<J>,
     devices: V,
     gate: G,
     journals: Journals,
@@ -49,8 +49,8 @@ struct Setting<V, G, J: RegistryName> {
 }
 
 /// The master and its copies, each copy on a thread of its own. End it by `close`.
-pub struct Cluster<D: LogDevice, V: Devices<D>, G: Gate, J: RegistryName> {
-    mapping: Mapping,
+pub struct Cluster<D: LogDevice, V: Devices<D>, G: Gate, J: IndexName> {
+    label: IndexLabel<J>,
     devices: V,
     journals: Journals,
     crew: Crew<D, G, J>,
@@ -60,10 +60,10 @@ pub struct Cluster<D: LogDevice, V: Devices<D>, G: Gate, J: RegistryName> {
     short_log: Option<ShortLog>,
 }
 
-impl<D: LogDevice, V: Devices<D>, G: Gate, J: RegistryName> Drop for Cluster<D, V, G, J> {
+impl<D: LogDevice, V: Devices<D>, G: Gate, J: IndexName> Drop for Cluster<D, V, G, J> {
     fn drop(self) {
         let Cluster {
-            mapping: _mapping,
+            label: _label,
             devices: _devices,
             journals: _,
             crew: _crew,
@@ -79,14 +79,14 @@ where
     D: LogDevice + Send + 'static,
     V: Devices<D>,
     G: Gate + Send + Sync + 'static,
-    J: RegistryName + Send + Sync + 'static,
+    J: IndexName + Send + Sync + 'static,
 {
     /// Starts a new index of one copy to five, over devices that hold nothing: copy 1 is the primary of term 1. Its journals are in these ledgers, those of
     /// its copies in the registry, and are of no other cluster.
     pub fn start<R: Threads + Wait + Copy + Send + Drop + 'static>(
         rt: &R,
         alloc: Global,
-        mapping: Mapping,
+        label: IndexLabel<J>,
         copies: u8,
         devices: V,
         gate: G,
@@ -96,11 +96,11 @@ where
         requires { (1 ≤ copies) × (copies ≤ 5) }
         ensures threads { IfOk result (λ c. vec_len c.crew.threads ≡ copies) }
         ensures journals { IfOk result (λ c. c.journals ≡ journals) }
-        ensures opened { IfOk result (λ c. IsStarted (V.gave c.devices) mapping copies c.crew.began.items c.past) }
+        ensures opened { IfOk result (λ c. IsStarted (V.gave c.devices) label.mapping copies c.crew.began.items c.past) }
     {
         let mut setting = Setting {
             alloc,
-            mapping,
+            label,
             devices,
             gate,
             journals,
@@ -121,7 +121,7 @@ where
     pub fn open<R: Threads + Wait + Copy + Send + Drop + 'static>(
         rt: &R,
         alloc: Global,
-        mapping: Mapping,
+        label: IndexLabel<J>,
         copies: u8,
         devices: V,
         gate: G,
@@ -130,11 +130,11 @@ where
     ) -> Result<Cluster<D, V, G, J>, ClusterFault>
         requires { (1 ≤ copies) × (copies ≤ 5) }
         ensures journals { IfOk result (λ c. c.journals ≡ journals) }
-        ensures opened { IfOk result (λ c. IsOpened (V.gave c.devices) mapping copies c.crew.began.items c.unopened.items c.past) }
+        ensures opened { IfOk result (λ c. IsOpened (V.gave c.devices) label.mapping copies c.crew.began.items c.unopened.items c.past) }
     {
         let mut setting = Setting {
             alloc,
-            mapping,
+            label,
             devices,
             gate,
             journals,
@@ -159,7 +159,7 @@ where
         ensures threads { IfOk result (λ c. vec_len c.crew.threads ≡ copies) }
         ensures journals { IfOk result (λ c. c.journals ≡ setting.journals) }
         ensures gave { IfOk result (λ c. IsPrefix (V.gave setting.devices) (V.gave c.devices)) }
-        ensures opened { IfOk result (λ c. IsNewIndex (D.bytes device) setting.mapping copies c.crew.began.items c.past) }
+        ensures opened { IfOk result (λ c. IsNewIndex (D.bytes device) setting.label.mapping copies c.crew.began.items c.past) }
     {
         let mut setting = setting;
         let alloc = setting.alloc;
@@ -167,7 +167,7 @@ where
             alloc,
             setting.journals,
             copies,
-            &setting.mapping,
+            &setting.label,
             &mut setting.devices,
         ) {
             Ok(ready) => Cluster::begin_over(rt, setting, ready, new_master(alloc, copies, device)),
@@ -183,7 +183,7 @@ where
     fn begin_over<R: Threads + Wait + Copy + Send + Drop + 'static>(
         rt: &R,
         setting: Setting<V, G, J>,
-        ready: Vec<Ready<D>>,
+        ready: Vec<Ready<D, J>>,
         master: Result<Master<D>, ClusterFault>,
     ) -> Result<Cluster<D, V, G, J>, ClusterFault>
         requires { IfOk master (λ m. m.closed ≡ false) }
@@ -208,7 +208,7 @@ where
     fn launch_over<R: Threads + Wait + Copy + Send + Drop + 'static>(
         rt: &R,
         cluster: Result<Cluster<D, V, G, J>, ClusterFault>,
-        ready: Vec<Ready<D>>,
+        ready: Vec<Ready<D, J>>,
     ) -> Result<Cluster<D, V, G, J>, ClusterFault>
         requires threads { IfOk cluster (λ c. vec_len c.crew.threads ≡ 0) }
         requires began { IfOk cluster (λ c. c.crew.began.items ≡ []) }
@@ -239,7 +239,7 @@ where
     ) -> Result<Cluster<D, V, G, J>, ClusterFault>
         ensures journals { IfOk result (λ c. c.journals ≡ setting.journals) }
         ensures gave { IfOk result (λ c. IsPrefix (V.gave setting.devices) (V.gave c.devices)) }
-        ensures opened { IfOk result (λ c. IsReopened (V.gave c.devices) (D.bytes device) setting.mapping count c.crew.began.items c.unopened.items c.past) }
+        ensures opened { IfOk result (λ c. IsReopened (V.gave c.devices) (D.bytes device) setting.label.mapping count c.crew.began.items c.unopened.items c.past) }
     {
         let master = kept_master(setting.alloc, device)?;
         let mut cluster = Cluster::over(setting, master)?;
@@ -256,14 +256,14 @@ where
         ensures threads { IfOk result (λ c. vec_len c.crew.threads ≡ 0) }
         ensures journals { IfOk result (λ c. c.journals ≡ setting.journals) }
         ensures devices { IfOk result (λ c. c.devices ≡ setting.devices) }
-        ensures mapping { IfOk result (λ c. c.mapping ≡ setting.mapping) }
+        ensures label { IfOk result (λ c. c.label ≡ setting.label) }
         ensures began { IfOk result (λ c. c.crew.began.items ≡ []) }
         ensures unopened { IfOk result (λ c. c.unopened.items ≡ []) }
         ensures past { IfOk result (λ c. c.past ≡ Starts master.state ∷ []) }
     {
         let Setting {
             alloc,
-            mapping,
+            label,
             devices,
             gate,
             journals,
@@ -281,7 +281,7 @@ where
             },
         )?;
         Ok(Cluster {
-            mapping,
+            label,
             devices,
             journals,
             crew: Crew {
@@ -328,10 +328,10 @@ where
         count: u8,
     ) -> Result<(), ClusterFault>
         requires { (self.old.crew.began.items ≡ []) × (self.old.unopened.items ≡ []) }
-        ensures same { (self.new.journals ≡ self.old.journals) × (self.new.mapping ≡ self.old.mapping) }
+        ensures same { (self.new.journals ≡ self.old.journals) × (self.new.label ≡ self.old.label) }
         ensures gave { IsPrefix (V.gave self.old.devices) (V.gave self.new.devices) }
         ensures past { IsPrefix self.old.past self.new.past }
-        ensures led { OnOk result (IsLed (V.gave self.new.devices) self.new.mapping count self.new.crew.began.items self.new.unopened.items self.new.past) }
+        ensures led { OnOk result (IsLed (V.gave self.new.devices) self.new.label.mapping count self.new.crew.began.items self.new.unopened.items self.new.past) }
     {
         let Known { state, past } = self.crew.client.state(rt)?;
         let opened = self.open_each(rt, &state.in_sync, count)?;
@@ -351,7 +351,7 @@ where
     /// Has a copy lead, by an entry of the master behind those that are known.
     #[tactic(auto, using(crate::proofs::Opened::self_begins))]
     fn lead<R: Wait>(&mut self, rt: &R, known: &Past<J>, leader: u32) -> Result<(), ClusterFault>
-        ensures same { (self.new.journals ≡ self.old.journals) × (self.new.mapping ≡ self.old.mapping) }
+        ensures same { (self.new.journals ≡ self.old.journals) × (self.new.label ≡ self.old.label) }
         ensures others { (self.new.devices ≡ self.old.devices) × (self.new.crew ≡ self.old.crew) × (self.new.unopened ≡ self.old.unopened) }
         ensures past { IsPrefix self.old.past self.new.past }
         ensures since { OnOk result (IsPrefix known.now self.new.past) }
@@ -374,9 +374,9 @@ where
         count: u8,
     ) -> Result<Vec<Opened>, ClusterFault>
         requires { (self.old.crew.began.items ≡ []) × (self.old.unopened.items ≡ []) }
-        ensures same { (self.new.journals ≡ self.old.journals) × (self.new.mapping ≡ self.old.mapping) × (self.new.past ≡ self.old.past) }
+        ensures same { (self.new.journals ≡ self.old.journals) × (self.new.label ≡ self.old.label) × (self.new.past ≡ self.old.past) }
         ensures gave { IsPrefix (V.gave self.old.devices) (V.gave self.new.devices) }
-        ensures tried { IfOk result (λ os. AreTried (V.gave self.new.devices) self.new.mapping count copies.now self.new.crew.began.items self.new.unopened.items os.items) }
+        ensures tried { IfOk result (λ os. AreTried (V.gave self.new.devices) self.new.label.mapping count copies.now self.new.crew.began.items self.new.unopened.items os.items) }
     {
         let mut opened = Vec::new(self.crew.client.alloc);
         self.devices.will_open(copies);
@@ -410,9 +410,9 @@ where
         id: u32,
         count: u8,
     ) -> Result<Option<Opened>, ClusterFault>
-        ensures same { (self.new.journals ≡ self.old.journals) × (self.new.mapping ≡ self.old.mapping) × (self.new.past ≡ self.old.past) }
+        ensures same { (self.new.journals ≡ self.old.journals) × (self.new.label ≡ self.old.label) × (self.new.past ≡ self.old.past) }
         ensures gave { IsPrefix (V.gave self.old.devices) (V.gave self.new.devices) }
-        ensures opened { IfOk result (λ o. IfSome o (λ x. IsOpenedAs (V.gave self.new.devices) self.new.mapping count id self.old.crew.began.items self.new.crew.began.items x × (self.new.unopened ≡ self.old.unopened))) }
+        ensures opened { IfOk result (λ o. IfSome o (λ x. IsOpenedAs (V.gave self.new.devices) self.new.label.mapping count id self.old.crew.began.items self.new.crew.began.items x × (self.new.unopened ≡ self.old.unopened))) }
         ensures left { IfOk result (λ o. IfNone o ((self.new.crew ≡ self.old.crew) × IsLeftOut id self.old.unopened.items self.new.unopened.items)) }
     {
         match self.kept(id, count) {
@@ -441,10 +441,10 @@ where
     }
 
     /// The copy that its device holds.
-    fn kept(&mut self, id: u32, count: u8) -> Result<Ready<D>, OpenFault>
+    fn kept(&mut self, id: u32, count: u8) -> Result<Ready<D, J>, OpenFault>
         ensures same { self.new ≡ record self.old { devices = self.new.devices } }
         ensures gave { IsPrefix (V.gave self.old.devices) (V.gave self.new.devices) }
-        ensures kept { IfOk result (λ r. HasKept (V.gave self.new.devices) self.old.mapping count r.copy × (r.copy.id ≡ id)) }
+        ensures kept { IfOk result (λ r. HasKept (V.gave self.new.devices) self.old.label.mapping count r.copy × (r.copy.id ≡ id)) }
     {
         let device = match self.devices.kept(id) {
             Ok(Some(device)) => device,
@@ -453,7 +453,7 @@ where
         };
         let alloc = self.crew.client.alloc;
         let birth = birth_of(id, count);
-        match kept_copy(alloc, self.journals, id, birth, &self.mapping, device) {
+        match kept_copy(alloc, self.journals, id, birth, &self.label, device) {
             Ok(ready) => Ok(ready),
             Err(fault) => Err(OpenFault::Copy(fault)),
         }
@@ -486,7 +486,7 @@ where
             return Err(ClusterFault::Master(MasterFault::Full));
         };
         let device = device_of(&mut self.devices, next)?;
-        let ready = joining_copy(alloc, self.journals, next, &self.mapping, device)?;
+        let ready = joining_copy(alloc, self.journals, next, &self.label, device)?;
         self.crew.join(rt, next, ready)
     }
 
@@ -502,6 +502,13 @@ where
         ensures { result.now ≡ self.now.past }
     {
         &self.past
+    }
+
+    /// The name and the mapping of the index, which the copies are of.
+    pub fn label(&self) -> &IndexLabel<J>
+        ensures { result.now ≡ self.now.label }
+    {
+        &self.label
     }
 
     /// What callers ask the copies by.
@@ -547,7 +554,7 @@ where
         ensures all { IfOk result (λ e. vec_len e.lefts ≡ vec_len self.crew.threads) }
     {
         let Cluster {
-            mapping: _mapping,
+            label: _label,
             devices: _devices,
             journals,
             crew,
@@ -581,7 +588,7 @@ where
 
 /// What is left of a cluster whose threads have ended.
 #[derive(Drop)]
-struct Ended<D: LogDevice, J: RegistryName> {
+struct Ended<D: LogDevice, J: IndexName> {
     alloc: Global,
     journals: Journals,
     master: Ruled<D, J>,
@@ -589,7 +596,7 @@ struct Ended<D: LogDevice, J: RegistryName> {
 }
 
 /// The master's ledger, of which memory has what it is to have of the journals.
-fn ledger_of<J: RegistryName>(
+fn ledger_of<J: IndexName>(
     alloc: Global,
     journals: Journals,
     blank: Blank<MasterEntry, J>,
@@ -603,7 +610,7 @@ fn ledger_of<J: RegistryName>(
 }
 
 /// What threads leave, once each has ended.
-fn joined<R: Threads, J: RegistryName>(
+fn joined<R: Threads, J: IndexName>(
     rt: &R,
     alloc: Global,
     threads: Vec<JoinHandle<Left<J>>>,
@@ -663,16 +670,16 @@ fn kept_master<D: LogDevice>(alloc: Global, device: D) -> Result<Master<D>, Clus
 }
 
 /// The copies of a new index, each over its device.
-fn new_copies<D: LogDevice, V: Devices<D>>(
+fn new_copies<D: LogDevice, V: Devices<D>, J: IndexName>(
     alloc: Global,
     journals: Journals,
     copies: u8,
-    mapping: &Mapping,
+    label: &IndexLabel<J>,
     devices: &mut V,
-) -> Result<Vec<Ready<D>>, ClusterFault>
+) -> Result<Vec<Ready<D, J>>, ClusterFault>
     requires { 1 ≤ copies }
     ensures all { IfOk result (λ all. vec_len all ≡ copies) }
-    ensures new { IfOk result (λ all. AreNew mapping.now copies 1 (map copy_of all.items)) }
+    ensures new { IfOk result (λ all. AreNew label.now.mapping copies 1 (map copy_of all.items)) }
     ensures gave { IsPrefix (V.gave devices.old) (V.gave devices.new) }
 {
     let count = copies as u32;
@@ -680,7 +687,7 @@ fn new_copies<D: LogDevice, V: Devices<D>>(
     for before in 0..count {
         let id = before + 1;
         let device = device_of(devices, id)?;
-        all.push(new_copy(alloc, journals, id, count, mapping, device)?)?;
+        all.push(new_copy(alloc, journals, id, count, label, device)?)?;
     }
     Ok(all)
 }

@@ -13,7 +13,8 @@ use crate::merging::Merger;
 use crate::ready::{Journaling, Ready};
 use crate::routes::{inbox_of, remove_route};
 use crate::worker::Tools;
-use chronicle::{Registry, RegistryName};
+use cell::IndexName;
+use chronicle::Registry;
 use crossbeam_channel::{Sender, bounded, unbounded};
 use engine::Merging;
 use journal::Deed;
@@ -27,7 +28,7 @@ use translog::LogDevice;
 
 /// The copies that are served, each by a thread of its own, what each was when its journal began, and what callers ask them by.
 #[derive(Drop)]
-pub(crate) struct Crew<D: LogDevice, G: Gate, J: RegistryName> {
+pub(crate) struct Crew<D: LogDevice, G: Gate, J: IndexName> {
     pub(crate) gate: Arc<G, Global>,
     pub(crate) registry: Registry<Deed, J>,
     pub(crate) client: Client<D, J>,
@@ -41,14 +42,14 @@ impl<D, G, J> Crew<D, G, J>
 where
     D: LogDevice + Send + 'static,
     G: Gate + Send + Sync + 'static,
-    J: RegistryName + Send + Sync + 'static,
+    J: IndexName + Send + Sync + 'static,
 {
     /// Starts the threads of some copies.
     #[tactic(auto, using(crate::proofs::Opened::began_none, crate::proofs::Opened::began_more))]
     pub(crate) fn launch_all<R: Threads + Wait + Copy + Send + Drop + 'static>(
         &mut self,
         rt: &R,
-        copies: Vec<Ready<D>>,
+        copies: Vec<Ready<D, J>>,
     ) -> Result<(), ClusterFault>
         ensures threads { OnOk result (vec_len self.new.threads ≡ vec_len self.old.threads + vec_len copies) }
         ensures began { OnOk result (self.new.began.items ≡ self.old.began.items ++ map copy_of copies.items) }
@@ -63,7 +64,7 @@ where
     pub(crate) fn launch<R: Threads + Wait + Copy + Send + Drop + 'static>(
         &mut self,
         rt: &R,
-        ready: Ready<D>,
+        ready: Ready<D, J>,
     ) -> Result<(), ClusterFault>
         ensures threads { OnOk result (vec_len self.new.threads ≡ vec_len self.old.threads + 1) }
         ensures began { OnOk result (self.new.began.items ≡ self.old.began.items ++ ready.copy ∷ []) }
@@ -82,7 +83,7 @@ where
         &mut self,
         rt: &R,
         copy: u32,
-        ready: Ready<D>,
+        ready: Ready<D, J>,
     ) -> Result<Decided<J>, ClusterFault>
         ensures decided { IfOk result (λ d. IsDecided Allocate d.decision d.past) }
         ensures threads { OnOk result (vec_len self.new.threads ≡ vec_len self.old.threads + 1) }
@@ -102,7 +103,7 @@ where
         rt: &R,
         copy: u32,
         start: Start<D, G, J>,
-        ready: Ready<D>,
+        ready: Ready<D, J>,
     ) -> Result<Decided<J>, ClusterFault>
         ensures decided { IfOk result (λ d. IsDecided Allocate d.decision d.past) }
         ensures threads { OnOk result (vec_len self.new.threads ≡ vec_len self.old.threads + 1) }
@@ -170,7 +171,7 @@ where
         &mut self,
         rt: &R,
         start: Start<D, G, J>,
-        ready: Ready<D>,
+        ready: Ready<D, J>,
     ) -> Result<(), ClusterFault>
         ensures threads { OnOk result (vec_len self.new.threads ≡ vec_len self.old.threads + 1) }
         ensures began { OnOk result (self.new.began.items ≡ self.old.began.items ++ ready.copy ∷ []) }
@@ -185,7 +186,7 @@ where
     }
 
     /// The copy with its journal, which begins as it is.
-    fn journaling(&mut self, ready: Ready<D>) -> Result<Journaling<D, J>, AllocError>
+    fn journaling(&mut self, ready: Ready<D, J>) -> Result<Journaling<D, J>, AllocError>
         ensures threads { self.new.threads ≡ self.old.threads }
         ensures began { OnOk result (self.new.began.items ≡ self.old.began.items ++ ready.copy ∷ []) }
     {

@@ -5,7 +5,7 @@ ghost use Rattle.cluster.specs.Leaving.{sent_by};
 ghost use Rattle.ruled.specs.Entries.{IsDecided};
 
 use crate::checks::is_no_primary;
-use chronicle::RegistryName;
+use cell::IndexName;
 use master::Request;
 use node::{Got, OnDisk, Receipt};
 use op::Msg;
@@ -42,7 +42,7 @@ impl<T: Drop> Durable<T> {
     }
 }
 
-impl<J: RegistryName> Durable<Receipt<J>> {
+impl<J: IndexName> Durable<Receipt<J>> {
     /// An entry of a copy, where it is on the disk; else it is handed back.
     pub(crate) fn entry(
         receipt: Receipt<J>,
@@ -103,7 +103,7 @@ impl<J: RegistryName> Durable<Receipt<J>> {
     }
 }
 
-impl<J: RegistryName> Durable<Got<J>> {
+impl<J: IndexName> Durable<Got<J>> {
     /// What a copy had of an id, where all that it had done then is on the disk; else it is handed back.
     pub(crate) fn got(got: Got<J>, on_disk: &OnDisk) -> Result<Durable<Got<J>>, Got<J>>
         ensures ok { IfOk result (λ d. (d ≡ got) × (got.place ≤ on_disk.now)) }
@@ -119,7 +119,7 @@ impl<J: RegistryName> Durable<Got<J>> {
 
 impl Durable<Msg> {
     /// The message of a decision of the master on a request, where it has one. The master's log syncs each decision before it is given.
-    pub(crate) fn ruled<J: RegistryName>(
+    pub(crate) fn ruled<J: IndexName>(
         alloc: Global,
         _request: Request,
         decided: &Decided<J>,

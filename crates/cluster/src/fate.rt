@@ -1,6 +1,6 @@
 //! What becomes of a message that was handed to a copy.
 
-use chronicle::RegistryName;
+use cell::IndexName;
 use node::{NodeFault, Receipt};
 use op::{Content, Msg};
 use replica::CopyFault;
@@ -19,7 +19,7 @@ pub(crate) enum Fate {
     Impossible,
 }
 
-pub(crate) fn fate_of<J: RegistryName>(made: &Result<Receipt<J>, NodeFault>) -> Fate {
+pub(crate) fn fate_of<J: IndexName>(made: &Result<Receipt<J>, NodeFault>) -> Fate {
     match made {
         Ok(receipt) => match &receipt.deed().answer {
             Ok(_) => Fate::Settled,

@@ -1,7 +1,7 @@
 //! What a cluster refuses.
 ghost use Rattle.std.specs.Prelude.{◌≡◌};
 
-use chronicle::RegistryName;
+use cell::IndexName;
 use master::MasterFault;
 use node::{NodeFault, Receipt};
 use replica::CopyFault;
@@ -60,7 +60,7 @@ impl Display for ShortLog {
 
 /// Why a write or a bulk isn't confirmed.
 #[derive(Drop)]
-pub enum WriteFault<J: RegistryName> {
+pub enum WriteFault<J: IndexName> {
     /// The copy that the master names isn't the primary, or is closed; with the entry that says so.
     NoPrimary(Receipt<J>),
     /// The copy kept the write, and was the primary no more before it was acknowledged: the write's entry, and the one that ended the role.
@@ -72,7 +72,7 @@ pub enum WriteFault<J: RegistryName> {
     Cluster(ClusterFault),
 }
 
-impl<J: RegistryName> Display for WriteFault<J> {
+impl<J: IndexName> Display for WriteFault<J> {
     fn fmt<W: fmt::Write>(&self, f: &mut fmt::Formatter<W>) -> fmt::Result {
         match self {
             WriteFault::NoPrimary(_) => write!(f, "no copy is the primary"),
@@ -87,7 +87,7 @@ impl<J: RegistryName> Display for WriteFault<J> {
     }
 }
 
-impl<J: RegistryName> From<ClusterFault> for WriteFault<J> {
+impl<J: IndexName> From<ClusterFault> for WriteFault<J> {
     ghost use Rattle.std.specs.Prelude.{◌≡◌};
     ghost use Rattle.cluster.specs.declared.fault.WriteFault.TheVariants.{Cluster};
 
@@ -98,7 +98,7 @@ impl<J: RegistryName> From<ClusterFault> for WriteFault<J> {
     }
 }
 
-impl<J: RegistryName> From<AllocError> for WriteFault<J> {
+impl<J: IndexName> From<AllocError> for WriteFault<J> {
     ghost use Rattle.std.specs.Prelude.{◌≡◌};
     ghost use Rattle.cluster.specs.declared.fault.ClusterFault.TheVariants.{NoMemory};
     ghost use Rattle.cluster.specs.declared.fault.WriteFault.TheVariants.{Cluster};

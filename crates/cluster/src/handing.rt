@@ -5,7 +5,7 @@ ghost use Rattle.ruled.specs.Entries.{IsJournalOf};
 
 use crate::fault::ClusterFault;
 use crate::left::{Journaled, Left, all_kept, stray_in};
-use chronicle::RegistryName;
+use cell::IndexName;
 use journal::Journal;
 use node::Receipt;
 use ruled::{Past, Ruled};
@@ -14,13 +14,13 @@ use translog::LogDevice;
 
 /// The journals of a cluster that has ended: the master's first, whose entries are these, and then those of its copies.
 #[derive(Drop)]
-pub struct HandedOut<J: RegistryName> {
+pub struct HandedOut<J: IndexName> {
     pub journals: Vec<Journal>,
     pub past: Past<J>,
 }
 
 /// The journals of the master and of the copies, which workers leave.
-pub(crate) fn handed_out<D: LogDevice, J: RegistryName>(
+pub(crate) fn handed_out<D: LogDevice, J: IndexName>(
     alloc: Global,
     master: Ruled<D, J>,
     lefts: Vec<Left<J>>,
@@ -38,7 +38,7 @@ pub(crate) fn handed_out<D: LogDevice, J: RegistryName>(
 }
 
 /// The same, once each receipt is seen to stand.
-fn looked_at<D: LogDevice, J: RegistryName>(
+fn looked_at<D: LogDevice, J: IndexName>(
     alloc: Global,
     master: Ruled<D, J>,
     lefts: Vec<Journaled<J>>,
@@ -64,7 +64,7 @@ fn looked_at<D: LogDevice, J: RegistryName>(
 }
 
 /// The journal of the master.
-fn journal_of<D: LogDevice, J: RegistryName>(
+fn journal_of<D: LogDevice, J: IndexName>(
     alloc: Global,
     master: Ruled<D, J>,
 ) -> Result<Journal, ClusterFault>
@@ -78,7 +78,7 @@ fn journal_of<D: LogDevice, J: RegistryName>(
 }
 
 /// The journals of the master, which has these entries, and of the copies.
-fn journals<J: RegistryName>(
+fn journals<J: IndexName>(
     alloc: Global,
     first: Journal,
     past: &Past<J>,

@@ -3,8 +3,7 @@ ghost use Rattle.std.specs.Prelude.{◌≡◌, All, IfOk, IfSome, IfNone, IsTrue
 ghost use Rattle.journal.specs.Lawful.{IsLawful};
 ghost use Rattle.cluster.specs.Journals.{node_of, HasReceipt, IsAllOf, IsLegalJournal, IsOfOneCaller, RiseFrom, StandsIn};
 
-use cell::CopyCell;
-use chronicle::RegistryName;
+use cell::{CopyCell, IndexName};
 use journal::Journal;
 use node::{Heard, Held, Pass, Receipt, gathered, stands_in};
 use std::alloc::{AllocError, Global};
@@ -15,21 +14,21 @@ use translog::LogDevice;
 
 /// What a worker leaves: the journal of its copy with its pass, where memory has them.
 #[derive(Drop)]
-pub(crate) enum Left<J: RegistryName> {
+pub(crate) enum Left<J: IndexName> {
     Kept(Journaled<J>),
     Unkept,
 }
 
 /// The journal of a worker's copy, which is legal, all its entries as callers are told of them, and the worker's pass.
 #[derive(Drop)]
-pub(crate) struct Journaled<J: RegistryName> {
+pub(crate) struct Journaled<J: IndexName> {
     node: u32,
     journal: Journal,
     heard: Option<Heard<J>>,
     pass: Pass<J>,
 }
 
-impl<J: RegistryName> Model for Journaled<J> {
+impl<J: IndexName> Model for Journaled<J> {
     ghost use Rattle.std.specs.Prelude.{◌≡◌};
     ghost use Rattle.journal.specs.Lawful.{IsLawful};
     ghost use Rattle.journal.specs.declared.journal.Journal.{Journal as JournalData};
@@ -42,7 +41,7 @@ impl<J: RegistryName> Model for Journaled<J> {
     ghost invariant = { λ l. (l.node ≡ node_of l.journal) × IsLawful l.journal × IsAllOf l.journal l.heard };
 }
 
-impl<J: RegistryName> Left<J> {
+impl<J: IndexName> Left<J> {
     /// What is left of a copy that was served. It waits for searches that are just taking what is shown.
     #[tactic(auto, using(crate::proofs::Handed::of_closed))]
     pub(crate) fn served<R: Wait, D: LogDevice>(
@@ -83,7 +82,7 @@ impl<J: RegistryName> Left<J> {
 }
 
 /// What workers leave that have journals; nothing where one has none.
-pub(crate) fn all_kept<J: RegistryName>(
+pub(crate) fn all_kept<J: IndexName>(
     alloc: Global,
     lefts: Vec<Left<J>>,
 ) -> Result<Option<Vec<Journaled<J>>>, AllocError>
@@ -99,7 +98,7 @@ pub(crate) fn all_kept<J: RegistryName>(
     Ok(Some(all))
 }
 
-impl<J: RegistryName> Journaled<J> {
+impl<J: IndexName> Journaled<J> {
     /// The place of the worker's first receipt that doesn't stand in the journal, or of the first entry that isn't the worker's, or bears another
     /// number than the copy's.
     #[tactic(auto, using(crate::proofs::Handed::of_one_caller))]
@@ -147,7 +146,7 @@ impl<J: RegistryName> Journaled<J> {
 }
 
 /// The place of the first receipt whose entry bears another number than this.
-fn misnumbered<J: RegistryName>(receipts: &[Receipt<J>], number: u32) -> Option<u64>
+fn misnumbered<J: IndexName>(receipts: &[Receipt<J>], number: u32) -> Option<u64>
     ensures { IfNone result (All (λ r. r.deed.pass ≡ number) receipts.now) }
 {
     for receipt in receipts {
@@ -159,7 +158,7 @@ fn misnumbered<J: RegistryName>(receipts: &[Receipt<J>], number: u32) -> Option<
 }
 
 /// The place of the first entry that has no receipt, where the receipts of all before it come in order.
-fn first_unseen<J: RegistryName>(receipts: &[Receipt<J>]) -> u64 {
+fn first_unseen<J: IndexName>(receipts: &[Receipt<J>]) -> u64 {
     let mut place = 0;
     for receipt in receipts {
         if receipt.place() != place {
@@ -172,10 +171,7 @@ fn first_unseen<J: RegistryName>(receipts: &[Receipt<J>]) -> u64 {
 
 /// The place of the first receipt that stands in no journal: of those that workers kept, and then of some others. Where the journals aren't in the order
 /// of the ids of their copies, it is that of a first entry.
-pub(crate) fn stray_in<J: RegistryName>(
-    lefts: &[Journaled<J>],
-    receipts: &[Receipt<J>],
-) -> Option<u64>
+pub(crate) fn stray_in<J: IndexName>(lefts: &[Journaled<J>], receipts: &[Receipt<J>]) -> Option<u64>
     ensures order { IfNone result (RiseFrom 0 lefts.now) }
     ensures workers { IfNone result (All IsOfOneCaller lefts.now) }
     ensures others { IfNone result (All (StandsIn lefts.now) receipts.now) }
@@ -190,7 +186,7 @@ pub(crate) fn stray_in<J: RegistryName>(
 }
 
 /// Whether the ids of the copies rise.
-fn are_in_order<J: RegistryName>(lefts: &[Journaled<J>]) -> bool
+fn are_in_order<J: IndexName>(lefts: &[Journaled<J>]) -> bool
     ensures { IsTrue result → RiseFrom 0 lefts.now }
 {
     let mut last = 0;
@@ -204,7 +200,7 @@ fn are_in_order<J: RegistryName>(lefts: &[Journaled<J>]) -> bool
     true
 }
 
-fn stray_of_workers<J: RegistryName>(lefts: &[Journaled<J>]) -> Option<u64>
+fn stray_of_workers<J: IndexName>(lefts: &[Journaled<J>]) -> Option<u64>
     ensures { IfNone result (All IsOfOneCaller lefts.now) }
 {
     for left in lefts {
@@ -215,7 +211,7 @@ fn stray_of_workers<J: RegistryName>(lefts: &[Journaled<J>]) -> Option<u64>
     None
 }
 
-fn stray_among<J: RegistryName>(lefts: &[Journaled<J>], receipts: &[Receipt<J>]) -> Option<u64>
+fn stray_among<J: IndexName>(lefts: &[Journaled<J>], receipts: &[Receipt<J>]) -> Option<u64>
     ensures { IfNone result (All (StandsIn lefts.now) receipts.now) }
 {
     for receipt in receipts {
@@ -227,7 +223,7 @@ fn stray_among<J: RegistryName>(lefts: &[Journaled<J>], receipts: &[Receipt<J>])
 }
 
 /// The place of a receipt that stands in none of the journals.
-fn stray_at<J: RegistryName>(lefts: &[Journaled<J>], receipt: &Receipt<J>) -> Option<u64>
+fn stray_at<J: IndexName>(lefts: &[Journaled<J>], receipt: &Receipt<J>) -> Option<u64>
     ensures { IfNone result (StandsIn lefts.now receipt.now) }
 {
     for left in lefts {

@@ -3,7 +3,7 @@
 use crate::gate::Gate;
 use crate::post::Post;
 use crate::worker::Worker;
-use chronicle::RegistryName;
+use cell::IndexName;
 use master::{Request, State};
 use replica::{Input, Role};
 use std::sync::Wait;
@@ -12,7 +12,7 @@ use translog::LogDevice;
 /// How often a copy is opened again before it is given up.
 const RESTARTS: u64 = 3;
 
-impl<D: LogDevice, G: Gate, J: RegistryName> Worker<D, G, J> {
+impl<D: LogDevice, G: Gate, J: IndexName> Worker<D, G, J> {
     pub(crate) fn is_open(&self) -> bool {
         self.copy().snapshot().is_some()
     }

@@ -4,7 +4,7 @@ use crate::channels::sent;
 use crate::gate::Gate;
 use crate::post::Post;
 use crate::worker::Worker;
-use chronicle::RegistryName;
+use cell::IndexName;
 use crossbeam_channel::{Receiver, Sender};
 use engine::{Merged, Merging};
 use replica::Input;
@@ -14,14 +14,14 @@ use translog::LogDevice;
 
 /// What builds the merges of a copy, until its worker has ended.
 #[derive(Drop)]
-pub(crate) struct Merger<R: Wait + Drop, J: RegistryName> {
+pub(crate) struct Merger<R: Wait + Drop, J: IndexName> {
     pub(crate) rt: R,
     pub(crate) alloc: Global,
     pub(crate) merges: Receiver<Merging, Global>,
     pub(crate) worker: Sender<Post<J>, Global>,
 }
 
-impl<R: Wait + Drop, J: RegistryName> Merger<R, J> {
+impl<R: Wait + Drop, J: IndexName> Merger<R, J> {
     /// Builds one merge after another, and hands each to the worker.
     pub(crate) fn run(self) {
         for _ in self.rt.forever() {
@@ -64,7 +64,7 @@ impl Merges {
     }
 }
 
-impl<D: LogDevice, G: Gate, J: RegistryName> Worker<D, G, J> {
+impl<D: LogDevice, G: Gate, J: IndexName> Worker<D, G, J> {
     /// Has a merge built where searches look through many segments and none is being built. Without memory for that the next refresh tries again.
     pub(crate) fn begin_merge<R: Wait>(&mut self, rt: &R) {
         if self.merges.is_under_way || !self.is_open() {

@@ -6,7 +6,7 @@ ghost use Rattle.replica.specs.declared.role.Birth.TheVariants.{Added};
 ghost use Rattle.cluster.specs.Opening.{birth_of, first_with, is_with, keeps, leader_of, most_of, ready, BeganWith, IsFirst, IsKept};
 
 use crate::ready::Ready;
-use doc::Mapping;
+use cell::{IndexLabel, IndexName};
 use journal::Opening;
 use master::Entry;
 use replica::{Birth, Copy, CopyFault};
@@ -128,10 +128,15 @@ pub enum Journals {
 }
 
 /// A copy that is to be served, with a journal that begins as it does.
-fn ready_of<D: LogDevice>(journals: Journals, opening: Opening, copy: Copy<D>) -> Ready<D>
+fn ready_of<D: LogDevice, J: IndexName>(
+    journals: Journals,
+    opening: Opening,
+    copy: Copy<D>,
+) -> Ready<D, J>
     requires copy { copy.copy ≡ opening }
     requires open { copy.closed ≡ false }
     requires whole { opening.point ≡ length opening.records }
+    requires mapping { opening.mapping ≡ J.index.mapping }
     ensures { result ≡ ready (keeps journals) opening }
 {
     match journals {
@@ -144,36 +149,47 @@ fn ready_of<D: LogDevice>(journals: Journals, opening: Opening, copy: Copy<D>) -
 }
 
 /// A copy of a new index of so many, over a device without records.
-pub(crate) fn new_copy<D: LogDevice>(
+pub(crate) fn new_copy<D: LogDevice, J: IndexName>(
     alloc: Global,
     journals: Journals,
     id: u32,
     copies: u32,
-    mapping: &Mapping,
+    label: &IndexLabel<J>,
     device: D,
-) -> Result<Ready<D>, CopyFault>
+) -> Result<Ready<D, J>, CopyFault>
     requires { 1 ≤ copies }
-    ensures { IfOk result (λ r. r ≡ ready (keeps journals) (begun id copies mapping.now)) }
+    ensures { IfOk result (λ r. r ≡ ready (keeps journals) (begun id copies label.now.mapping)) }
 {
-    let opening = Opening::begun(id, copies, mapping.copy(alloc)?);
-    match Copy::begin(alloc, id, copies, mapping.copy(alloc)?, device) {
+    let opening = Opening::begun(id, copies, label.mapping().copy(alloc)?);
+    match Copy::begin(alloc, id, copies, label.mapping().copy(alloc)?, device) {
         Ok(copy) => Ok(ready_of(journals, opening, copy)),
         Err(refused) => Err(refused.into_fault()),
     }
 }
 
 /// A copy that joins an index, over a device without records.
-pub(crate) fn joining_copy<D: LogDevice>(
+pub(crate) fn joining_copy<D: LogDevice, J: IndexName>(
     alloc: Global,
     journals: Journals,
     id: u32,
-    mapping: &Mapping,
+    label: &IndexLabel<J>,
     device: D,
-) -> Result<Ready<D>, CopyFault>
-    ensures { IfOk result (λ r. r ≡ ready (keeps journals) (opened id Added mapping.now [])) }
+) -> Result<Ready<D, J>, CopyFault>
+    ensures { IfOk result (λ r. r ≡ ready (keeps journals) (opened id Added label.now.mapping [])) }
 {
-    let opening = Opening::opened(id, Birth::Added, mapping.copy(alloc)?, Vec::new(alloc));
-    match Copy::open(alloc, id, Birth::Added, mapping.copy(alloc)?, device) {
+    let opening = Opening::opened(
+        id,
+        Birth::Added,
+        label.mapping().copy(alloc)?,
+        Vec::new(alloc),
+    );
+    match Copy::open(
+        alloc,
+        id,
+        Birth::Added,
+        label.mapping().copy(alloc)?,
+        device,
+    ) {
         Ok(copy) => {
             if copy.point() == 0 {
                 Ok(ready_of(journals, opening, copy))
@@ -186,55 +202,61 @@ pub(crate) fn joining_copy<D: LogDevice>(
 }
 
 /// The copy that a device holds; its journal begins with the records that it holds. One that joined the index has some.
-pub(crate) fn kept_copy<D: LogDevice>(
+pub(crate) fn kept_copy<D: LogDevice, J: IndexName>(
     alloc: Global,
     journals: Journals,
     id: u32,
     birth: Birth,
-    mapping: &Mapping,
+    label: &IndexLabel<J>,
     device: D,
-) -> Result<Ready<D>, CopyFault>
-    ensures { IfOk result (IsKept id birth mapping.now (D.bytes device) (keeps journals)) }
+) -> Result<Ready<D, J>, CopyFault>
+    ensures { IfOk result (IsKept id birth label.now.mapping (D.bytes device) (keeps journals)) }
 {
     match journals {
-        Journals::Kept => journaled_copy(alloc, id, birth, mapping, device),
-        Journals::Unkept => unjournaled_copy(alloc, id, birth, mapping, device),
+        Journals::Kept => journaled_copy(alloc, id, birth, label, device),
+        Journals::Unkept => unjournaled_copy(alloc, id, birth, label, device),
     }
 }
 
 /// One whose journal is kept, for which the records are read once more.
-fn journaled_copy<D: LogDevice>(
+fn journaled_copy<D: LogDevice, J: IndexName>(
     alloc: Global,
     id: u32,
     birth: Birth,
-    mapping: &Mapping,
+    label: &IndexLabel<J>,
     device: D,
-) -> Result<Ready<D>, CopyFault>
-    ensures { IfOk result (IsKept id birth mapping.now (D.bytes device) true) }
+) -> Result<Ready<D, J>, CopyFault>
+    ensures { IfOk result (IsKept id birth label.now.mapping (D.bytes device) true) }
 {
     let mut log = Translog::over(device);
     let (records, _torn) = log.read(alloc)?;
     if birth == Birth::Added && records.is_empty() {
         return Err(CopyFault::Mismatch);
     }
-    let opening = Opening::opened(id, birth, mapping.copy(alloc)?, records);
-    match Copy::open(alloc, id, birth, mapping.copy(alloc)?, log.into_device()) {
+    let opening = Opening::opened(id, birth, label.mapping().copy(alloc)?, records);
+    match Copy::open(
+        alloc,
+        id,
+        birth,
+        label.mapping().copy(alloc)?,
+        log.into_device(),
+    ) {
         Ok(copy) => Ok(Ready::of(copy, Some(opening))),
         Err(refused) => Err(refused.into_fault()),
     }
 }
 
 /// One whose journal isn't.
-fn unjournaled_copy<D: LogDevice>(
+fn unjournaled_copy<D: LogDevice, J: IndexName>(
     alloc: Global,
     id: u32,
     birth: Birth,
-    mapping: &Mapping,
+    label: &IndexLabel<J>,
     device: D,
-) -> Result<Ready<D>, CopyFault>
-    ensures { IfOk result (IsKept id birth mapping.now (D.bytes device) false) }
+) -> Result<Ready<D, J>, CopyFault>
+    ensures { IfOk result (IsKept id birth label.now.mapping (D.bytes device) false) }
 {
-    match Copy::open(alloc, id, birth, mapping.copy(alloc)?, device) {
+    match Copy::open(alloc, id, birth, label.mapping().copy(alloc)?, device) {
         Ok(copy) => {
             if birth == Birth::Added && copy.point() == 0 {
                 Err(CopyFault::Mismatch)

@@ -3,7 +3,7 @@ ghost use Rattle.std.specs.Prelude.{◌≡◌, [], ◌∷◌, ◌++◌, List, If
 
 use crate::durable::Durable;
 use crate::post::{Answered, BulkEnding, Ending};
-use chronicle::RegistryName;
+use cell::IndexName;
 use crossbeam_channel::Sender;
 use node::{Got, NodeFault, Receipt};
 use std::alloc::Global;
@@ -11,7 +11,7 @@ use std::collections::VecDeque;
 
 /// Who asked for an entry.
 #[derive(Drop)]
-pub(crate) enum Asked<J: RegistryName> {
+pub(crate) enum Asked<J: IndexName> {
     /// Another copy, the master, or the worker itself.
     Within,
     Call(Sender<Answered<J>, Global>),
@@ -23,7 +23,7 @@ pub(crate) enum Asked<J: RegistryName> {
 
 /// An entry that isn't told yet.
 #[derive(Drop)]
-pub(crate) struct Entry<J: RegistryName> {
+pub(crate) struct Entry<J: IndexName> {
     pub(crate) receipt: Receipt<J>,
     /// Whether the copy was the primary after it.
     pub(crate) leads: bool,
@@ -34,7 +34,7 @@ pub(crate) struct Entry<J: RegistryName> {
 
 /// What waits until it is on the disk.
 #[derive(Drop)]
-pub(crate) enum Parcel<J: RegistryName> {
+pub(crate) enum Parcel<J: IndexName> {
     Entry(Entry<J>),
     /// What the copy had of an id.
     Got(Got<J>, Sender<Result<Durable<Got<J>>, NodeFault>, Global>),
@@ -44,11 +44,11 @@ pub(crate) enum Parcel<J: RegistryName> {
 
 /// The parcels of a worker, oldest first.
 #[derive(Drop)]
-pub(crate) struct Outbox<J: RegistryName> {
+pub(crate) struct Outbox<J: IndexName> {
     parcels: VecDeque<Parcel<J>>,
 }
 
-impl<J: RegistryName> Outbox<J> {
+impl<J: IndexName> Outbox<J> {
     pub(crate) fn new(alloc: Global) -> Outbox<J>
         ensures { result.parcels.items ≡ [] }
     {

@@ -1,8 +1,7 @@
 //! What a worker is sent.
 
 use crate::durable::Durable;
-use cell::CopySearcher;
-use chronicle::RegistryName;
+use cell::{CopySearcher, IndexName};
 use crossbeam_channel::Sender;
 use doc::DocId;
 use engine::Merged;
@@ -19,7 +18,7 @@ pub(crate) type Seated<J> = Result<CopySearcher<J>, NodeFault>;
 
 /// How the waiting for a write's acknowledgement ended.
 #[derive(Drop)]
-pub(crate) enum Ending<J: RegistryName> {
+pub(crate) enum Ending<J: IndexName> {
     /// By an entry that acknowledges it.
     Acknowledged(Durable<Receipt<J>>),
     /// By an entry after which the copy is the primary of that term no more.
@@ -28,7 +27,7 @@ pub(crate) enum Ending<J: RegistryName> {
 
 /// How the waiting for the acknowledgements of a bulk's writes ended.
 #[derive(Drop)]
-pub(crate) enum BulkEnding<J: RegistryName> {
+pub(crate) enum BulkEnding<J: IndexName> {
     /// By the entries that acknowledge those that were kept, each once.
     Acknowledged(Vec<Durable<Receipt<J>>>),
     /// By an entry after which the copy is the primary of that term no more.
@@ -37,7 +36,7 @@ pub(crate) enum BulkEnding<J: RegistryName> {
 
 /// What a worker is sent.
 #[derive(Drop)]
-pub(crate) enum Post<J: RegistryName> {
+pub(crate) enum Post<J: IndexName> {
     Ask(Input, Sender<Answered<J>, Global>),
     /// A write: its own entry is answered first, and how it ended when it has.
     Write(Write, Sender<Answered<J>, Global>, Sender<Ending<J>, Global>),
@@ -60,7 +59,7 @@ pub(crate) enum Post<J: RegistryName> {
 
 /// Where the posts of a copy go.
 #[derive(Drop)]
-pub(crate) struct Route<J: RegistryName> {
+pub(crate) struct Route<J: IndexName> {
     pub(crate) copy: u32,
     pub(crate) to: Sender<Post<J>, Global>,
 }

@@ -5,24 +5,25 @@ ghost use Rattle.cluster.specs.Opening.{ready};
 ghost use Rattle.node.specs.Held.{journal};
 ghost use Rattle.node.specs.Reading.{standing};
 
-use cell::CopyCell;
-use chronicle::{Registry, RegistryName};
+use cell::{CopyCell, IndexName};
+use chronicle::Registry;
 use journal::{Deed, Opening};
 use node::Held;
 use replica::Copy;
 use std::alloc::{AllocError, Global};
-use std::marker::Model;
+use std::marker::{Model, PhantomData};
 use std::sync::Wait;
 use translog::LogDevice;
 
 /// A copy that is open and shows all of its records, as each does when it is opened; and what its journal begins with, where memory is to have that.
 #[derive(Drop)]
-pub(crate) struct Ready<D: LogDevice> {
+pub(crate) struct Ready<D: LogDevice, J: IndexName> {
     copy: Copy<D>,
     opening: Option<Opening>,
+    of: PhantomData<J>,
 }
 
-impl<D: LogDevice> Model for Ready<D> {
+impl<D: LogDevice, J: IndexName> Model for Ready<D, J> {
     ghost use Rattle.std.specs.Prelude.{◌≡◌, false, is_some, length, IfSome};
     ghost use Rattle.cluster.specs.Opening.{ready, ReadyData};
 
@@ -30,17 +31,22 @@ impl<D: LogDevice> Model for Ready<D> {
 
     ghost view = { λ r. ready (is_some r.opening) r.copy.copy };
 
-    ghost invariant = { λ r. (r.copy.closed ≡ false) × (r.copy.copy.point ≡ length r.copy.copy.records) × IfSome r.opening (λ o. o ≡ r.copy.copy) };
+    ghost invariant = { λ r. (r.copy.closed ≡ false) × (r.copy.copy.point ≡ length r.copy.copy.records) × IfSome r.opening (λ o. o ≡ r.copy.copy) × (r.copy.copy.mapping ≡ J.index.mapping) };
 }
 
-impl<D: LogDevice> Ready<D> {
-    pub(crate) fn of(copy: Copy<D>, opening: Option<Opening>) -> Ready<D>
+impl<D: LogDevice, J: IndexName> Ready<D, J> {
+    pub(crate) fn of(copy: Copy<D>, opening: Option<Opening>) -> Ready<D, J>
         requires open { copy.closed ≡ false }
         requires whole { copy.copy.point ≡ length copy.copy.records }
         requires same { IfSome opening (λ o. o ≡ copy.copy) }
+        requires mapping { copy.copy.mapping ≡ J.index.mapping }
         ensures { result ≡ ready (is_some opening) copy.copy }
     {
-        Ready { copy, opening }
+        Ready {
+            copy,
+            opening,
+            of: PhantomData,
+        }
     }
 
     /// The copy.
@@ -51,14 +57,18 @@ impl<D: LogDevice> Ready<D> {
     }
 
     /// The copy with a journal that begins, among those of a cluster.
-    pub(crate) fn registered<J: RegistryName>(
+    pub(crate) fn registered(
         self,
         alloc: Global,
         registry: &mut Registry<Deed, J>,
     ) -> Result<Journaling<D, J>, AllocError>
         ensures { IfOk result (λ j. j.held ≡ journal self.kept self.copy []) }
     {
-        let Ready { copy, opening } = self;
+        let Ready {
+            copy,
+            opening,
+            of: _,
+        } = self;
         let held = match opening {
             Some(opening) => Held::new(alloc, opening, copy, registry),
             None => Held::unkept(copy, registry),
@@ -75,12 +85,13 @@ impl<D: LogDevice> Ready<D> {
 
 /// A copy that shows all of its records, with its journal.
 #[derive(Drop)]
-pub(crate) struct Journaling<D: LogDevice, J: RegistryName> {
+pub(crate) struct Journaling<D: LogDevice, J: IndexName> {
     pub(crate) held: Held<D, J>,
     pub(crate) ghost whole: { (standing held).copy.point ≡ length (standing held).copy.records },
+    pub(crate) ghost under: { (standing held).copy.mapping ≡ J.index.mapping },
 }
 
-impl<D: LogDevice, J: RegistryName> Journaling<D, J> {
+impl<D: LogDevice, J: IndexName> Journaling<D, J> {
     /// The copy with what searches see of it; without memory for that it is given back.
     pub(crate) fn begin<R: Wait>(self, rt: &R, alloc: Global) -> Result<CopyCell<D, J>, Held<D, J>>
         ensures begun { IfOk result (IsBegun self.held) }

@@ -10,7 +10,7 @@ use crate::gate::Gate;
 use crate::outbox::{Asked, Entry, Parcel};
 use crate::post::{BulkEnding, Ending, Post};
 use crate::worker::Worker;
-use chronicle::RegistryName;
+use cell::IndexName;
 use crossbeam_channel::{Receiver, Sender};
 use node::{Got, NodeFault, OnDisk, Receipt};
 use replica::CopyFault;
@@ -29,7 +29,7 @@ pub(crate) fn unsynced() -> NodeFault {
     NodeFault::Copy(CopyFault::Log(LogFault::Device))
 }
 
-impl<D: LogDevice, G: Gate, J: RegistryName> Worker<D, G, J> {
+impl<D: LogDevice, G: Gate, J: IndexName> Worker<D, G, J> {
     /// Does a post, and those that wait behind it as long as something of it isn't on the disk; then what they tell leaves. Tells whether it goes on.
     /// Where each append is synced, each post leaves by itself.
     pub(crate) fn serve_waiting<R: Wait>(
@@ -318,7 +318,7 @@ impl<D: LogDevice, G: Gate, J: RegistryName> Worker<D, G, J> {
 }
 
 /// Tells who asked for an entry that isn't on the disk that the log has failed; or that the copy is closed or isn't the primary, where that is the entry.
-fn refuse<R: Wait, J: RegistryName>(rt: &R, receipt: Receipt<J>, asked: Asked<J>) {
+fn refuse<R: Wait, J: IndexName>(rt: &R, receipt: Receipt<J>, asked: Asked<J>) {
     let told = match Durable::idle(receipt) {
         Ok(entry) => Ok(entry),
         Err(receipt) => {
@@ -344,7 +344,7 @@ fn refuse<R: Wait, J: RegistryName>(rt: &R, receipt: Receipt<J>, asked: Asked<J>
 }
 
 /// The same of an entry that is kept.
-fn refuse_copied<R: Wait, J: RegistryName>(
+fn refuse_copied<R: Wait, J: IndexName>(
     alloc: Global,
     rt: &R,
     receipt: &Receipt<J>,
@@ -361,7 +361,7 @@ fn refuse_copied<R: Wait, J: RegistryName>(
 }
 
 /// Tells what the copy had of an id.
-fn tell_got<R: Wait, J: RegistryName>(
+fn tell_got<R: Wait, J: IndexName>(
     rt: &R,
     got: Got<J>,
     to: Sender<Result<Durable<Got<J>>, NodeFault>, Global>,

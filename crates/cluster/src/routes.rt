@@ -4,14 +4,14 @@ use crate::channels::sent;
 use crate::fault::ClusterFault;
 use crate::post::{Post, Route};
 use crate::shared::Shared;
-use chronicle::RegistryName;
+use cell::IndexName;
 use crossbeam_channel::{Receiver, Sender, unbounded};
 use std::alloc::Global;
 use std::sync::Wait;
 use translog::LogDevice;
 
 /// The inbox of a copy's worker, which posts reach from now on, and a way to it.
-pub(crate) fn inbox_of<R: Wait, D: LogDevice, J: RegistryName>(
+pub(crate) fn inbox_of<R: Wait, D: LogDevice, J: IndexName>(
     rt: &R,
     alloc: Global,
     shared: &Shared<D, J>,
@@ -23,7 +23,7 @@ pub(crate) fn inbox_of<R: Wait, D: LogDevice, J: RegistryName>(
     Ok((another, inbox))
 }
 
-fn add_route<R: Wait, D: LogDevice, J: RegistryName>(
+fn add_route<R: Wait, D: LogDevice, J: IndexName>(
     rt: &R,
     shared: &Shared<D, J>,
     route: Route<J>,
@@ -33,7 +33,7 @@ fn add_route<R: Wait, D: LogDevice, J: RegistryName>(
     Ok(())
 }
 
-pub(crate) fn remove_route<R: Wait, D: LogDevice, J: RegistryName>(
+pub(crate) fn remove_route<R: Wait, D: LogDevice, J: IndexName>(
     rt: &R,
     shared: &Shared<D, J>,
     copy: u32,
@@ -43,7 +43,7 @@ pub(crate) fn remove_route<R: Wait, D: LogDevice, J: RegistryName>(
 }
 
 /// Tells all workers to end, behind what waits for them.
-pub(crate) fn stop<R: Wait, D: LogDevice, J: RegistryName>(rt: &R, shared: &Shared<D, J>) {
+pub(crate) fn stop<R: Wait, D: LogDevice, J: IndexName>(rt: &R, shared: &Shared<D, J>) {
     let mut routes = shared.routes.lock(rt);
     for route in routes.as_slice() {
         sent(rt, &route.to, Post::Stop);

@@ -5,7 +5,7 @@ ghost use Rattle.ruled.specs.Entries.{IsDecided, IsKnown, IsLeading};
 use crate::channels::sent;
 use crate::durable::Durable;
 use crate::post::{Post, Route};
-use chronicle::RegistryName;
+use cell::IndexName;
 use master::{MasterFault, Request};
 use op::{Content, Msg};
 use ruled::{Decided, Known, Leading, Ruled, copied};
@@ -15,7 +15,7 @@ use translog::LogDevice;
 
 /// The master behind a lock, and the inbox of each copy's worker. No lock is taken while another is held.
 #[derive(Drop)]
-pub(crate) struct Shared<D: LogDevice, J: RegistryName> {
+pub(crate) struct Shared<D: LogDevice, J: IndexName> {
     pub(crate) master: Mutex<Ruled<D, J>>,
     pub(crate) routes: Mutex<Vec<Route<J>>>,
     /// Why the master could make no copy the primary, the last time that one was to be made.
@@ -39,7 +39,7 @@ fn is_disabled(fault: &MasterFault) -> bool {
     )
 }
 
-impl<D: LogDevice, J: RegistryName> Shared<D, J> {
+impl<D: LogDevice, J: IndexName> Shared<D, J> {
     /// Hands a post to a copy's worker, and tells whether there is one that takes it.
     pub(crate) fn hand<R: Wait>(&self, rt: &R, copy: u32, post: Post<J>) -> bool {
         let routes = self.routes.lock(rt);

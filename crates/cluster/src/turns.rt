@@ -4,14 +4,14 @@ use crate::gate::Gate;
 use crate::post::Post;
 use crate::releasing::TOGETHER;
 use crate::worker::Worker;
-use chronicle::RegistryName;
+use cell::IndexName;
 use crossbeam_channel::Receiver;
 use std::alloc::Global;
 use std::sync::Wait;
 use translog::LogDevice;
 
 /// Whether a post is a caller's, and waits behind those of callers that came before it. A searcher waits for nobody.
-fn is_of_caller<J: RegistryName>(post: &Post<J>) -> bool {
+fn is_of_caller<J: IndexName>(post: &Post<J>) -> bool {
     match post {
         Post::Ask(_, _) | Post::Write(_, _, _) | Post::Bulk(_, _, _) | Post::Get(_, _) => true,
         Post::Hand(_, _)
@@ -23,7 +23,7 @@ fn is_of_caller<J: RegistryName>(post: &Post<J>) -> bool {
     }
 }
 
-impl<D: LogDevice, G: Gate, J: RegistryName> Worker<D, G, J> {
+impl<D: LogDevice, G: Gate, J: IndexName> Worker<D, G, J> {
     /// The next post that is to be done: of those that are held back the oldest, where it may be done now; else one that comes, for which it waits.
     /// Nothing where nobody can send one any more.
     pub(crate) fn next<R: Wait>(

@@ -3,7 +3,7 @@
 use crate::channels::sent;
 use crate::durable::Durable;
 use crate::post::{BulkEnding, Ending};
-use chronicle::RegistryName;
+use cell::IndexName;
 use crossbeam_channel::Sender;
 use node::Receipt;
 use op::Op;
@@ -14,7 +14,7 @@ use std::sync::Wait;
 
 /// A write that waits for its acknowledgement.
 #[derive(Drop)]
-struct Waiting<J: RegistryName> {
+struct Waiting<J: IndexName> {
     seq: u64,
     term: u64,
     to: Sender<Ending<J>, Global>,
@@ -22,7 +22,7 @@ struct Waiting<J: RegistryName> {
 
 /// A bulk that waits for the acknowledgements of its writes.
 #[derive(Drop)]
-struct WaitingBulk<J: RegistryName> {
+struct WaitingBulk<J: IndexName> {
     /// The writes that aren't acknowledged yet.
     left: Vec<Written>,
     /// The entries that acknowledge the others, each once.
@@ -30,7 +30,7 @@ struct WaitingBulk<J: RegistryName> {
     to: Sender<BulkEnding<J>, Global>,
 }
 
-impl<J: RegistryName> WaitingBulk<J> {
+impl<J: IndexName> WaitingBulk<J> {
     /// Takes note of what an entry acknowledges, and tells whether the bulk goes on waiting. Where there is no memory for that its wait ends.
     fn waits_on<R: Wait>(&mut self, rt: &R, alloc: Global, entry: &Durable<Receipt<J>>) -> bool {
         if !self.is_struck(entry) {
@@ -87,13 +87,13 @@ fn kept(alloc: Global, items: &[Item]) -> Result<Vec<Written>, AllocError> {
 
 /// The writes and the bulks of a copy that wait. One that is let go without being told of its end is unconfirmed: whether it stands is open.
 #[derive(Drop)]
-pub(crate) struct Waits<J: RegistryName> {
+pub(crate) struct Waits<J: IndexName> {
     alloc: Global,
     items: Vec<Waiting<J>>,
     bulks: Vec<WaitingBulk<J>>,
 }
 
-impl<J: RegistryName> Waits<J> {
+impl<J: IndexName> Waits<J> {
     pub(crate) fn new(alloc: Global) -> Waits<J> {
         Waits {
             alloc,
@@ -180,6 +180,6 @@ impl<J: RegistryName> Waits<J> {
 }
 
 /// Whether what a bulk waits for is of this term.
-fn is_of<J: RegistryName>(bulk: &WaitingBulk<J>, term: u64) -> bool {
+fn is_of<J: IndexName>(bulk: &WaitingBulk<J>, term: u64) -> bool {
     bulk.left.iter().all(|written| written.term == term)
 }

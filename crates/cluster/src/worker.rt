@@ -12,8 +12,7 @@ use crate::post::{Answered, BulkEnding, Ending, Post, Seated};
 use crate::releasing::unsynced;
 use crate::shared::Shared;
 use crate::waits::Waits;
-use cell::CopyCell;
-use chronicle::RegistryName;
+use cell::{CopyCell, IndexName};
 use crossbeam_channel::Sender;
 use doc::DocId;
 use engine::Merging;
@@ -29,7 +28,7 @@ const TRIES: u32 = 100;
 
 /// What a worker has beside its copy: the gate, what all workers share, who builds its merges, and its pass.
 #[derive(Drop)]
-pub(crate) struct Tools<D: LogDevice, G: Gate, J: RegistryName> {
+pub(crate) struct Tools<D: LogDevice, G: Gate, J: IndexName> {
     pub(crate) gate: Arc<G, Global>,
     pub(crate) shared: Arc<Shared<D, J>, Global>,
     pub(crate) merges: Sender<Merging, Global>,
@@ -37,7 +36,7 @@ pub(crate) struct Tools<D: LogDevice, G: Gate, J: RegistryName> {
 }
 
 /// A copy, its pass, what it hasn't told yet, who waits for it, which posts are held back, and its merges. It is not `Drop`: end it by `into_left`.
-pub(crate) struct Worker<D: LogDevice, G: Gate, J: RegistryName> {
+pub(crate) struct Worker<D: LogDevice, G: Gate, J: IndexName> {
     pub(crate) alloc: Global,
     pub(crate) number: u64,
     pub(crate) gate: Arc<G, Global>,
@@ -56,7 +55,7 @@ pub(crate) struct Worker<D: LogDevice, G: Gate, J: RegistryName> {
     pub(crate) is_to_lead: bool,
 }
 
-impl<D: LogDevice, G: Gate, J: RegistryName> Worker<D, G, J> {
+impl<D: LogDevice, G: Gate, J: IndexName> Worker<D, G, J> {
     pub(crate) fn new(
         alloc: Global,
         tools: Tools<D, G, J>,

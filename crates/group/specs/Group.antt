@@ -1,6 +1,7 @@
 -- What an index of several copies answers a command.
 use Rattle.std.specs.Prelude.{◌≡◌, ◌⊎◌, ℕ, Bool, true, false, List, [], ◌∷◌, map, Option, Some, None, option_map, Result, Ok, Err, slice_get, unwrap_or, All, IfSome}
 use Rattle.doc.specs.Id.{Id}
+use Rattle.doc.specs.Mapping.{MappingData}
 use Rattle.op.specs.declared.message.Msg.{Msg}
 use Rattle.replica.specs.declared.fault.CopyFault.{CopyFault}
 use Rattle.replica.specs.declared.output.Answer.{Answer}
@@ -127,20 +128,20 @@ master_refusal master.NoMemory = NoMemory
 master_refusal master.Full = Full
 
 -- what is asked was done
-abbrev pub IsDone : Type 0 → KnownData → Command → Reply → KnownData → Type 0
-IsDone J before (write w) r after = IsWritten J before w r after
-IsDone J before (bulk ws) r after = IsBulkWritten J before ws r after
-IsDone J before (get id) r after = IsGot before id r after
-IsDone J before (search q page) r after = IsFound before q page r after
-IsDone J before (count q) r after = IsCounted before q r after
-IsDone J before refresh r after = IsRefreshed before r after
-IsDone J before (promote copy) r after = IsPromoted before copy r after
+abbrev pub IsDone : Type 0 → MappingData → KnownData → Command → Reply → KnownData → Type 0
+IsDone J m before (write w) r after = IsWritten J before w r after
+IsDone J m before (bulk ws) r after = IsBulkWritten J before ws r after
+IsDone J m before (get id) r after = IsGot before id r after
+IsDone J m before (search q page) r after = IsFound m before q page r after
+IsDone J m before (count q) r after = IsCounted m before q r after
+IsDone J m before refresh r after = IsRefreshed before r after
+IsDone J m before (promote copy) r after = IsPromoted before copy r after
 
 -- what is asked was refused
 pub record IsRefused (r : Reply) : Type 0 where
   pub refusal : Refusal
   pub told : r ≡ refused refusal
 
--- a reply of copies whose journals are those of one registry, and what the client knows then
-abbrev pub IsTold : Type 0 → KnownData → Command → Reply → KnownData → Type 0
-IsTold J before c r after = IsDone J before c r after ⊎ (IsRefused r × (after ≡ before))
+-- a reply of copies whose journals are those of one registry, and which are under one mapping, and what the client knows then
+abbrev pub IsTold : Type 0 → MappingData → KnownData → Command → Reply → KnownData → Type 0
+IsTold J m before c r after = IsDone J m before c r after ⊎ (IsRefused r × (after ≡ before))

@@ -1,5 +1,6 @@
 -- What a client is told of the documents that copies show.
 use Rattle.std.specs.Prelude.{◌≡◌, ℕ, List, length, IfSome}
+use Rattle.doc.specs.Mapping.{MappingData}
 use Rattle.engine.specs.Answer.{Answer, SnapshotData, found}
 use Rattle.op.specs.Documents.{documents}
 use Rattle.op.specs.Records.{operations}
@@ -13,25 +14,26 @@ use Rattle.front.specs.Reply.{Reply, counted, refreshed}
 use Rattle.shard.specs.Answering.{hits_of}
 use Rattle.group.specs.Known.{KnownData, HasRefreshed, IsLedBehind, seen_at}
 
--- the list was published: it is the last of a history in which each goes on from the one before it. Its records are those that the copy has at this place of
--- its journal
-pub record IsShownAt (l : Listing) (at : PointData) : Type 0 where
+-- the list was published: it is the last of a history in which each goes on from the one before it. It is under this mapping, and its records are those that
+-- the copy has at this place of its journal
+pub record IsShownAt (m : MappingData) (l : Listing) (at : PointData) : Type 0 where
   pub history : List Listing
   pub chain : IsChain history
   pub last : IsLast history l
+  pub mapping : l.mapping ≡ m
   pub records : at.records ≡ l.records
   pub stands : IsPoint at
 
 -- the hits are those of such a list
-pub record IsFoundAt (q : Query) (page : PageData) (hits : Answer) (at : PointData) : Type 0 where
+pub record IsFoundAt (m : MappingData) (q : Query) (page : PageData) (hits : Answer) (at : PointData) : Type 0 where
   pub listing : Listing
-  pub shown : IsShownAt listing at
+  pub shown : IsShownAt m listing at
   pub found : hits ≡ answer_in listing q page
 
 -- the client sees the list, of the primary, and of no place before the one that it saw of that copy last; and what it knows then
-pub record IsSeen (before : KnownData) (l : Listing) (after : KnownData) : Type 0 where
+pub record IsSeen (m : MappingData) (before : KnownData) (l : Listing) (after : KnownData) : Type 0 where
   pub at : PointData
-  pub shown : IsShownAt l at
+  pub shown : IsShownAt m l at
   pub later : IfSome before.seen (λ h. IsShownBehind h at)
   pub led : IsLedBehind before.past at.node after.past
   pub now : after ≡ seen_at before at after.past
@@ -41,15 +43,15 @@ abbrev pub shown_in : Listing → SnapshotData
 shown_in l = record { mapping = l.mapping; documents = documents (operations l.records) }
 
 -- the reply has the hits among the documents of the list that is seen
-pub record IsFound (before : KnownData) (q : Query) (page : PageData) (r : Reply) (after : KnownData) : Type 0 where
+pub record IsFound (m : MappingData) (before : KnownData) (q : Query) (page : PageData) (r : Reply) (after : KnownData) : Type 0 where
   pub listing : Listing
-  pub seen : IsSeen before listing after
+  pub seen : IsSeen m before listing after
   pub hits_are : r ≡ hits_of (answer_in listing q page)
 
 -- the reply has the number of the documents in it that the query means
-pub record IsCounted (before : KnownData) (q : Query) (r : Reply) (after : KnownData) : Type 0 where
+pub record IsCounted (m : MappingData) (before : KnownData) (q : Query) (r : Reply) (after : KnownData) : Type 0 where
   pub listing : Listing
-  pub seen : IsSeen before listing after
+  pub seen : IsSeen m before listing after
   pub total_is : r ≡ counted (length (found (shown_in listing) q))
 
 -- the reply tells how many copies were refreshed

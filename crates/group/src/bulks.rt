@@ -6,7 +6,7 @@ ghost use Rattle.node.specs.Heard.{HasEntry};
 ghost use Rattle.group.specs.Group.{count_by, counted_at, replies_at, HasBulk, IsBulkTold};
 
 use crate::group::counted_in;
-use chronicle::RegistryName;
+use cell::IndexName;
 use cluster::{ClusterFault, ConfirmedBulk};
 use front::reply::{ItemReply, Reply};
 use node::{Heard, Receipt};
@@ -16,7 +16,7 @@ use std::alloc::{AllocError, Global};
 
 /// What a client knows behind a bulk: the entries of its journal up to the last that acknowledges a write of it. Nothing where its receipts aren't of
 /// one journal, as those of a cluster are.
-pub(crate) fn heard_behind<J: RegistryName>(confirmed: &ConfirmedBulk<J>) -> Option<Heard<J>>
+pub(crate) fn heard_behind<J: IndexName>(confirmed: &ConfirmedBulk<J>) -> Option<Heard<J>>
     ensures { IfSome result (HasBulk confirmed.now) }
 {
     let entries = confirmed.acknowledgements.as_slice();
@@ -29,7 +29,7 @@ pub(crate) fn heard_behind<J: RegistryName>(confirmed: &ConfirmedBulk<J>) -> Opt
 }
 
 /// What the last of some entries tells.
-fn last_heard<J: RegistryName>(first: &Receipt<J>, others: &[Receipt<J>]) -> Heard<J> {
+fn last_heard<J: IndexName>(first: &Receipt<J>, others: &[Receipt<J>]) -> Heard<J> {
     let mut heard = Heard::by(first);
     for other in others {
         if heard.is_before(other) {
@@ -40,7 +40,7 @@ fn last_heard<J: RegistryName>(first: &Receipt<J>, others: &[Receipt<J>]) -> Hea
 }
 
 /// Whether each of some entries was heard.
-fn has_all<J: RegistryName>(heard: &Heard<J>, entries: &[Receipt<J>]) -> bool
+fn has_all<J: IndexName>(heard: &Heard<J>, entries: &[Receipt<J>]) -> bool
     ensures { IsTrue result → All (HasEntry heard.now) entries.now }
 {
     for entry in entries {
@@ -52,7 +52,7 @@ fn has_all<J: RegistryName>(heard: &Heard<J>, entries: &[Receipt<J>]) -> bool
 }
 
 /// The reply that tells a bulk that is confirmed.
-pub(crate) fn told_bulk<J: RegistryName>(
+pub(crate) fn told_bulk<J: IndexName>(
     alloc: Global,
     confirmed: ConfirmedBulk<J>,
 ) -> Result<Reply, ClusterFault>
@@ -71,7 +71,7 @@ pub(crate) fn told_bulk<J: RegistryName>(
 }
 
 /// What became of the writes of a receipt's bulk.
-fn items_of<J: RegistryName>(bulk: Receipt<J>) -> Option<Items>
+fn items_of<J: IndexName>(bulk: Receipt<J>) -> Option<Items>
     ensures { IfSome result (λ items. cluster.bulked bulk.deed.answer ≡ Some items) }
 {
     items_in(bulk.into_deed().answer)
@@ -97,7 +97,7 @@ fn items_by(answer: Answer) -> Option<Items>
 
 /// What became of each write of a bulk, with the copies that the entry at its place counts.
 #[tactic(auto, using(crate::proofs::Replying::replies_more, crate::proofs::Replying::as_many))]
-fn replies_at<J: RegistryName>(
+fn replies_at<J: IndexName>(
     alloc: Global,
     items: Items,
     places: &[usize],
@@ -114,7 +114,7 @@ fn replies_at<J: RegistryName>(
 }
 
 /// How many copies the entry counts whose place comes at some place; 0 where none comes there.
-fn count_by<J: RegistryName>(entries: &[Receipt<J>], places: &[usize], at: usize) -> u64
+fn count_by<J: IndexName>(entries: &[Receipt<J>], places: &[usize], at: usize) -> u64
     ensures { result ≡ count_by entries.now (slice_get places.now at) }
 {
     match places.get(at) {
@@ -124,7 +124,7 @@ fn count_by<J: RegistryName>(entries: &[Receipt<J>], places: &[usize], at: usize
 }
 
 /// How many copies the entry at a place counts.
-fn counted_at<J: RegistryName>(entries: &[Receipt<J>], place: usize) -> u64
+fn counted_at<J: IndexName>(entries: &[Receipt<J>], place: usize) -> u64
     ensures { result ≡ counted_at entries.now place }
 {
     match entries.get(place) {

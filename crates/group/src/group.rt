@@ -13,8 +13,7 @@ use crate::bulks::{heard_behind, told_bulk};
 use crate::known::{Known, is_ahead};
 use crate::promoting::{Promotion, is_promotion, promoted, refusal_to};
 use crate::searching::{Chair, reply_with};
-use cell::FoundAt;
-use chronicle::RegistryName;
+use cell::{FoundAt, IndexLabel, IndexName};
 use cluster::{Client, ClusterFault, Confirmed, ConfirmedBulk, WriteFault};
 use doc::{DocId, Mapping};
 use front::command::{Command, Write};
@@ -32,11 +31,10 @@ use translog::LogDevice;
 /// An index of several copies, as one thread has it. Writes and gets are the primary's; searches are of what the primary has published, by a
 /// searcher that waits for no copy; a refresh is of each copy.
 #[derive(Drop)]
-pub struct Group<'a, R: Wait, D: LogDevice, J: RegistryName> {
+pub struct Group<'a, R: Wait, D: LogDevice, J: IndexName> {
     pub rt: &'a R,
     pub alloc: Global,
-    pub name: &'a str,
-    pub mapping: &'a Mapping,
+    pub label: &'a IndexLabel<J>,
     pub client: &'a Client<D, J>,
     /// Where the searcher of the last search is kept.
     pub chair: &'a Chair<J>,
@@ -44,21 +42,21 @@ pub struct Group<'a, R: Wait, D: LogDevice, J: RegistryName> {
     pub known: Known<J>,
 }
 
-impl<'a, R: Wait, D: LogDevice, J: RegistryName> Service for Group<'a, R, D, J> {
+impl<'a, R: Wait, D: LogDevice, J: IndexName> Service for Group<'a, R, D, J> {
     ghost use Rattle.group.specs.Group.{IsTold};
 
-    ghost name = { λ g. g.name.now };
+    ghost name = { λ g. J.index.name };
 
-    ghost fields = { λ g. g.mapping.now };
+    ghost fields = { λ g. J.index.mapping };
 
-    ghost answers = { λ g c r h. IsTold J g.known c r h.known };
+    ghost answers = { λ g c r h. IsTold J J.index.mapping g.known c r h.known };
 
     fn index(&self) -> &str {
-        self.name
+        self.label.name()
     }
 
     fn mapping(&self) -> &Mapping {
-        self.mapping
+        self.label.mapping()
     }
 
     fn call(&mut self, command: Command) -> Reply {
@@ -73,7 +71,7 @@ impl<'a, R: Wait, D: LogDevice, J: RegistryName> Service for Group<'a, R, D, J> 
     }
 }
 
-impl<'a, R: Wait, D: LogDevice, J: RegistryName> Resumable for Group<'a, R, D, J> {
+impl<'a, R: Wait, D: LogDevice, J: IndexName> Resumable for Group<'a, R, D, J> {
     type Known = Known<J>;
 
     ghost knows = { λ g. g.known };
@@ -89,10 +87,10 @@ impl<'a, R: Wait, D: LogDevice, J: RegistryName> Resumable for Group<'a, R, D, J
     }
 }
 
-impl<'a, R: Wait, D: LogDevice, J: RegistryName> Group<'a, R, D, J> {
+impl<'a, R: Wait, D: LogDevice, J: IndexName> Group<'a, R, D, J> {
     /// Has the copies do a command; and what the client knows then.
     fn answer(&self, command: Command) -> Result<(Reply, Known<J>), WriteFault<J>>
-        ensures { IfOk result (λ r. IsDone J self.now.known (command_view command) (reply_view r.0) r.1) }
+        ensures { IfOk result (λ r. IsDone J J.index.mapping self.now.known (command_view command) (reply_view r.0) r.1) }
     {
         match command {
             Command::Write(write) => self.write(write),
@@ -157,7 +155,7 @@ impl<'a, R: Wait, D: LogDevice, J: RegistryName> Group<'a, R, D, J> {
 
     #[tactic(auto, using(crate::proofs::Found::found_seen))]
     fn search(&self, body: &SearchBody) -> Result<(Reply, Known<J>), ClusterFault>
-        ensures { IfOk result (λ r. IsFound self.now.known (query_view body.now.query) body.now.page (reply_view r.0) r.1) }
+        ensures { IfOk result (λ r. IsFound J.index.mapping self.now.known (query_view body.now.query) body.now.page (reply_view r.0) r.1) }
     {
         let Looked { found, past } = self.look(&body.query, body.page)?;
         let FoundAt { hits, point } = found;
@@ -168,7 +166,7 @@ impl<'a, R: Wait, D: LogDevice, J: RegistryName> Group<'a, R, D, J> {
     /// How many documents a query means.
     #[tactic(auto, using(crate::proofs::Found::counted_seen))]
     fn count(&self, query: &Query) -> Result<(Reply, Known<J>), ClusterFault>
-        ensures { IfOk result (λ r. IsCounted self.now.known (query_view query.now) (reply_view r.0) r.1) }
+        ensures { IfOk result (λ r. IsCounted J.index.mapping self.now.known (query_view query.now) (reply_view r.0) r.1) }
     {
         let Ok(page) = Page::new(0, 0) else {
             return Err(ClusterFault::NoMemory);
@@ -205,7 +203,7 @@ impl<'a, R: Wait, D: LogDevice, J: RegistryName> Group<'a, R, D, J> {
 
     /// What a search at the primary finds, of no place of the journal before the one that was seen last, as none does.
     fn look(&self, query: &Query, page: Page) -> Result<Looked<J>, ClusterFault>
-        ensures found { IfOk result (λ l. IsFoundAt (query_view query.now) page (hits_view l.found.hits) l.found.point) }
+        ensures found { IfOk result (λ l. IsFoundAt J.index.mapping (query_view query.now) page (hits_view l.found.hits) l.found.point) }
         ensures led { IfOk result (λ l. IsLedBehind self.now.known.past l.found.point.node l.past) }
         ensures later { IfOk result (λ l. IfSome self.now.known.seen (λ h. IsShownBehind h l.found.point)) }
     {
@@ -223,27 +221,27 @@ impl<'a, R: Wait, D: LogDevice, J: RegistryName> Group<'a, R, D, J> {
 
 /// What a search found at the primary, which it is after this past.
 #[derive(Drop)]
-struct Looked<J: RegistryName> {
+struct Looked<J: IndexName> {
     found: FoundAt<J>,
     past: Past<J>,
 }
 
 /// The fault of a write whose entry stands before what the client knows, as none does.
-fn stray<J: RegistryName>(confirmed: Confirmed<J>) -> WriteFault<J> {
+fn stray<J: IndexName>(confirmed: Confirmed<J>) -> WriteFault<J> {
     let place = confirmed.write.place();
     drop(confirmed);
     WriteFault::Cluster(ClusterFault::Stray(place))
 }
 
 /// The same of a bulk's entry, or of one that acknowledges it.
-fn stray_bulk<J: RegistryName>(confirmed: ConfirmedBulk<J>) -> WriteFault<J> {
+fn stray_bulk<J: IndexName>(confirmed: ConfirmedBulk<J>) -> WriteFault<J> {
     let place = confirmed.bulk.place();
     drop(confirmed);
     WriteFault::Cluster(ClusterFault::Stray(place))
 }
 
 /// The reply that tells a write that is confirmed.
-fn told<J: RegistryName>(confirmed: Confirmed<J>) -> Reply
+fn told<J: IndexName>(confirmed: Confirmed<J>) -> Reply
     ensures { reply_view result ≡ told_by confirmed.write.deed.answer (counted_in confirmed.acknowledgement.deed.answer) }
 {
     let Confirmed {
@@ -256,7 +254,7 @@ fn told<J: RegistryName>(confirmed: Confirmed<J>) -> Reply
 }
 
 /// How many copies an entry counts.
-pub(crate) fn counted_in<J: RegistryName>(receipt: &Receipt<J>) -> u64
+pub(crate) fn counted_in<J: IndexName>(receipt: &Receipt<J>) -> u64
     ensures { result ≡ counted_in receipt.now.deed.answer }
 {
     match &receipt.deed().answer {
@@ -266,7 +264,7 @@ pub(crate) fn counted_in<J: RegistryName>(receipt: &Receipt<J>) -> u64
 }
 
 /// The reply that tells an entry, of so many copies.
-fn told_in<J: RegistryName>(receipt: Receipt<J>, copies: u64) -> Reply
+fn told_in<J: IndexName>(receipt: Receipt<J>, copies: u64) -> Reply
     ensures { reply_view result ≡ told_by receipt.deed.answer copies }
 {
     reply_to(receipt.into_deed().answer, copies)
@@ -284,7 +282,7 @@ fn reply_to(answer: Result<Output, CopyFault>, copies: u64) -> Reply
 }
 
 /// The refusal that tells why a write isn't confirmed. One that nobody acknowledges may be kept.
-pub(crate) fn refusal_of_write<J: RegistryName>(promotes: bool, fault: &WriteFault<J>) -> Refusal {
+pub(crate) fn refusal_of_write<J: IndexName>(promotes: bool, fault: &WriteFault<J>) -> Refusal {
     match fault {
         WriteFault::NoPrimary(_) | WriteFault::Lost(_, _) | WriteFault::Unconfirmed(_) => {
             Refusal::NotPrimary

@@ -5,21 +5,20 @@ ghost use Rattle.cell.specs.Points.{IsShownBehind};
 ghost use Rattle.group.specs.Known.{heard_by, known, seen_at};
 ghost use mathlib.Core.List.{IsPrefix};
 
-use cell::JournalPoint;
-use chronicle::RegistryName;
+use cell::{IndexName, JournalPoint};
 use node::{Got, Heard, Receipt};
 use ruled::Past;
 use std::marker::Model;
 
 /// What a client knows: entries of the journal of the copy that it heard of last, of the one that it saw last, by a refresh or a search, and of the
 /// master's. Contracts see all.
-pub struct Known<J: RegistryName> {
+pub struct Known<J: IndexName> {
     heard: Option<Heard<J>>,
     seen: Option<Heard<J>>,
     past: Option<Past<J>>,
 }
 
-impl<J: RegistryName> Drop for Known<J> {
+impl<J: IndexName> Drop for Known<J> {
     fn drop(self) {
         let Known {
             heard: _heard,
@@ -29,7 +28,7 @@ impl<J: RegistryName> Drop for Known<J> {
     }
 }
 
-impl<J: RegistryName> Model for Known<J> {
+impl<J: IndexName> Model for Known<J> {
     ghost use Rattle.group.specs.Known.{known, past_in, KnownData};
 
     ghost Value = { KnownData };
@@ -37,7 +36,7 @@ impl<J: RegistryName> Model for Known<J> {
     ghost view = { λ k. known k.heard k.seen (past_in k.past) };
 }
 
-impl<J: RegistryName> Known<J> {
+impl<J: IndexName> Known<J> {
     /// What a client knows that was told nothing yet.
     pub fn nothing() -> Known<J>
         ensures { result ≡ known None None [] }
@@ -158,7 +157,7 @@ impl<J: RegistryName> Known<J> {
 }
 
 /// Entries that were told, once more.
-pub(crate) fn again<J: RegistryName>(told: &Option<Heard<J>>) -> Option<Heard<J>>
+pub(crate) fn again<J: IndexName>(told: &Option<Heard<J>>) -> Option<Heard<J>>
     ensures { result ≡ told.now }
 {
     match told {
@@ -168,7 +167,7 @@ pub(crate) fn again<J: RegistryName>(told: &Option<Heard<J>>) -> Option<Heard<J>
 }
 
 /// A past of the master, once more.
-fn past_again<J: RegistryName>(past: &Option<Past<J>>) -> Option<Past<J>>
+fn past_again<J: IndexName>(past: &Option<Past<J>>) -> Option<Past<J>>
     ensures { result ≡ past.now }
 {
     match past {
@@ -178,7 +177,7 @@ fn past_again<J: RegistryName>(past: &Option<Past<J>>) -> Option<Past<J>>
 }
 
 /// Whether an entry is of another copy, or stands behind all that was told.
-pub(crate) fn is_ahead<J: RegistryName>(told: &Option<Heard<J>>, receipt: &Receipt<J>) -> bool
+pub(crate) fn is_ahead<J: IndexName>(told: &Option<Heard<J>>, receipt: &Receipt<J>) -> bool
     ensures ahead { IsTrue result → IfSome told.now (λ h. IsAheadOf h receipt.now) }
     ensures among { IsFalse result → IsSomeAnd told.now (λ h. HasEntry h receipt.now) }
 {

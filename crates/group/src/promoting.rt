@@ -4,7 +4,7 @@ ghost use Rattle.front.specs.ReplyView.{reply_view};
 ghost use Rattle.group.specs.Group.{master_refusal, IsMadePrimary};
 
 use crate::group::refusal_by;
-use chronicle::RegistryName;
+use cell::IndexName;
 use cluster::{Client, ClusterFault};
 use front::command::Command;
 use front::reply::{Refusal, Reply};
@@ -15,13 +15,13 @@ use translog::LogDevice;
 
 /// The reply that tells a promotion, which is the last of this past.
 #[derive(Drop)]
-pub(crate) struct Promotion<J: RegistryName> {
+pub(crate) struct Promotion<J: IndexName> {
     pub(crate) reply: Reply,
     pub(crate) past: Past<J>,
 }
 
 /// Has the master make a copy the primary. Each promotion has a message, by which the copy is told its term.
-pub(crate) fn promoted<R: Wait, D: LogDevice, J: RegistryName>(
+pub(crate) fn promoted<R: Wait, D: LogDevice, J: IndexName>(
     rt: &R,
     client: &Client<D, J>,
     copy: u32,

@@ -7,7 +7,7 @@ ghost use Rattle.group.specs.Searching.{IsRefreshed};
 
 use crate::group::Group;
 use crate::known::{Known, again, is_ahead};
-use chronicle::RegistryName;
+use cell::IndexName;
 use cluster::{Client, ClusterFault, Refreshed};
 use front::reply::Reply;
 use node::{Heard, Receipt};
@@ -15,7 +15,7 @@ use replica::CopyFault;
 use std::sync::Wait;
 use translog::LogDevice;
 
-impl<'a, R: Wait, D: LogDevice, J: RegistryName> Group<'a, R, D, J> {
+impl<'a, R: Wait, D: LogDevice, J: IndexName> Group<'a, R, D, J> {
     #[tactic(auto, using(crate::proofs::Seeing::is_refreshed))]
     pub(crate) fn refresh(&self) -> Result<(Reply, Known<J>), ClusterFault>
         ensures { IfOk result (λ r. IsRefreshed self.now.known (reply_view r.0) r.1) }
@@ -44,7 +44,7 @@ impl<'a, R: Wait, D: LogDevice, J: RegistryName> Group<'a, R, D, J> {
 
 /// Refreshes the copies for a client, and tells how many are, and what it knows then. Where each was passed over, nothing was refreshed, and that is refused.
 #[tactic(auto, using(crate::proofs::Seeing::has_refreshed))]
-fn refresh_copies<R: Wait, D: LogDevice, J: RegistryName>(
+fn refresh_copies<R: Wait, D: LogDevice, J: IndexName>(
     rt: &R,
     client: &Client<D, J>,
     known: &Known<J>,
@@ -70,7 +70,7 @@ fn refresh_copies<R: Wait, D: LogDevice, J: RegistryName>(
 
 /// What a client sees of a copy once these were refreshed: that of the primary, where it is one of them.
 #[tactic(auto, using(crate::proofs::Seeing::seen_among, crate::proofs::Seeing::none_seen))]
-fn seen_among<J: RegistryName>(
+fn seen_among<J: IndexName>(
     known: &Known<J>,
     primary: u32,
     entries: &[Receipt<J>],
@@ -84,7 +84,7 @@ fn seen_among<J: RegistryName>(
 }
 
 /// What a client sees of a copy by its refresh, which stands behind all that it knows of the copy, as it was asked since.
-fn seen_by<J: RegistryName>(known: &Known<J>, entry: &Receipt<J>) -> Result<Heard<J>, ClusterFault>
+fn seen_by<J: IndexName>(known: &Known<J>, entry: &Receipt<J>) -> Result<Heard<J>, ClusterFault>
     ensures { IfOk result (λ h. IsSeenBy known.now.heard known.now.seen entry.now (Some h)) }
 {
     if !is_ahead(known.heard(), entry) || !is_ahead(known.seen(), entry) {
@@ -94,7 +94,7 @@ fn seen_by<J: RegistryName>(known: &Known<J>, entry: &Receipt<J>) -> Result<Hear
 }
 
 /// The entry of a copy, where it is one of these.
-fn entry_of<J: RegistryName>(entries: &[Receipt<J>], copy: u32) -> Option<&Receipt<J>>
+fn entry_of<J: IndexName>(entries: &[Receipt<J>], copy: u32) -> Option<&Receipt<J>>
     ensures among { IfSome result (λ r. IsAmong entries.now r.now) }
     ensures copy { IfSome result (λ r. r.now.node ≡ copy) }
 {

@@ -6,8 +6,7 @@ ghost use Rattle.front.specs.ReplyView.{reply_view};
 ghost use Rattle.shard.specs.Answering as spec;
 ghost use Rattle.group.specs.Searching.{IsFoundAt};
 
-use cell::{CopySearchFault, CopySearcher, FoundAt};
-use chronicle::RegistryName;
+use cell::{CopySearchFault, CopySearcher, FoundAt, IndexName};
 use cluster::{Client, ClusterFault};
 use engine::Hits;
 use front::reply::Reply;
@@ -20,17 +19,17 @@ use translog::LogDevice;
 
 /// A place for a searcher. A copy has eight seats, so where there are more threads some share a place, and one of them waits for the search of another
 /// there, and for no write.
-pub struct Chair<J: RegistryName> {
+pub struct Chair<J: IndexName> {
     seat: Mutex<Option<CopySearcher<J>>>,
 }
 
-impl<J: RegistryName> Drop for Chair<J> {
+impl<J: IndexName> Drop for Chair<J> {
     fn drop(self) {
         let Chair { seat: _seat } = self;
     }
 }
 
-impl<J: RegistryName> Chair<J> {
+impl<J: IndexName> Chair<J> {
     /// A place with a searcher of the primary where that can be had; else the first search there asks for it.
     pub fn new<R: Wait, D: LogDevice>(rt: &R, client: &Client<D, J>) -> Chair<J> {
         Chair {
@@ -48,7 +47,7 @@ impl<J: RegistryName> Chair<J> {
         query: &Query,
         page: Page,
     ) -> Result<FoundAt<J>, ClusterFault>
-        ensures found { IfOk result (λ f. IsFoundAt (query_view query.now) page (hits_view f.hits) f.point) }
+        ensures found { IfOk result (λ f. IsFoundAt J.index.mapping (query_view query.now) page (hits_view f.hits) f.point) }
         ensures copy { IfOk result (λ f. f.point.node ≡ copy) }
     {
         let mut held = self.seat.lock(rt);
@@ -62,7 +61,7 @@ impl<J: RegistryName> Chair<J> {
 }
 
 /// A searcher of a copy: the one of before, or where that was of another copy a new one.
-fn seated<R: Wait, D: LogDevice, J: RegistryName>(
+fn seated<R: Wait, D: LogDevice, J: IndexName>(
     rt: &R,
     client: &Client<D, J>,
     copy: u32,
@@ -80,13 +79,13 @@ fn seated<R: Wait, D: LogDevice, J: RegistryName>(
 
 /// What a searcher finds.
 #[tactic(auto, using(crate::proofs::Found::found_at))]
-fn found_by<J: RegistryName>(
+fn found_by<J: IndexName>(
     seat: &mut CopySearcher<J>,
     alloc: Global,
     query: &Query,
     page: Page,
 ) -> Result<FoundAt<J>, ClusterFault>
-    ensures found { IfOk result (λ f. IsFoundAt (query_view query.now) page (hits_view f.hits) f.point) }
+    ensures found { IfOk result (λ f. IsFoundAt J.index.mapping (query_view query.now) page (hits_view f.hits) f.point) }
     ensures copy { IfOk result (λ f. f.point.node ≡ seat.old.node) }
 {
     match seat.search(alloc, query, page) {

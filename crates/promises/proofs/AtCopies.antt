@@ -5,6 +5,7 @@ use mathlib.Core.List.{IsPrefix}
 use Rattle.chronicle.specs.Registered.{PrefixData, prefix}
 use Rattle.chronicle.proofs.Lines.{prefix_trans}
 use Rattle.doc.specs.Id.{Id}
+use Rattle.doc.specs.Mapping.{MappingData}
 use Rattle.op.specs.declared.operation.Op.{Op}
 use Rattle.op.specs.declared.record.Record.{Record}
 use Rattle.op.specs.Documents.{document_at, document_of, documents}
@@ -199,17 +200,17 @@ entry_of_bulk J ws items at w x before after acked upto there was is =
           (λ may. at_bulk s.copy up.copy s.shut place (map write_of ws) is.told.items r.deed.answer may is.told.kept at (write_of w) one.written (get_map write_of ws at w there) one.there) legal);
     }
 
-pub entry_of : (J : Type 0) (w : Write) (x : Wrote) (asked : Command) (reply : Reply) (before after : KnownData) (acked : PrefixData Deed) → IsAcknowledged w x asked reply → IsTold J before asked reply after → after.heard ≡ Some acked → IsWriteOf acked w.id x.seq
-entry_of J w x _ _ before after acked alone (inl done) upto = entry_of_write J w x before after acked upto done
-entry_of J w x _ _ before after acked alone (inr refusal) upto = absurd (let never : wrote x ≡ refused refusal.0.refusal = refusal.0.told in cc)
-entry_of J w x _ _ before after acked (among ws items at there was) (inl done) upto = entry_of_bulk J ws items at w x before after acked upto there was done
-entry_of J w x _ _ before after acked (among ws items at there was) (inr refusal) upto = absurd (let never : bulked items ≡ refused refusal.0.refusal = refusal.0.told in cc)
+pub entry_of : (J : Type 0) (m : MappingData) (w : Write) (x : Wrote) (asked : Command) (reply : Reply) (before after : KnownData) (acked : PrefixData Deed) → IsAcknowledged w x asked reply → IsTold J m before asked reply after → after.heard ≡ Some acked → IsWriteOf acked w.id x.seq
+entry_of J m w x _ _ before after acked alone (inl done) upto = entry_of_write J w x before after acked upto done
+entry_of J m w x _ _ before after acked alone (inr refusal) upto = absurd (let never : wrote x ≡ refused refusal.0.refusal = refusal.0.told in cc)
+entry_of J m w x _ _ before after acked (among ws items at there was) (inl done) upto = entry_of_bulk J ws items at w x before after acked upto there was done
+entry_of J m w x _ _ before after acked (among ws items at there was) (inr refusal) upto = absurd (let never : bulked items ≡ refused refusal.0.refusal = refusal.0.told in cc)
 
 -- ---- a get
 
-got_in : (J : Type 0) (id : Id) (o : Option Found) (later new : KnownData) → IsTold J later (get id) (got o) new → IsGot later id (got o) new
-got_in J id o later new (inl done) = done
-got_in J id o later new (inr refusal) = absurd (let never : got o ≡ refused refusal.0.refusal = refusal.0.told in cc)
+got_in : (J : Type 0) (m : MappingData) (id : Id) (o : Option Found) (later new : KnownData) → IsTold J m later (get id) (got o) new → IsGot later id (got o) new
+got_in J m id o later new (inl done) = done
+got_in J m id o later new (inr refusal) = absurd (let never : got o ≡ refused refusal.0.refusal = refusal.0.told in cc)
 
 -- what the copy has after these entries
 abbrev pub left_after : Copy → List Deed → List Op
@@ -259,10 +260,10 @@ has_from acked known id seq e opening node deeds sound legal begins copy later =
   has = λ same more is own. found_still opening sound acked id seq e deeds more legal is own;
 }
 
-pub writes_are_found_at_copies : (J : Type 0) → WritesAreFoundAtCopies J
-writes_are_found_at_copies J w x asked reply o acked before after' later new is told upto knows then =
-    let e = entry_of J w x asked reply before after' acked is told upto in
-    let g = got_in J w.id o later new then in
+pub writes_are_found_at_copies : (J : Type 0) (m : MappingData) → WritesAreFoundAtCopies J m
+writes_are_found_at_copies J m w x asked reply o acked before after' later new is told upto knows then =
+    let e = entry_of J m w x asked reply before after' acked is told upto in
+    let g = got_in J m w.id o later new then in
     let opening : Copy = g.is_got.journal.opening in
     let legal : IsLegal (open_at opening) 0 g.got.deeds = subst (λ (ds : List Deed). IsLegal (open_at opening) 0 ds) g.is_got.deeds_is g.is_got.legal in
     record {

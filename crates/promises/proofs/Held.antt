@@ -336,8 +336,8 @@ held_bulk J ws items place w x before after acked upto there was is mapping n js
     (led_at_bulk mapping n js es made acked.number known.opening known.deeds known.journal legal (map write_of ws) is.told.items r.deed at e.asked is.told.kept place (write_of w) one.written (get_map write_of ws place w there) one.there)
     a (All-contains (IsBehind r) acks a e.behind inside).stands second settled.1.acknowledges
 
-pub writes_are_held_in_runs : (J : Type 0) → WritesAreHeldInRuns J
-writes_are_held_in_runs J w x _ _ before after acked alone (inl done) upto = held_write J w x before after acked upto done
-writes_are_held_in_runs J w x _ _ before after acked alone (inr refusal) upto = absurd (let never : wrote x ≡ refused refusal.0.refusal = refusal.0.told in cc)
-writes_are_held_in_runs J w x _ _ before after acked (among ws items place there was) (inl done) upto = held_bulk J ws items place w x before after acked upto there was done
-writes_are_held_in_runs J w x _ _ before after acked (among ws items place there was) (inr refusal) upto = absurd (let never : bulked items ≡ refused refusal.0.refusal = refusal.0.told in cc)
+pub writes_are_held_in_runs : (J : Type 0) (m : MappingData) → WritesAreHeldInRuns J m
+writes_are_held_in_runs J m w x _ _ before after acked alone (inl done) upto = held_write J w x before after acked upto done
+writes_are_held_in_runs J m w x _ _ before after acked alone (inr refusal) upto = absurd (let never : wrote x ≡ refused refusal.0.refusal = refusal.0.told in cc)
+writes_are_held_in_runs J m w x _ _ before after acked (among ws items place there was) (inl done) upto = held_bulk J ws items place w x before after acked upto there was done
+writes_are_held_in_runs J m w x _ _ before after acked (among ws items place there was) (inr refusal) upto = absurd (let never : bulked items ≡ refused refusal.0.refusal = refusal.0.told in cc)

@@ -4,6 +4,7 @@ use Rattle.std.specs.Prelude.{IfSome}
 use mathlib.Core.List.{IsPrefix}
 use Rattle.chronicle.specs.Registered.{PrefixData, prefix}
 use Rattle.chronicle.proofs.Lines.{prefix_trans}
+use Rattle.doc.specs.Mapping.{MappingData}
 use Rattle.journal.specs.declared.journal.Deed.{Deed}
 use Rattle.node.specs.Entry.{Receipt}
 use Rattle.node.specs.Heard.{IsAheadOf, IsNotBefore}
@@ -49,32 +50,32 @@ heard_of k l e = ap (λ (x : KnownData). x.heard) e
 seen_of : (k l : KnownData) → k ≡ l → k.seen ≡ l.seen
 seen_of k l e = ap (λ (x : KnownData). x.seen) e
 
-pub never_back_at_copies : (J : Type 0) → NeverBackAtCopies J
-never_back_at_copies J (write w) r before after p q (inl is) was now same =
+pub never_back_at_copies : (J : Type 0) (m : MappingData) → NeverBackAtCopies J m
+never_back_at_copies J m (write w) r before after p q (inl is) was now same =
     let behind = is.acknowledged.behind in
     let ahead : IsAheadOf p is.confirmed.write = subst (λ (h : Heard). IfSome h (λ x. IsAheadOf x is.confirmed.write)) was is.later in
     as_next before.heard after.heard p q was now is.confirmed.acknowledgement.node is.confirmed.acknowledgement.deeds is.heard
     (λ node. prefix_trans p.entries is.confirmed.write.deeds is.confirmed.acknowledgement.deeds (ahead (sym behind.copy ∙ node)).entries behind.one) same
-never_back_at_copies J (bulk ws) r before after p q (inl is) was now same =
+never_back_at_copies J m (bulk ws) r before after p q (inl is) was now same =
     let ahead : IsAheadOf p is.confirmed.bulk = subst (λ (h : Heard). IfSome h (λ x. IsAheadOf x is.confirmed.bulk)) was is.later in
     as_next before.heard after.heard p q was now is.heard.number is.heard.entries (ap (λ (x : KnownData). x.heard) is.now)
     (λ node. prefix_trans p.entries is.confirmed.bulk.deeds is.heard.entries (ahead (is.has.bulk.node ∙ node)).entries is.has.bulk.entries) same
-never_back_at_copies J (get id) r before after p q (inl is) was now same =
+never_back_at_copies J m (get id) r before after p q (inl is) was now same =
     as_told before.heard after.heard p q was now is.got.node is.got.deeds (ap (λ (x : KnownData). x.heard) is.now) (subst (λ (h : Heard). IfSome h (λ x. IsNotBefore x is.got)) was is.later) same
-never_back_at_copies J (search query page) r before after p q (inl is) was now same = as_before before.heard after.heard p q was now (ap (λ (x : KnownData). x.heard) is.seen.now)
-never_back_at_copies J (count query) r before after p q (inl is) was now same = as_before before.heard after.heard p q was now (ap (λ (x : KnownData). x.heard) is.seen.now)
-never_back_at_copies J refresh r before after p q (inl is) was now same = as_before before.heard after.heard p q was now is.heard
-never_back_at_copies J (promote copy) r before after p q (inl is) was now same = as_before before.heard after.heard p q was now (ap (λ (x : KnownData). x.heard) is.now)
-never_back_at_copies J c r before after p q (inr is) was now same = as_before before.heard after.heard p q was now (heard_of after before is.1)
+never_back_at_copies J m (search query page) r before after p q (inl is) was now same = as_before before.heard after.heard p q was now (ap (λ (x : KnownData). x.heard) is.seen.now)
+never_back_at_copies J m (count query) r before after p q (inl is) was now same = as_before before.heard after.heard p q was now (ap (λ (x : KnownData). x.heard) is.seen.now)
+never_back_at_copies J m refresh r before after p q (inl is) was now same = as_before before.heard after.heard p q was now is.heard
+never_back_at_copies J m (promote copy) r before after p q (inl is) was now same = as_before before.heard after.heard p q was now (ap (λ (x : KnownData). x.heard) is.now)
+never_back_at_copies J m c r before after p q (inr is) was now same = as_before before.heard after.heard p q was now (heard_of after before is.1)
 
-pub searches_never_back_at_copies : (J : Type 0) → SearchesNeverBackAtCopies J
-searches_never_back_at_copies J (write w) r before after p q (inl is) was now same = as_wanted before after p q was now w.refresh is.seen.refreshed is.seen.unrefreshed same
-searches_never_back_at_copies J (bulk ws) r before after p q (inl is) was now same = as_before before.seen after.seen p q was now (ap (λ (x : KnownData). x.seen) is.now)
-searches_never_back_at_copies J (get id) r before after p q (inl is) was now same = as_before before.seen after.seen p q was now (ap (λ (x : KnownData). x.seen) is.now)
-searches_never_back_at_copies J (search query page) r before after p q (inl is) was now same =
+pub searches_never_back_at_copies : (J : Type 0) (m : MappingData) → SearchesNeverBackAtCopies J m
+searches_never_back_at_copies J m (write w) r before after p q (inl is) was now same = as_wanted before after p q was now w.refresh is.seen.refreshed is.seen.unrefreshed same
+searches_never_back_at_copies J m (bulk ws) r before after p q (inl is) was now same = as_before before.seen after.seen p q was now (ap (λ (x : KnownData). x.seen) is.now)
+searches_never_back_at_copies J m (get id) r before after p q (inl is) was now same = as_before before.seen after.seen p q was now (ap (λ (x : KnownData). x.seen) is.now)
+searches_never_back_at_copies J m (search query page) r before after p q (inl is) was now same =
     as_told before.seen after.seen p q was now is.seen.at.node is.seen.at.deeds (ap (λ (x : KnownData). x.seen) is.seen.now) (subst (λ (h : Heard). IfSome h (λ x. IsShownBehind x is.seen.at)) was is.seen.later) same
-searches_never_back_at_copies J (count query) r before after p q (inl is) was now same =
+searches_never_back_at_copies J m (count query) r before after p q (inl is) was now same =
     as_told before.seen after.seen p q was now is.seen.at.node is.seen.at.deeds (ap (λ (x : KnownData). x.seen) is.seen.now) (subst (λ (h : Heard). IfSome h (λ x. IsShownBehind x is.seen.at)) was is.seen.later) same
-searches_never_back_at_copies J refresh r before after p q (inl is) was now same = as_refreshed before after p q was now is.copies is.done same
-searches_never_back_at_copies J (promote copy) r before after p q (inl is) was now same = as_before before.seen after.seen p q was now (ap (λ (x : KnownData). x.seen) is.now)
-searches_never_back_at_copies J c r before after p q (inr is) was now same = as_before before.seen after.seen p q was now (seen_of after before is.1)
+searches_never_back_at_copies J m refresh r before after p q (inl is) was now same = as_refreshed before after p q was now is.copies is.done same
+searches_never_back_at_copies J m (promote copy) r before after p q (inl is) was now same = as_before before.seen after.seen p q was now (ap (λ (x : KnownData). x.seen) is.now)
+searches_never_back_at_copies J m c r before after p q (inr is) was now same = as_before before.seen after.seen p q was now (seen_of after before is.1)

@@ -3,6 +3,7 @@ use Rattle.std.proofs.Common.{◌≡◌, ◌⊎◌, ℕ, Bool, true, false, List
 use Rattle.std.specs.Prelude.{IfSome}
 use mathlib.Core.List.{IsPrefix}
 use Rattle.chronicle.specs.Registered.{PrefixData, prefix}
+use Rattle.doc.specs.Mapping.{MappingData}
 use Rattle.op.specs.declared.record.Record.{Record}
 use Rattle.op.specs.Records.{operations as all_in}
 use Rattle.op.proofs.RecordLaws.{IsAscending-operations}
@@ -24,27 +25,30 @@ use Rattle.promises.proofs.AtCopies.{entry_of, has_from, left_after}
 
 -- ---- a search
 
-pub record IsSought (later : KnownData) (c : Command) (r : Reply) (new : KnownData) : Type 0 where
+pub record IsSought (m : MappingData) (later : KnownData) (c : Command) (r : Reply) (new : KnownData) : Type 0 where
   pub listing : Listing
-  pub seen : IsSeen later listing new
-  pub over : IsOver listing.mapping (all_in listing.records) c r
+  pub seen : IsSeen m later listing new
+  pub over : IsOver m (all_in listing.records) c r
 
 pub not_refused : {X : Type 0} (r : Reply) (f : _) → r ≡ refused f → is_refused r ≡ false → X
 not_refused r f told fine = absurd (let no : true ≡ false = sym (ap is_refused told) ∙ fine in cc)
 
-pub sought : (J : Type 0) (c : Command) (r : Reply) (later new : KnownData) → IsTold J later c r new → is_search c ≡ true → is_refused r ≡ false → IsSought later c r new
-sought J c r later new (inr refusal) looks fine = not_refused r refusal.0.refusal refusal.0.told fine
-sought J (search q page) r later new (inl is) looks fine = record { listing = is.listing; seen = is.seen; over = is.hits_are }
-sought J (count q) r later new (inl is) looks fine = record { listing = is.listing; seen = is.seen; over = is.total_is }
-sought J (write w) r later new (inl is) looks fine = absurd (let no : false ≡ true = looks in cc)
-sought J (bulk ws) r later new (inl is) looks fine = absurd (let no : false ≡ true = looks in cc)
-sought J (get id) r later new (inl is) looks fine = absurd (let no : false ≡ true = looks in cc)
-sought J refresh r later new (inl is) looks fine = absurd (let no : false ≡ true = looks in cc)
-sought J (promote copy) r later new (inl is) looks fine = absurd (let no : false ≡ true = looks in cc)
+under : (m : MappingData) (l : Listing) (c : Command) (r : Reply) → l.mapping ≡ m → IsOver l.mapping (all_in l.records) c r → IsOver m (all_in l.records) c r
+under m l c r same over = subst (λ (k : MappingData). IsOver k (all_in l.records) c r) same over
+
+pub sought : (J : Type 0) (m : MappingData) (c : Command) (r : Reply) (later new : KnownData) → IsTold J m later c r new → is_search c ≡ true → is_refused r ≡ false → IsSought m later c r new
+sought J m c r later new (inr refusal) looks fine = not_refused r refusal.0.refusal refusal.0.told fine
+sought J m (search q page) r later new (inl is) looks fine = record { listing = is.listing; seen = is.seen; over = under m is.listing (search q page) r is.seen.shown.mapping is.hits_are }
+sought J m (count q) r later new (inl is) looks fine = record { listing = is.listing; seen = is.seen; over = under m is.listing (count q) r is.seen.shown.mapping is.total_is }
+sought J m (write w) r later new (inl is) looks fine = absurd (let no : false ≡ true = looks in cc)
+sought J m (bulk ws) r later new (inl is) looks fine = absurd (let no : false ≡ true = looks in cc)
+sought J m (get id) r later new (inl is) looks fine = absurd (let no : false ≡ true = looks in cc)
+sought J m refresh r later new (inl is) looks fine = absurd (let no : false ≡ true = looks in cc)
+sought J m (promote copy) r later new (inl is) looks fine = absurd (let no : false ≡ true = looks in cc)
 
 -- it is of what the copy has at a place of its journal
-pub sought_of : (c : Command) (r : Reply) (later new : KnownData) (s : IsSought later c r new) → IsSoughtAfter c r s.seen.at.node s.seen.at.deeds (left_after s.seen.shown.stands.opening s.seen.at.deeds)
-sought_of c r later new s =
+pub sought_of : (m : MappingData) (c : Command) (r : Reply) (later new : KnownData) (s : IsSought m later c r new) → IsSoughtAfter m c r s.seen.at.node s.seen.at.deeds (left_after s.seen.shown.stands.opening s.seen.at.deeds)
+sought_of m c r later new s =
     let at = s.seen.at in
     let j = s.seen.shown.stands in
     let same : s.listing.records ≡ (after (open_at j.opening) 0 at.deeds).copy.records = sym s.seen.shown.records ∙ j.records_is in
@@ -53,21 +57,20 @@ sought_of c r later new s =
       legal = j.legal;
       node_is = j.node_is;
       left = refl;
-      mapping = s.listing.mapping;
-      over = subst (λ (rs : List Record). IsOver s.listing.mapping (all_in rs) c r) same s.over;
+      over = subst (λ (rs : List Record). IsOver m (all_in rs) c r) same s.over;
     }
 
-pub writes_are_seen_at_copies : (J : Type 0) → WritesAreSeenAtCopies J
-writes_are_seen_at_copies J w x asked reply c r acked before after' later new is told upto knows then looks fine =
-    let e = entry_of J w x asked reply before after' acked is told upto in
-    let s = sought J c r later new then looks fine in
+pub writes_are_seen_at_copies : (J : Type 0) (m : MappingData) → WritesAreSeenAtCopies J m
+writes_are_seen_at_copies J m w x asked reply c r acked before after' later new is told upto knows then looks fine =
+    let e = entry_of J m w x asked reply before after' acked is told upto in
+    let s = sought J m c r later new then looks fine in
     let at = s.seen.at in
     let j = s.seen.shown.stands in
     record {
       node = at.node;
       deeds = at.deeds;
       os = left_after j.opening at.deeds;
-      sought = sought_of c r later new s;
+      sought = sought_of m c r later new s;
       from = has_from acked knows.known w.id x.seq e j.opening at.node at.deeds (record { copy = IsAscending-operations j.opening.records j.sound; other = tt }) j.legal knows.entries knows.copy
           (subst (λ (h : Heard). IfSome h (λ p. IsShownBehind p at)) knows.is s.seen.later);
     }
@@ -86,12 +89,12 @@ seen_by before after' copies is = ⊎_elim (λ (e : after'.seen ≡ before.seen)
       behind = ahead_if after'.heard s.entry s.seen.unheard;
     })) is.seen
 
-pub refreshes_are_seen_at_copies : (J : Type 0) → RefreshesAreSeenAtCopies J
-refreshes_are_seen_at_copies J c r before after' (inr refusal) does fine = not_refused r refusal.0.refusal refusal.0.told fine
-refreshes_are_seen_at_copies J (write w) r before after' (inl is) does fine = let done = is.seen.refreshed does in seen_by before after' done.0 done.1
-refreshes_are_seen_at_copies J refresh r before after' (inl is) does fine = seen_by before after' is.copies is.done
-refreshes_are_seen_at_copies J (bulk ws) r before after' (inl is) does fine = absurd (let no : false ≡ true = does in cc)
-refreshes_are_seen_at_copies J (get id) r before after' (inl is) does fine = absurd (let no : false ≡ true = does in cc)
-refreshes_are_seen_at_copies J (search q page) r before after' (inl is) does fine = absurd (let no : false ≡ true = does in cc)
-refreshes_are_seen_at_copies J (count q) r before after' (inl is) does fine = absurd (let no : false ≡ true = does in cc)
-refreshes_are_seen_at_copies J (promote copy) r before after' (inl is) does fine = absurd (let no : false ≡ true = does in cc)
+pub refreshes_are_seen_at_copies : (J : Type 0) (m : MappingData) → RefreshesAreSeenAtCopies J m
+refreshes_are_seen_at_copies J m c r before after' (inr refusal) does fine = not_refused r refusal.0.refusal refusal.0.told fine
+refreshes_are_seen_at_copies J m (write w) r before after' (inl is) does fine = let done = is.seen.refreshed does in seen_by before after' done.0 done.1
+refreshes_are_seen_at_copies J m refresh r before after' (inl is) does fine = seen_by before after' is.copies is.done
+refreshes_are_seen_at_copies J m (bulk ws) r before after' (inl is) does fine = absurd (let no : false ≡ true = does in cc)
+refreshes_are_seen_at_copies J m (get id) r before after' (inl is) does fine = absurd (let no : false ≡ true = does in cc)
+refreshes_are_seen_at_copies J m (search q page) r before after' (inl is) does fine = absurd (let no : false ≡ true = does in cc)
+refreshes_are_seen_at_copies J m (count q) r before after' (inl is) does fine = absurd (let no : false ≡ true = does in cc)
+refreshes_are_seen_at_copies J m (promote copy) r before after' (inl is) does fine = absurd (let no : false ≡ true = does in cc)

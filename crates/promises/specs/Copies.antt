@@ -79,21 +79,20 @@ pub record IsFoundFrom (acked : PrefixData Deed) (id : Id) (seq : ℕ) (r : Repl
   pub read : IsReadAfter id r node deeds os
   pub from : HasFrom acked id seq node deeds os
 
--- the reply tells what a search finds in the copy of this id after these entries of a journal, which leave it these operations
-pub record IsSoughtAfter (c : Command) (r : Reply) (node : ℕ) (deeds : List Deed) (os : List one.Op) : Type 0 where
+-- the reply tells what a search finds under this mapping in the copy of this id after these entries of a journal, which leave it these operations
+pub record IsSoughtAfter (m : MappingData) (c : Command) (r : Reply) (node : ℕ) (deeds : List Deed) (os : List one.Op) : Type 0 where
   pub opening : Copy
   pub legal : IsLegal (open_at opening) 0 deeds
   pub node_is : opening.id ≡ node
   pub left : os ≡ operations (after (open_at opening) 0 deeds).copy
-  pub mapping : MappingData
-  pub over : IsOver mapping os c r
+  pub over : IsOver m os c r
 
 -- the reply tells what it finds in such a copy
-pub record IsSeenFrom (acked : PrefixData Deed) (id : Id) (seq : ℕ) (c : Command) (r : Reply) : Type 0 where
+pub record IsSeenFrom (m : MappingData) (acked : PrefixData Deed) (id : Id) (seq : ℕ) (c : Command) (r : Reply) : Type 0 where
   pub node : ℕ
   pub deeds : List Deed
   pub os : List one.Op
-  pub sought : IsSoughtAfter c r node deeds os
+  pub sought : IsSoughtAfter m c r node deeds os
   pub from : HasFrom acked id seq node deeds os
 
 -- what was seen of a copy is as it was; or a refresh of a copy was seen, and where the client heard of that copy last, behind all that it heard
@@ -130,21 +129,21 @@ reads refresh = false
 reads (promote copy) = false
 
 -- the reply tells what is asked of the copy of this id after these entries of a journal, which leave it these operations
-abbrev pub IsReplyAfter : Command → Reply → ℕ → List Deed → List one.Op → Type 0
-IsReplyAfter (get id) r node deeds os = IsReadAfter id r node deeds os
-IsReplyAfter (search q page) r node deeds os = IsSoughtAfter (search q page) r node deeds os
-IsReplyAfter (count q) r node deeds os = IsSoughtAfter (count q) r node deeds os
-IsReplyAfter (write w) r node deeds os = ⊥
-IsReplyAfter (bulk ws) r node deeds os = ⊥
-IsReplyAfter refresh r node deeds os = ⊥
-IsReplyAfter (promote copy) r node deeds os = ⊥
+abbrev pub IsReplyAfter : MappingData → Command → Reply → ℕ → List Deed → List one.Op → Type 0
+IsReplyAfter m (get id) r node deeds os = IsReadAfter id r node deeds os
+IsReplyAfter m (search q page) r node deeds os = IsSoughtAfter m (search q page) r node deeds os
+IsReplyAfter m (count q) r node deeds os = IsSoughtAfter m (count q) r node deeds os
+IsReplyAfter m (write w) r node deeds os = ⊥
+IsReplyAfter m (bulk ws) r node deeds os = ⊥
+IsReplyAfter m refresh r node deeds os = ⊥
+IsReplyAfter m (promote copy) r node deeds os = ⊥
 
 -- so it does of a copy that is the primary after a past of the master that goes on from this
-pub record IsOfPrimary (past : List MasterEntry) (c : Command) (r : Reply) : Type 0 where
+pub record IsOfPrimary (m : MappingData) (past : List MasterEntry) (c : Command) (r : Reply) : Type 0 where
   pub node : ℕ
   pub deeds : List Deed
   pub os : List one.Op
-  pub reply : IsReplyAfter c r node deeds os
+  pub reply : IsReplyAfter m c r node deeds os
   pub now : List MasterEntry
   pub led : IsLedBehind past node now
 
@@ -156,42 +155,42 @@ pub record IsPromotion (copy : ℕ) (past : List MasterEntry) : Type 0 where
 -- ---- the promises
 
 -- a client that knows of a write that it is confirmed, and gets the id from that copy, is told the write or a newer one, unless the copy was reset since
-abbrev pub WritesAreFoundAtCopies : Type 0 → Type 0
-WritesAreFoundAtCopies J =
+abbrev pub WritesAreFoundAtCopies : Type 0 → MappingData → Type 0
+WritesAreFoundAtCopies J m =
     (w : Write) (x : Wrote) (asked : Command) (reply : Reply) (o : Option Found) (acked : PrefixData Deed) (before after later new : KnownData)
-    → IsAcknowledged w x asked reply → IsTold J before asked reply after → after.heard ≡ Some acked → Knows acked later.heard → IsTold J later (get w.id) (got o) new → IsFoundFrom acked w.id x.seq (got o)
+    → IsAcknowledged w x asked reply → IsTold J m before asked reply after → after.heard ≡ Some acked → Knows acked later.heard → IsTold J m later (get w.id) (got o) new → IsFoundFrom acked w.id x.seq (got o)
 
 -- a client that knows of a write that it is confirmed, and has seen that copy since, by a refresh or a search, is told by a search of it what it finds among
 -- documents with the write or a newer one, unless the copy was reset since
-abbrev pub WritesAreSeenAtCopies : Type 0 → Type 0
-WritesAreSeenAtCopies J =
+abbrev pub WritesAreSeenAtCopies : Type 0 → MappingData → Type 0
+WritesAreSeenAtCopies J m =
     (w : Write) (x : Wrote) (asked : Command) (reply : Reply) (c : Command) (r : Reply) (acked : PrefixData Deed) (before after later new : KnownData)
-    → IsAcknowledged w x asked reply → IsTold J before asked reply after → after.heard ≡ Some acked → Knows acked later.seen → IsTold J later c r new
-    → is_search c ≡ true → is_refused r ≡ false → IsSeenFrom acked w.id x.seq c r
+    → IsAcknowledged w x asked reply → IsTold J m before asked reply after → after.heard ≡ Some acked → Knows acked later.seen → IsTold J m later c r new
+    → is_search c ≡ true → is_refused r ≡ false → IsSeenFrom m acked w.id x.seq c r
 
 -- a client that was told that copies were refreshed, alone or behind a write, has seen that of the primary, unless this was passed over
-abbrev pub RefreshesAreSeenAtCopies : Type 0 → Type 0
-RefreshesAreSeenAtCopies J =
-    (c : Command) (r : Reply) (before after : KnownData) → IsTold J before c r after → refreshes c ≡ true → is_refused r ≡ false → (after.seen ≡ before.seen) ⊎ IsRefreshSeen after
+abbrev pub RefreshesAreSeenAtCopies : Type 0 → MappingData → Type 0
+RefreshesAreSeenAtCopies J m =
+    (c : Command) (r : Reply) (before after : KnownData) → IsTold J m before c r after → refreshes c ≡ true → is_refused r ≡ false → (after.seen ≡ before.seen) ⊎ IsRefreshSeen after
 
 -- what a client knows of a copy by one reply begins what it knows of it by the next
-abbrev pub NeverBackAtCopies : Type 0 → Type 0
-NeverBackAtCopies J =
-    (c : Command) (r : Reply) (before after : KnownData) (p q : PrefixData Deed) → IsTold J before c r after → before.heard ≡ Some p → after.heard ≡ Some q → q.number ≡ p.number → IsPrefix p.entries q.entries
+abbrev pub NeverBackAtCopies : Type 0 → MappingData → Type 0
+NeverBackAtCopies J m =
+    (c : Command) (r : Reply) (before after : KnownData) (p q : PrefixData Deed) → IsTold J m before c r after → before.heard ≡ Some p → after.heard ≡ Some q → q.number ≡ p.number → IsPrefix p.entries q.entries
 
 -- and so does what it saw of a copy
-abbrev pub SearchesNeverBackAtCopies : Type 0 → Type 0
-SearchesNeverBackAtCopies J =
-    (c : Command) (r : Reply) (before after : KnownData) (p q : PrefixData Deed) → IsTold J before c r after → before.seen ≡ Some p → after.seen ≡ Some q → q.number ≡ p.number → IsPrefix p.entries q.entries
+abbrev pub SearchesNeverBackAtCopies : Type 0 → MappingData → Type 0
+SearchesNeverBackAtCopies J m =
+    (c : Command) (r : Reply) (before after : KnownData) (p q : PrefixData Deed) → IsTold J m before c r after → before.seen ≡ Some p → after.seen ≡ Some q → q.number ≡ p.number → IsPrefix p.entries q.entries
 
 -- what a client knows of the master's journal by one reply begins what it knows of it by the next
-abbrev pub MasterNeverBack : Type 0 → Type 0
-MasterNeverBack J = (c : Command) (r : Reply) (before after : KnownData) → IsTold J before c r after → IsPrefix before.past after.past
+abbrev pub MasterNeverBack : Type 0 → MappingData → Type 0
+MasterNeverBack J m = (c : Command) (r : Reply) (before after : KnownData) → IsTold J m before c r after → IsPrefix before.past after.past
 
 -- a client that was told that a copy is made the primary, and goes on from there, is told of documents by the copy that is the primary after entries of the
 -- master that go on from that decision
-abbrev pub PromotionsAreFollowed : Type 0 → Type 0
-PromotionsAreFollowed J =
+abbrev pub PromotionsAreFollowed : Type 0 → MappingData → Type 0
+PromotionsAreFollowed J m =
     (copy term : ℕ) (c : Command) (r : Reply) (before after later new : KnownData)
-    → IsTold J before (promote copy) (promoted copy term) after → IsPrefix after.past later.past → IsTold J later c r new → reads c ≡ true → is_refused r ≡ false
-    → IsPromotion copy after.past × IsOfPrimary after.past c r
+    → IsTold J m before (promote copy) (promoted copy term) after → IsPrefix after.past later.past → IsTold J m later c r new → reads c ≡ true → is_refused r ≡ false
+    → IsPromotion copy after.past × IsOfPrimary m after.past c r

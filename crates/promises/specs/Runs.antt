@@ -36,7 +36,7 @@ pub record IsHeldIn (w : World) (id : Id) (seq : ℕ) : Type 0 where
 -- ---- the promise
 
 -- a write that a client was told as done is held at the end of each run of whose journals one goes on from what the client knows by that
-abbrev pub WritesAreHeldInRuns : Type 0 → Type 0
-WritesAreHeldInRuns J =
-    (w : Write) (x : Wrote) (asked : Command) (reply : Reply) (before after : KnownData) (acked : PrefixData Deed) → IsAcknowledged w x asked reply → IsTold J before asked reply after → after.heard ≡ Some acked
+abbrev pub WritesAreHeldInRuns : Type 0 → MappingData → Type 0
+WritesAreHeldInRuns J m =
+    (w : Write) (x : Wrote) (asked : Command) (reply : Reply) (before after : KnownData) (acked : PrefixData Deed) → IsAcknowledged w x asked reply → IsTold J m before asked reply after → after.heard ≡ Some acked
     → (mapping : MappingData) (n : ℕ) (js : List Journal) (es : List Event) → IsMadeOf mapping n js es → IsKnownOf js acked → IsHeldIn (world_of mapping n es) w.id x.seq

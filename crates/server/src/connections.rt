@@ -1,9 +1,8 @@
 //! Connections to an index, many at once.
 
-use chronicle::RegistryName;
+use cell::{IndexLabel, IndexName};
 use clients::{Clients, Watcher};
 use cluster::Client;
-use doc::Mapping;
 use group::{Chair, Group, Known};
 use shard::{Desk, HistoryName, Reached, SharedShard};
 use std::alloc::Global;
@@ -73,11 +72,10 @@ where
     Ok(())
 }
 
-/// An index of several copies: its name, its mapping, and what asks the copies.
+/// An index of several copies: its name and its mapping, and what asks the copies.
 #[derive(Drop)]
-pub(crate) struct Index<'a, D: LogDevice, J: RegistryName> {
-    pub(crate) name: &'a str,
-    pub(crate) mapping: &'a Mapping,
+pub(crate) struct Index<'a, D: LogDevice, J: IndexName> {
+    pub(crate) label: &'a IndexLabel<J>,
     pub(crate) client: &'a Client<D, J>,
 }
 
@@ -92,7 +90,7 @@ where
     R: Threads + Wait + Clock + Sync,
     D: LogDevice + Send,
     W: Watcher,
-    J: RegistryName + Send + Sync + 'static,
+    J: IndexName + Send + Sync + 'static,
 {
     let chairs = chairs_of(rt, index.client);
     serve_chairs(rt, alloc, clients, index, &chairs)
@@ -109,7 +107,7 @@ where
     R: Threads + Wait + Clock + Sync,
     D: LogDevice + Send,
     W: Watcher,
-    J: RegistryName + Send + Sync + 'static,
+    J: IndexName + Send + Sync + 'static,
 {
     let ends = thread::map_indices(
         rt,
@@ -119,8 +117,7 @@ where
             let group = Group {
                 rt,
                 alloc,
-                name: index.name,
-                mapping: index.mapping,
+                label: index.label,
                 client: index.client,
                 chair: &chairs[lane % CHAIRS],
                 known: Known::nothing(),
@@ -134,10 +131,7 @@ where
     Ok(())
 }
 
-fn chairs_of<R: Wait, D: LogDevice, J: RegistryName>(
-    rt: &R,
-    client: &Client<D, J>,
-) -> [Chair<J>; 8] {
+fn chairs_of<R: Wait, D: LogDevice, J: IndexName>(rt: &R, client: &Client<D, J>) -> [Chair<J>; 8] {
     [
         Chair::new(rt, client),
         Chair::new(rt, client),

@@ -3,6 +3,7 @@
 
 mod connections;
 mod fault;
+mod founding;
 mod index_name;
 mod listening;
 mod lone;

@@ -5,7 +5,7 @@ use crate::connections::{Index, serve_connections, serve_group};
 use crate::fault::{ServeFault, ended};
 use crate::settings::Settings;
 use crate::telling::Telling;
-use chronicle::RegistryName;
+use cell::IndexName;
 use clients::{Clients, Limits};
 use shard::{Begun, HistoryName, Shard, SharedShard};
 use std::io;
@@ -134,15 +134,15 @@ where
     O: Write,
     E: Write + Send,
     D: LogDevice + Send,
-    J: RegistryName + Send + Sync + 'static,
+    J: IndexName + Send + Sync + 'static,
 {
     let alloc = rt.alloc();
     let listener = bound(rt, settings.port, output)?;
     let telling = Telling {
         rt,
         alloc,
-        index: index.name,
-        mapping: index.mapping,
+        index: index.label.name(),
+        mapping: index.label.mapping(),
         explains: settings.explains,
         greets: settings.greets,
         errors: Mutex::new(errors),

@@ -1,19 +1,19 @@
 //! An index of several copies on threads of their own.
-ghost use Rattle.std.specs.Prelude.{◌≡◌};
+ghost use Rattle.std.specs.Prelude.{◌≡◌, string_bytes};
 
 use crate::connections::Index;
 use crate::fault::ServeFault;
+use crate::founding::{Founded, Founding};
 use crate::listening::listen_to_group;
 use crate::mapping::fields_of;
 use crate::opening::{Counted, OpeningLine};
 use crate::settings::Settings;
-use chronicle::{Ledgers, RegistryName, Unnamed};
+use cell::IndexName;
 use cluster::{Cluster, ClusterFault, Devices, HandedOut, InMemory, Journals, Open, Unopened};
 use doc::Mapping;
 use folder::{KeptFolder, MappingFile, judge, keep_journals, open_folder};
-use journal::{Deed, Journal};
+use journal::Journal;
 use node::Receipt;
-use ruled::MasterEntry;
 use std::alloc::{AllocError, Global};
 use std::fs;
 use std::fs::File;
@@ -55,7 +55,10 @@ where
         mapping,
         fields: &fields,
     };
-    let ended = serve_started::<Brand, R, O, E>(rt, &wanted, output, errors, Unnamed::new());
+    let ended = match Founding::of(rt.alloc(), settings.index, &fields) {
+        Ok(founding) => serve_started::<Brand, R, O, E>(rt, &wanted, output, errors, founding),
+        Err(refused) => Err(ServeFault::from(refused)),
+    };
     drop(fields);
     ended
 }
@@ -75,16 +78,16 @@ struct WantedIn<'a> {
     folder: &'a str,
 }
 
-/// The same, of the cluster whose journals are these.
+/// The same, of the index that begins with this.
 fn serve_started<J, R, O, E>(
     rt: &R,
     wanted: &Wanted<'_>,
     output: &mut O,
     errors: &mut E,
-    journals: Unnamed<Deed, MasterEntry>,
+    founding: Founding,
 ) -> Result<(), ServeFault>
 where
-    J: RegistryName + Send + Sync + 'static,
+    J: IndexName + Send + Sync + 'static,
     R: Files<File = File>
         + AllocGlobal
         + Net<Listener = TcpListener, Stream = TcpStream>
@@ -98,16 +101,17 @@ where
         + 'static,
     O: Write,
     E: Write + Send,
-    requires { (journals.registry ≡ J.registry) × (journals.ledger ≡ J.ledger) }
+    requires journals { (founding.journals.registry ≡ J.registry) × (founding.journals.ledger ≡ J.ledger) }
+    requires name { string_bytes founding.name ≡ J.index.name }
+    requires fields { founding.fields ≡ J.index.mapping }
 {
     let alloc = rt.alloc();
-    let copied = wanted.fields.copy(alloc)?;
     let copies = wanted.settings.copies.max(1).min(5) as u8;
-    let ledgers: Ledgers<Deed, MasterEntry, J> = journals.named();
+    let Founded { label, ledgers } = founding.named::<J>();
     match Cluster::start(
         rt,
         alloc,
-        copied,
+        label,
         copies,
         InMemory::new(alloc),
         Open,
@@ -161,7 +165,7 @@ where
     R: AllocGlobal + Threads + Wait + Copy + Send + Drop + 'static,
     D: LogDevice + Send + 'static,
     V: Devices<D>,
-    J: RegistryName + Send + Sync + 'static,
+    J: IndexName + Send + Sync + 'static,
 {
     let receipts: Vec<Receipt<J>> = Vec::new(rt.alloc());
     let closed = cluster.close(rt, receipts.as_slice());
@@ -176,7 +180,7 @@ where
 }
 
 /// The journals alone of what is handed out.
-fn handed<J: RegistryName>(
+fn handed<J: IndexName>(
     closed: Result<Option<HandedOut<J>>, ClusterFault>,
 ) -> Result<Option<Vec<Journal>>, ServeFault> {
     match closed {
@@ -297,7 +301,12 @@ where
                 },
                 folder,
             };
-            let ended = serve_folder::<Brand, R, O, E>(rt, &wanted, output, errors, Unnamed::new());
+            let ended = match Founding::of(rt.alloc(), settings.index, &fields) {
+                Ok(founding) => {
+                    serve_folder::<Brand, R, O, E>(rt, &wanted, output, errors, founding)
+                }
+                Err(refused) => Err(ServeFault::from(refused)),
+            };
             drop(fields);
             drop(lock);
             ended
@@ -306,16 +315,16 @@ where
     }
 }
 
-/// Serves a folder that nobody else serves, by the cluster whose journals are these.
+/// Serves a folder that nobody else serves, of the index that begins with this.
 fn serve_folder<J, R, O, E>(
     rt: &R,
     kept: &WantedIn<'_>,
     output: &mut O,
     errors: &mut E,
-    journals: Unnamed<Deed, MasterEntry>,
+    founding: Founding,
 ) -> Result<(), ServeFault>
 where
-    J: RegistryName + Send + Sync + 'static,
+    J: IndexName + Send + Sync + 'static,
     R: Files<File = File>
         + AllocGlobal
         + Net<Listener = TcpListener, Stream = TcpStream>
@@ -329,10 +338,11 @@ where
         + 'static,
     O: Write,
     E: Write + Send,
-    requires { (journals.registry ≡ J.registry) × (journals.ledger ≡ J.ledger) }
+    requires journals { (founding.journals.registry ≡ J.registry) × (founding.journals.ledger ≡ J.ledger) }
+    requires name { string_bytes founding.name ≡ J.index.name }
+    requires fields { founding.fields ≡ J.index.mapping }
 {
-    let ledgers: Ledgers<Deed, MasterEntry, J> = journals.named();
-    match opened(rt, kept, errors, ledgers) {
+    match opened(rt, kept, errors, founding.named::<J>()) {
         Ok(mut cluster) => {
             let served = serve_opened(rt, &kept.wanted, &mut cluster, output, errors);
             told_of(
@@ -358,10 +368,10 @@ fn opened<J, R, E>(
     rt: &R,
     kept: &WantedIn<'_>,
     errors: &mut E,
-    ledgers: Ledgers<Deed, MasterEntry, J>,
+    founded: Founded<J>,
 ) -> Result<Cluster<FileDevice<File>, Counted<R>, Open, J>, ServeFault>
 where
-    J: RegistryName + Send + Sync + 'static,
+    J: IndexName + Send + Sync + 'static,
     R: Files<File = File>
         + AllocGlobal
         + Net<Listener = TcpListener, Stream = TcpStream>
@@ -377,15 +387,11 @@ where
 {
     let alloc = rt.alloc();
     let WantedIn {
-        wanted: Wanted {
-            settings,
-            fields,
-            ..
-        },
+        wanted: Wanted { settings, .. },
         folder,
     } = *kept;
+    let Founded { label, ledgers } = founded;
     let line = OpeningLine::of_several(alloc, settings.at_terminal)?;
-    let copied = fields.copy(alloc)?;
     match Counted::new(*rt, alloc, folder, settings.when_synced(), &line) {
         Ok(devices) => {
             let cluster = line.shown_while(rt, errors, || {
@@ -393,7 +399,7 @@ where
                 Cluster::open(
                     rt,
                     alloc,
-                    copied,
+                    label,
                     copies,
                     devices,
                     Open,
@@ -404,7 +410,8 @@ where
             cluster.map_err(ServeFault::from)
         }
         Err(_) => {
-            drop(copied);
+            drop(label);
+            drop(ledgers);
             Err(ServeFault::NoMemory)
         }
     }
@@ -419,7 +426,7 @@ fn serve_opened<J, R, V, O, E>(
     errors: &mut E,
 ) -> Result<(), ServeFault>
 where
-    J: RegistryName + Send + Sync + 'static,
+    J: IndexName + Send + Sync + 'static,
     R: AllocGlobal
         + Net<Listener = TcpListener, Stream = TcpStream>
         + Threads
@@ -456,7 +463,7 @@ fn serve_cluster<J, R, D, V, O, E>(
     errors: &mut E,
 ) -> Result<(), ServeFault>
 where
-    J: RegistryName + Send + Sync + 'static,
+    J: IndexName + Send + Sync + 'static,
     R: AllocGlobal
         + Net<Listener = TcpListener, Stream = TcpStream>
         + Threads
@@ -469,8 +476,7 @@ where
     E: Write + Send,
 {
     let index = Index {
-        name: wanted.settings.index,
-        mapping: wanted.fields,
+        label: cluster.label(),
         client: cluster.client(),
     };
     listen_to_group(rt, wanted.settings, &index, output, errors)
@@ -483,7 +489,7 @@ fn lacking<J, R, V>(
     wanted: u64,
 ) -> Result<u64, ServeFault>
 where
-    J: RegistryName + Send + Sync + 'static,
+    J: IndexName + Send + Sync + 'static,
     R: Wait,
     V: Devices<FileDevice<File>>,
 {

@@ -22,7 +22,7 @@ loop-before-preserved g c =
     let was = c.loop-before.invariant in
     let all = c.loop-before.all in (
       omega (arith, c.in_ok-push.ensures.len, was.0),
-      subst (λ (rs : List ReadyData). AreNew c.args.mapping.now c.args.copies 1 (map copy_of rs)) (sym c.in_ok-push.ensures.items)
+      subst (λ (rs : List ReadyData). AreNew c.args.label.now.mapping c.args.copies 1 (map copy_of rs)) (sym c.in_ok-push.ensures.items)
           (new_more _ _ all.items _ (c.loop-before.before + 1) was.1 (ap (λ (r : ReadyData). r.copy) c.in_ok-new_copy.ensures) (ap (λ n. n + 1) (sym was.0 ∙ all.ok.0))),
       trans-IsPrefix _ _ _ was.2 c.device_of.ensures,
     )

@@ -2,4 +2,4 @@ use Rattle.promises.proofs.SeenAtCopies.{refreshes_are_seen_at_copies}
 use Rattle.promises.proofs.laws.refreshes_are_seen_at_copies.Goals as goal
 
 pub returns : goal.returns
-returns g c = refreshes_are_seen_at_copies g.row.J.Denot
+returns g c = refreshes_are_seen_at_copies g.row.J.Denot g.J.IndexName.index.mapping

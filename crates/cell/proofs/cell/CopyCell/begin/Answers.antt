@@ -13,4 +13,4 @@ pub invariant_of-result : goal.invariant_of-result
 invariant_of-result g c =
     let open_shown : IfSome c.in-Ok-Some.field-0 (IsShownBy g.J.RegistryName.registry (standing c.args.held).copy) = subst (λ (r : Result (Option Showing) AllocError). IfOk r (λ o. IfSome o (IsShownBy g.J.RegistryName.registry (standing c.args.held).copy))) c.in-Ok-Some.is c.showing_in.ensures in
     let shown : IsShownBy g.J.RegistryName.registry (standing c.args.held).copy c.in-Ok-Some.showing = subst (λ (o : Option Showing). IfSome o (IsShownBy g.J.RegistryName.registry (standing c.args.held).copy)) c.in-Ok-Some.field-0-is open_shown in
-    begun_published g.J.RegistryName.registry (standing c.args.held).copy c.in-Ok.publisher c.in-Ok-Some.showing shown (subst (λ (r : Result Line AllocError). IfOk r (λ p. p ≡ line p.book (listing p.book c.in-Ok-Some.showing))) c.in-Ok.is c.begin.ensures)
+    begun_published g.J.RegistryName.registry g.J.IndexName.index.mapping (standing c.args.held).copy c.in-Ok.publisher c.in-Ok-Some.showing shown c.requires.mapping (subst (λ (r : Result Line AllocError). IfOk r (λ p. p ≡ line p.book (listing p.book c.in-Ok-Some.showing))) c.in-Ok.is c.begin.ensures)

@@ -1,5 +1,6 @@
 use Rattle.std.proofs.Common.{ap, refl, ◌∙◌}
 use Rattle.published.proofs.Orders.{trans-IsPrefix}
+use Rattle.cell.specs.Index.{IndexData}
 use Rattle.cluster.proofs.Opened.{none_tried, same_begins, tried_all, tried_left, tried_some}
 use Rattle.cluster.proofs.cluster.Cluster.open_each.Goals.{in-Some+in_ok-push-in-Some, in-None}
 use Rattle.cluster.proofs.cluster.Cluster.open_each.Goals as goal
@@ -23,14 +24,15 @@ pub loop-id-preserved : goal.loop-id-preserved
 loop-id-preserved g c =
     let was = c.loop-id.invariant in
     let on = c.open_one.ensures.same in
-    let more = c.open_one.ensures.gave in (
+    let more = c.open_one.ensures.gave in
+    let same = ap (λ (l : IndexData). l.mapping) on.1 in (
       on.0 ∙ was.0,
       on.1 ∙ was.1,
       on.2 ∙ was.2,
       trans-IsPrefix _ _ _ was.3 more,
       elim c.match-branch-2.branch [
-        | in-Some+in_ok-push-in-Some w ↦ tried_some _ _ _ _ _ _ _ _ _ _ c.loop-id.self.unopened c.open_one.new.self.unopened (λ v. v.items) _ _ _ _ c.loop-id-test.true was.4 on.1 more c.in_ok-one.ensures.opened w.in-Some.is (ap (λ v. v.items) w.opened-is ∙ w.in_ok-push-in-Some.ensures.items)
-        | in-None w ↦ tried_left _ _ _ _ _ _ _ _ c.loop-id.self.crew c.open_one.new.self.crew (λ v. v.began.items) _ _ _ _ _ c.loop-id-test.true was.4 on.1 more c.in_ok-one.ensures.left w.in-None.is (ap (λ v. v.items) w.opened-is)
+        | in-Some+in_ok-push-in-Some w ↦ tried_some _ _ _ _ _ _ _ _ _ _ c.loop-id.self.unopened c.open_one.new.self.unopened (λ v. v.items) _ _ _ _ c.loop-id-test.true was.4 same more c.in_ok-one.ensures.opened w.in-Some.is (ap (λ v. v.items) w.opened-is ∙ w.in_ok-push-in-Some.ensures.items)
+        | in-None w ↦ tried_left _ _ _ _ _ _ _ _ c.loop-id.self.crew c.open_one.new.self.crew (λ v. v.began.items) _ _ _ _ _ c.loop-id-test.true was.4 same more c.in_ok-one.ensures.left w.in-None.is (ap (λ v. v.items) w.opened-is)
       ],
     )
 

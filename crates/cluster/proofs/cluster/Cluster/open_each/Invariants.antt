@@ -7,7 +7,7 @@ use Rattle.cluster.proofs.cluster.Cluster.open_each.Given as goal
 abbrev pub invariant-loop-id : goal.invariant-loop-id
 invariant-loop-id g l =
     (l.self.journals ≡ l.fn.self.journals)
-    × (l.self.mapping ≡ l.fn.self.mapping)
+    × (l.self.label ≡ l.fn.self.label)
     × (l.self.past ≡ l.fn.self.past)
     × IsPrefix (g.V.Devices.gave l.fn.self.devices) (g.V.Devices.gave l.self.devices)
-    × AreTried (g.V.Devices.gave l.self.devices) l.self.mapping l.count (take l.id-index l.id-items) l.self.crew.began.items l.self.unopened.items l.opened.items
+    × AreTried (g.V.Devices.gave l.self.devices) l.self.label.mapping l.count (take l.id-index l.id-items) l.self.crew.began.items l.self.unopened.items l.opened.items
