@@ -18,8 +18,7 @@ use crate::index::IndexName;
 use crate::searching::CopySearcher;
 use doc::DocId;
 use engine::Merged;
-use journal::Journal;
-use node::{Got, Held, NodeFault, OnDisk, Pass, Receipt};
+use node::{EndedCopy, Got, Held, NodeFault, OnDisk, Pass, Receipt};
 use published::{Name, Note, Place, Publisher, Searcher, Showing, ShownRecords, Unnamed};
 use replica::{Copy, Input, Write};
 use std::alloc::{AllocError, Global};
@@ -324,7 +323,7 @@ impl<D: LogDevice, J: IndexName> CopyCell<D, J> {
 
     /// The journal where memory has it, for which the copy is given up. Searches show nothing any more, which waits for those that are just taking
     /// what is shown.
-    pub fn close<R: Wait>(self, rt: &R) -> Option<Journal>
+    pub fn close<R: Wait>(self, rt: &R) -> Option<EndedCopy<J>>
         ensures kept { is_some result ≡ self.journal.kept }
         ensures same { IfSome result (λ j. j ≡ OfCopy self.journal.opening self.journal.deeds) }
         ensures legal { IsLegal (open_at self.journal.opening) 0 self.journal.deeds }

@@ -4,3 +4,4 @@ pub mod Confirming
 pub mod Handed
 pub mod Refreshes
 pub mod Opened
+pub mod Owned

@@ -1,44 +1,18 @@
 -- Journals that are handed out.
-use Rattle.std.specs.Prelude.{◌≡◌, ◌<◌, ◌+◌, ℕ, List, [], ◌∷◌, length, Option, Some, None, All, Any}
-use mathlib.Core.List.{IsPrefix}
-use Rattle.chronicle.specs.Registered.{PrefixData}
-use Rattle.journal.specs.declared.journal.Deed.{Deed}
+use Rattle.std.specs.Prelude.{◌≡◌, ◌<◌, ℕ, List, [], ◌∷◌, length, Option, Some, None, All, Any}
+use Rattle.std.specs.List.{AllWithin, AllZip, HoldsAt}
 use Rattle.journal.specs.declared.journal.Journal.{Journal}
-use Rattle.journal.specs.declared.journal.Journal.TheVariants.{OfMaster, OfCopy}
 use Rattle.journal.specs.Lawful.{IsLawful}
+use Rattle.node.specs.Ended.{node_of, HasReceipt, IsJournalFrom}
 use Rattle.node.specs.Entry.{Receipt}
-use Rattle.node.specs.Gathered.{deed_at, AreGathered, IsWhole}
-use Rattle.ruled.specs.declared.entry.MasterEntry.{MasterEntry}
-use Rattle.ruled.specs.Entries.{IsJournalOf}
+use Rattle.node.specs.Gathered.{AreGathered, IsWhole}
+use Rattle.replica.specs.Copy.{Copy}
+use Rattle.cluster.specs.declared.fault.ClusterFault.{ClusterFault}
+use Rattle.cluster.specs.declared.fault.ClusterFault.TheVariants.{NoMemory, NoSeat, Copy as OfCopy, Master, Stray, Running, Unopened}
 
 -- each entry of the journal is legal
 pub record IsLegalJournal (j : Journal) : Type 0 where
   pub lawful : IsLawful j
-
--- whose calls the journal has: the master's, which is node 0, or a copy's
-abbrev pub node_of : Journal → ℕ
-node_of (OfMaster state rulings) = 0
-node_of (OfCopy opening deeds) = opening.id
-
--- the entries of a copy's journal
-abbrev pub deeds_of : Journal → List Deed
-deeds_of (OfMaster state rulings) = []
-deeds_of (OfCopy opening deeds) = deeds
-
--- what is told of a copy's journal is all of it; nothing where it has no entry
-abbrev pub IsAllOf : Journal → Option (PrefixData Deed) → Type 0
-IsAllOf j None = deeds_of j ≡ []
-IsAllOf j (Some h) = (h.number ≡ node_of j) × (h.entries ≡ deeds_of j)
-
--- the journals of the copies, which stand behind the master's
-abbrev pub copies_in : List Journal → List Journal
-copies_in [] = []
-copies_in (j ∷ js) = js
-
--- the first is the master's, with these entries
-abbrev pub BeginsWithMaster : List MasterEntry → List Journal → Type 0
-BeginsWithMaster past [] = ⊥
-BeginsWithMaster past (j ∷ js) = IsJournalOf past j
 
 -- each is of a copy with a greater id than the one before it, and than this
 abbrev pub RiseFrom : ℕ → List Journal → Type 0
@@ -53,22 +27,50 @@ pub record IsOfOneCaller (j : Journal) : Type 0 where
   pub whole : IsWhole j receipts
   pub numbered : All (λ r. r.deed.pass ≡ node_of j) receipts
 
--- the receipt stands in the journal of its node, which goes on from all entries up to it
-pub record HasReceipt (r : Receipt) (j : Journal) : Type 0 where
-  pub node : node_of j ≡ r.node
-  pub stands : deed_at j r.place ≡ Some r.deed
-  pub entries : IsPrefix r.deeds (deeds_of j)
+-- the journal is that of a copy which began as this one, legal, and of one caller
+pub record IsOwnFrom (began : Copy) (j : Journal) : Type 0 where
+  pub from : IsJournalFrom began j
+  pub legal : IsLegalJournal j
+  pub own : IsOfOneCaller j
 
 -- the receipt stands in one of the journals
 pub record StandsIn (js : List Journal) (r : Receipt) : Type 0 where
   pub one : Any (HasReceipt r) js
 
--- what is handed out where a cluster of so many copies ends: the master's journal first, with these entries, then those of the copies in the order of
--- their ids, each legal and of one caller, in which these receipts stand
-pub record AreHandedOut (copies : ℕ) (receipts : List Receipt) (past : List MasterEntry) (js : List Journal) : Type 0 where
-  pub legal : All IsLegalJournal js
-  pub all : length js ≡ copies + 1
-  pub master : BeginsWithMaster past js
-  pub order : RiseFrom 0 (copies_in js)
-  pub gathered : All IsOfOneCaller (copies_in js)
-  pub stand : All (StandsIn (copies_in js)) receipts
+-- what is handed out where a cluster of so many copies ends, which began as these: the journal of the master, and one of each copy in the order of their
+-- ids, each legal and those of copies of one caller, in which these receipts stand
+pub record AreHandedOut (copies : ℕ) (began : List Copy) (receipts : List Receipt) (master : Journal) (js : List Journal) : Type 0 where
+  pub legal : All IsLegalJournal (master ∷ js)
+  pub all : length js ≡ copies
+  pub from : AllZip IsJournalFrom began js
+  pub order : RiseFrom 0 js
+  pub gathered : All IsOfOneCaller js
+  pub stand : All (StandsIn js) receipts
+
+-- the receipt is of this place, and stands in none of the journals
+pub record IsLost (js : List Journal) (place : ℕ) (r : Receipt) : Type 0 where
+  pub at : place ≡ r.place
+  pub nowhere : StandsIn js r → ⊥
+
+-- the first of these receipts that stands in none of the journals is of this place
+pub record IsFirstLost (js : List Journal) (rs : List Receipt) (place : ℕ) : Type 0 where
+  pub index : ℕ
+  pub there : index < length rs
+  pub lost : HoldsAt (IsLost js place) rs index
+  pub others : AllWithin (StandsIn js) rs 0 index
+
+-- the same, of journals that copies left which began as these
+pub record IsLostBy (began : List Copy) (rs : List Receipt) (place : ℕ) : Type 0 where
+  pub journals : List Journal
+  pub own : AllZip IsOwnFrom began journals
+  pub first : IsFirstLost journals rs place
+
+-- the place that a fault names; nothing of one that isn't `Stray`
+abbrev pub stray_in : ClusterFault → Option ℕ
+stray_in NoMemory = None
+stray_in NoSeat = None
+stray_in (OfCopy f) = None
+stray_in (Master f) = None
+stray_in (Stray place) = Some place
+stray_in Running = None
+stray_in (Unopened tried) = None

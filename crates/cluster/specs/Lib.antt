@@ -6,4 +6,5 @@ pub mod Journals
 pub mod Leaving
 pub mod Opening
 pub mod Opened
+pub mod Owned
 pub mod Refreshed

@@ -1,7 +1,9 @@
 -- What a cluster was opened from.
-use Rattle.std.specs.Prelude.{◌≡◌, ◌⊎◌, ℕ, ◌+◌, List, [], ◌∷◌, ◌++◌, length, map, Option, Some, None, Ok}
+use Rattle.std.specs.Prelude.{◌≡◌, ◌⊎◌, ℕ, ◌<◌, ◌+◌, List, [], ◌∷◌, ◌++◌, length, map, Option, Some, None, Ok}
 use Rattle.std.specs.List.{AllByRecursion}
 use mathlib.Core.List.{IsPrefix}
+use mathlib.Core.HLevel.{×_prop, Unit-prop}
+use denote.Struct.Props as logic
 use Rattle.doc.specs.Mapping.{MappingData}
 use Rattle.master.specs.declared.state.Decision.{Decision}
 use Rattle.master.specs.declared.state.Request.TheVariants.{Promote}
@@ -41,6 +43,21 @@ AreOpened (id ∷ ids) (c ∷ cs) (u ∷ us) = ((c.id ≡ id) × AreOpened ids c
 -- the copy that is to be served
 abbrev pub copy_of : ReadyData → Copy
 copy_of r = r.copy
+
+-- each copy has a greater id than the one before it, and than this
+abbrev pub IdsRiseFrom : ℕ → List Copy → Type 0
+IdsRiseFrom id [] = Unit {0}
+IdsRiseFrom id (c ∷ cs) = (id < c.id) × IdsRiseFrom c.id cs
+
+-- which has one proof at most
+pub IdsRiseFrom-prop : (id : ℕ) (cs : List Copy) → IsProp (IdsRiseFrom id cs)
+IdsRiseFrom-prop id [] = Unit-prop
+IdsRiseFrom-prop id (c ∷ cs) = ×_prop (Prim.hlevel logic.props) (IdsRiseFrom-prop c.id cs)
+
+-- the id of the last of some copies; this one where there is none
+abbrev pub last_id : ℕ → List Copy → ℕ
+last_id id [] = id
+last_id id (c ∷ cs) = last_id c.id cs
 
 -- a copy that opened, and the number behind its last operation
 abbrev pub ended : Copy → Opened

@@ -64,7 +64,8 @@ impl<R: Wait + Drop, D: LogDevice, G: Gate, J: IndexName> Work<J> for Bench<R, D
             }
             Err(held) => {
                 sent(&rt, &begun, false);
-                Left::unserved(held, tools.pass)
+                drop(tools);
+                Left::unserved(held)
             }
         }
     }

@@ -1,12 +1,12 @@
 //! Starting the threads of a cluster, and ending them.
-ghost use Rattle.std.specs.Prelude.{◌≡◌, ◌+◌, ◌≤◌, ◌++◌, ◌∷◌, [], false, map, is_some, vec_len, Ok, Some, IsOk, IfNone, IfOk, IfSome, OnOk};
+ghost use Rattle.std.specs.Prelude.{◌≡◌, ◌+◌, ◌≤◌, ◌++◌, ◌∷◌, [], false, map, is_some, vec_len, Ok, Some, None, IsOk, IfErr, IfNone, IfOk, IfSome, OnOk};
 ghost use mathlib.Core.List.{IsPrefix};
 ghost use Rattle.master.specs.declared.state.Request.TheVariants.{Allocate};
 ghost use Rattle.master.specs.Log.{kept_state};
 ghost use Rattle.master.specs.Logged.{begun_state};
 ghost use Rattle.cluster.specs.Given.{given};
-ghost use Rattle.cluster.specs.Journals.{AreHandedOut};
-ghost use Rattle.cluster.specs.Opened.{copy_of, AreNew, AreTried, HasKept, IsLed, IsLeftOut, IsNewIndex, IsOpened, IsOpenedAs, IsPromoted, IsReopened, IsStarted};
+ghost use Rattle.cluster.specs.Journals.{stray_in, AreHandedOut, IsLostBy};
+ghost use Rattle.cluster.specs.Opened.{copy_of, AreNew, AreTried, HasKept, IdsRiseFrom, IsLed, IsLeftOut, IsNewIndex, IsOpened, IsOpenedAs, IsPromoted, IsReopened, IsStarted};
 ghost use Rattle.cluster.specs.Opening.{keeps, BeganWith};
 ghost use Rattle.ruled.specs.declared.entry.MasterEntry.TheVariants.{Opened as Starts};
 ghost use Rattle.ruled.specs.Entries.{IsDecided};
@@ -32,7 +32,7 @@ use node::{Began, Receipt};
 use op::CopyIds;
 use replica::CopyFault;
 use ruled::{Decided, Known, MasterEntry, Past, Ruled};
-use std::alloc::Global;
+use std::alloc::{AllocError, Global};
 use std::sync::{Arc, Mutex, Wait};
 use std::thread::{JoinHandle, Threads};
 use translog::LogDevice;
@@ -518,29 +518,33 @@ where
         &self.crew.client
     }
 
-    /// Ends all threads, and hands out the journals, where they are kept: the master's first, with all its entries, then those of the copies in the order
-    /// of their ids. Each entry of a copy has its receipt in the pass of the copy's worker, and the receipts that callers kept and hand in stand there too, else
-    /// `Stray` names the place of the first that doesn't.
+    /// Ends all threads, and hands out the journals, where they are kept: the master's, and those of the copies in the order of their ids, one for each
+    /// copy that began. Each entry of a copy has its receipt in the pass of the copy's worker, and the receipts that callers kept
+    /// and hand in stand there too, else `Stray` names the place of the first that doesn't. `NoMemory` also where a copy has no journal, since memory was
+    /// wanting to start its threads.
     pub fn close<R: Threads + Wait>(
         self,
         rt: &R,
         receipts: &[Receipt<J>],
     ) -> Result<Option<HandedOut<J>>, ClusterFault>
         ensures kept { IfOk result (λ o. is_some o ≡ keeps self.journals) }
-        ensures journals { IfOk result (λ o. IfSome o (λ h. AreHandedOut (vec_len self.crew.threads) receipts.now h.past h.journals.items)) }
+        ensures journals { IfOk result (λ o. IfSome o (λ h. AreHandedOut (vec_len self.crew.threads) self.crew.began.items receipts.now h.master h.copies.items)) }
+        ensures stray { IfErr result (λ e. IfSome (stray_in e) (IsLostBy self.crew.began.items receipts.now)) }
     {
         let Ended {
             alloc,
             journals,
             master,
             lefts,
+            began,
         } = self.ended(rt)?;
         match journals {
-            Journals::Kept => match handed_out(alloc, master, lefts, receipts) {
+            Journals::Kept => match handed_out(alloc, master, lefts, began.as_slice(), receipts) {
                 Ok(handed) => Ok(Some(handed)),
                 Err(fault) => Err(fault),
             },
             Journals::Unkept => {
+                drop(began);
                 drop(lefts);
                 drop(master);
                 Ok(None)
@@ -552,6 +556,9 @@ where
     fn ended<R: Threads + Wait>(self, rt: &R) -> Result<Ended<D, J>, ClusterFault>
         ensures journals { IfOk result (λ e. e.journals ≡ self.journals) }
         ensures all { IfOk result (λ e. vec_len e.lefts ≡ vec_len self.crew.threads) }
+        ensures began { IfOk result (λ e. e.began.items ≡ self.crew.began.items) }
+        ensures rising { IfOk result (λ e. IdsRiseFrom 0 e.began.items) }
+        ensures refused { IfErr result (λ e. stray_in e ≡ None) }
     {
         let Cluster {
             label: _label,
@@ -566,6 +573,7 @@ where
             client,
             threads,
             mergers,
+            began,
             ..
         } = crew;
         let alloc = client.alloc;
@@ -574,6 +582,7 @@ where
         let lefts = joined(rt, alloc, threads)?;
         end_mergers(rt, mergers);
         let Some(shared) = Arc::into_inner(shared) else {
+            drop(began);
             drop(lefts);
             return Err(ClusterFault::Running);
         };
@@ -582,6 +591,7 @@ where
             journals,
             master: shared.master.into_inner(),
             lefts,
+            began,
         })
     }
 }
@@ -593,6 +603,7 @@ struct Ended<D: LogDevice, J: IndexName> {
     journals: Journals,
     master: Ruled<D, J>,
     lefts: Vec<Left<J>>,
+    began: Vec<Began<J>>,
 }
 
 /// The master's ledger, of which memory has what it is to have of the journals.
@@ -614,7 +625,7 @@ fn joined<R: Threads, J: IndexName>(
     rt: &R,
     alloc: Global,
     threads: Vec<JoinHandle<Left<J>>>,
-) -> Result<Vec<Left<J>>, ClusterFault>
+) -> Result<Vec<Left<J>>, AllocError>
     ensures { IfOk result (λ ls. vec_len ls ≡ vec_len threads) }
 {
     let mut lefts = Vec::new(alloc);

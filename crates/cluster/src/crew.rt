@@ -1,6 +1,6 @@
 //! The threads of a cluster's copies.
-ghost use Rattle.std.specs.Prelude.{◌≡◌, ◌+◌, ◌++◌, ◌∷◌, [], map, vec_len, IfOk, OnOk};
-ghost use Rattle.cluster.specs.Opened.{copy_of};
+ghost use Rattle.std.specs.Prelude.{◌≡◌, ◌<◌, ◌+◌, ◌++◌, ◌∷◌, [], map, vec_len, IfOk, IsTrue, OnOk};
+ghost use Rattle.cluster.specs.Opened.{copy_of, last_id, IdsRiseFrom, IdsRiseFrom-prop};
 ghost use Rattle.master.specs.declared.state.Request.TheVariants.{Allocate};
 ghost use Rattle.ruled.specs.Entries.{IsDecided};
 
@@ -19,14 +19,14 @@ use crossbeam_channel::{Sender, bounded, unbounded};
 use engine::Merging;
 use journal::Deed;
 use master::Request;
-use node::{Began, Pass};
+use node::Began;
 use ruled::Decided;
 use std::alloc::{AllocError, Global};
 use std::sync::{Arc, Wait};
 use std::thread::{JoinHandle, Threads};
 use translog::LogDevice;
 
-/// The copies that are served, each by a thread of its own, what each was when its journal began, and what callers ask them by.
+/// The copies that are served, each by a thread of its own, what each was when its journal began, in the order of their ids, and what callers ask them by.
 #[derive(Drop)]
 pub(crate) struct Crew<D: LogDevice, G: Gate, J: IndexName> {
     pub(crate) gate: Arc<G, Global>,
@@ -36,6 +36,7 @@ pub(crate) struct Crew<D: LogDevice, G: Gate, J: IndexName> {
     /// The threads that build merges, one for each of the others.
     pub(crate) mergers: Vec<JoinHandle<()>>,
     pub(crate) began: Vec<Began<J>>,
+    pub(crate) ghost rising: { IdsRiseFrom 0 began.items } by { IdsRiseFrom-prop 0 began.items },
 }
 
 impl<D, G, J> Crew<D, G, J>
@@ -134,7 +135,7 @@ where
     fn start_of<R: Wait>(&self, rt: &R, copy: u32) -> Result<Start<D, G, J>, ClusterFault> {
         let alloc = self.client.alloc;
         let (to, merges) = unbounded(alloc)?;
-        let tools = self.tools(copy, to)?;
+        let tools = self.tools(to)?;
         match inbox_of(rt, alloc, &*self.client.shared, copy) {
             Ok((worker, inbox)) => Ok(Start {
                 alloc,
@@ -151,18 +152,13 @@ where
     }
 
     /// What the worker of a copy needs beside it.
-    fn tools(
-        &self,
-        copy: u32,
-        merges: Sender<Merging, Global>,
-    ) -> Result<Tools<D, G, J>, AllocError> {
+    fn tools(&self, merges: Sender<Merging, Global>) -> Result<Tools<D, G, J>, AllocError> {
         let gate = another(&self.gate)?;
         let shared = another(&self.client.shared)?;
         Ok(Tools {
             gate,
             shared,
             merges,
-            pass: Pass::new(self.client.alloc, copy as u64),
         })
     }
 
@@ -185,7 +181,8 @@ where
         }
     }
 
-    /// The copy with its journal, which begins as it is.
+    /// The copy with its journal, which begins as it is. Where there is one with its id or a greater one it's refused.
+    #[tactic(auto, using(crate::proofs::Handed::rise_more))]
     fn journaling(&mut self, ready: Ready<D, J>) -> Result<Journaling<D, J>, AllocError>
         ensures threads { self.new.threads ≡ self.old.threads }
         ensures began { OnOk result (self.new.began.items ≡ self.old.began.items ++ ready.copy ∷ []) }
@@ -193,6 +190,10 @@ where
         if let Err(refused) = self.began.reserve(1) {
             drop(ready);
             return Err(refused);
+        }
+        if !is_next(self.began.as_slice(), ready.copy().id()) {
+            drop(ready);
+            return Err(AllocError);
         }
         let copy = ready.registered(self.client.alloc, &mut self.registry)?;
         self.began.push_reserved(copy.held.began().again());
@@ -240,6 +241,17 @@ where
             _ => Err(ClusterFault::NoMemory),
         }
     }
+}
+
+/// Whether an id is greater than that of the last of some copies.
+fn is_next<J: IndexName>(began: &[Began<J>], id: u32) -> bool
+    ensures { IsTrue result → last_id 0 began.now < id }
+{
+    let mut last = 0;
+    for one in began {
+        last = one.node();
+    }
+    last < id
 }
 
 /// Another handle of what is shared.

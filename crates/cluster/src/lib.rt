@@ -22,6 +22,7 @@ mod mending;
 mod merging;
 pub mod opening;
 mod outbox;
+mod own;
 mod post;
 mod ready;
 pub mod refreshed;

@@ -5,6 +5,7 @@ ghost use Rattle.cluster.specs.Opening.{ready};
 ghost use Rattle.node.specs.Held.{journal};
 ghost use Rattle.node.specs.Reading.{standing};
 
+use crate::own::OwnCell;
 use cell::{CopyCell, IndexName};
 use chronicle::Registry;
 use journal::{Deed, Opening};
@@ -83,20 +84,24 @@ impl<D: LogDevice, J: IndexName> Ready<D, J> {
     }
 }
 
-/// A copy that shows all of its records, with its journal.
+/// A copy that shows all of its records, with its journal, which has no entry.
 #[derive(Drop)]
 pub(crate) struct Journaling<D: LogDevice, J: IndexName> {
     pub(crate) held: Held<D, J>,
+    pub(crate) ghost empty: { held.deeds ≡ [] },
     pub(crate) ghost whole: { (standing held).copy.point ≡ length (standing held).copy.records },
     pub(crate) ghost under: { (standing held).copy.mapping ≡ J.index.mapping },
 }
 
 impl<D: LogDevice, J: IndexName> Journaling<D, J> {
     /// The copy with what searches see of it; without memory for that it is given back.
-    pub(crate) fn begin<R: Wait>(self, rt: &R, alloc: Global) -> Result<CopyCell<D, J>, Held<D, J>>
+    pub(crate) fn begin<R: Wait>(self, rt: &R, alloc: Global) -> Result<OwnCell<D, J>, Held<D, J>>
         ensures begun { IfOk result (IsBegun self.held) }
         ensures refused { IfErr result (λ h. h ≡ self.held) }
     {
-        CopyCell::begin(rt, alloc, self.held)
+        match CopyCell::begin(rt, alloc, self.held) {
+            Ok(cell) => Ok(OwnCell::new(alloc, cell)),
+            Err(held) => Err(held),
+        }
     }
 }

@@ -8,15 +8,16 @@ use crate::gate::Gate;
 use crate::left::Left;
 use crate::merging::Merges;
 use crate::outbox::{Asked, Entry, Outbox, Parcel};
+use crate::own::OwnCell;
 use crate::post::{Answered, BulkEnding, Ending, Post, Seated};
 use crate::releasing::unsynced;
 use crate::shared::Shared;
 use crate::waits::Waits;
-use cell::{CopyCell, IndexName};
+use cell::IndexName;
 use crossbeam_channel::Sender;
 use doc::DocId;
 use engine::Merging;
-use node::{Got, NodeFault, Pass, Receipt};
+use node::{Got, NodeFault, Receipt};
 use op::Msg;
 use replica::{Copy, CopyFault, Input, Write, Writes};
 use std::alloc::Global;
@@ -26,23 +27,21 @@ use translog::LogDevice;
 /// How often a message is handed again that is refused for a while.
 const TRIES: u32 = 100;
 
-/// What a worker has beside its copy: the gate, what all workers share, who builds its merges, and its pass.
+/// What a worker has beside its copy: the gate, what all workers share, and who builds its merges.
 #[derive(Drop)]
 pub(crate) struct Tools<D: LogDevice, G: Gate, J: IndexName> {
     pub(crate) gate: Arc<G, Global>,
     pub(crate) shared: Arc<Shared<D, J>, Global>,
     pub(crate) merges: Sender<Merging, Global>,
-    pub(crate) pass: Pass<J>,
 }
 
-/// A copy, its pass, what it hasn't told yet, who waits for it, which posts are held back, and its merges. It is not `Drop`: end it by `into_left`.
+/// A copy, what it hasn't told yet, who waits for it, which posts are held back, and its merges. It is not `Drop`: end it by `into_left`.
 pub(crate) struct Worker<D: LogDevice, G: Gate, J: IndexName> {
     pub(crate) alloc: Global,
     pub(crate) number: u64,
     pub(crate) gate: Arc<G, Global>,
     pub(crate) shared: Arc<Shared<D, J>, Global>,
-    pub(crate) cell: CopyCell<D, J>,
-    pub(crate) pass: Pass<J>,
+    pub(crate) cell: OwnCell<D, J>,
     pub(crate) outbox: Outbox<J>,
     pub(crate) waits: Waits<J>,
     pub(crate) backlog: Backlog<J>,
@@ -59,21 +58,19 @@ impl<D: LogDevice, G: Gate, J: IndexName> Worker<D, G, J> {
     pub(crate) fn new(
         alloc: Global,
         tools: Tools<D, G, J>,
-        cell: CopyCell<D, J>,
+        cell: OwnCell<D, J>,
     ) -> Worker<D, G, J> {
         let Tools {
             gate,
             shared,
             merges,
-            pass,
         } = tools;
         Worker {
             alloc,
-            number: pass.number(),
+            number: cell.held().node() as u64,
             gate,
             shared,
             cell,
-            pass,
             outbox: Outbox::new(alloc),
             waits: Waits::new(alloc),
             backlog: Backlog::new(alloc),
@@ -122,23 +119,7 @@ impl<D: LogDevice, G: Gate, J: IndexName> Worker<D, G, J> {
 
     /// One call of the copy: its entry, also where the copy refuses.
     fn made<R: Wait>(&mut self, rt: &R, input: Input) -> Result<Receipt<J>, NodeFault> {
-        self.forget();
-        match self.cell.call(rt, self.alloc, &mut self.pass, input) {
-            Ok(receipt) => Ok(receipt),
-            Err(NodeFault::Copy(fault)) => match self.pass.receipts().last() {
-                Some(receipt) => Ok(receipt.copy(self.alloc)?),
-                None => Err(NodeFault::Copy(fault)),
-            },
-            Err(fault) => Err(fault),
-        }
-    }
-
-    /// Lets go of the receipts of earlier calls, where nobody asks for them when the cluster ends.
-    fn forget(&mut self) {
-        if !self.cell.held().is_kept() {
-            let before = std::mem::replace(&mut self.pass, Pass::new(self.alloc, self.number));
-            drop(before);
-        }
+        self.cell.call(rt, self.alloc, input)
     }
 
     /// An entry, with what the copy is after it.
@@ -359,7 +340,6 @@ impl<D: LogDevice, G: Gate, J: IndexName> Worker<D, G, J> {
     pub(crate) fn into_left<R: Wait>(self, rt: &R) -> Left<J> {
         let Worker {
             cell,
-            pass,
             waits,
             backlog,
             outbox,
@@ -378,6 +358,6 @@ impl<D: LogDevice, G: Gate, J: IndexName> Worker<D, G, J> {
         drop(waits);
         drop(backlog);
         drop(merges);
-        Left::served(rt, cell, pass)
+        cell.into_left(rt)
     }
 }

@@ -6,3 +6,4 @@ pub mod Readings
 pub mod Prefixes
 pub mod Sound
 pub mod Begins
+pub mod Ends

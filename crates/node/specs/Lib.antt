@@ -8,3 +8,4 @@ pub mod Stands
 pub mod Gathered
 pub mod Reading
 pub mod Heard
+pub mod Ended

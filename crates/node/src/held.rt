@@ -13,6 +13,7 @@ ghost use Rattle.node.specs.Telling.{receipt, IsEntered, IsGivenAs};
 
 use crate::began::{Began, begun, noted};
 use crate::both::both;
+use crate::ended::EndedCopy;
 use crate::fault::NodeFault;
 use crate::got::Got;
 use crate::heard::Heard;
@@ -336,13 +337,15 @@ impl<D: LogDevice, J: RegistryName> Held<D, J> {
     }
 
     /// The journal where memory has it, for which the copy is given up.
-    pub fn into_journal(self) -> Option<Journal>
+    #[tactic(auto, using(crate::proofs::Ends::ended))]
+    pub fn into_journal(self) -> Option<EndedCopy<J>>
         ensures kept { is_some result ≡ self.kept }
         ensures same { IfSome result (λ j. j ≡ OfCopy self.opening self.deeds) }
         ensures legal { IsLegal (open_at self.opening) 0 self.deeds }
     {
+        let heard = self.heard();
         let Held {
-            began: _began,
+            began,
             opening,
             deeds,
             copy,
@@ -351,11 +354,14 @@ impl<D: LogDevice, J: RegistryName> Held<D, J> {
         let deeds = deeds.into_ledger().into_entries();
         match (opening, deeds) {
             (Some(opening), Some(deeds)) => {
-                Some(Journal::OfCopy(opening, Deeds::from_vec(deeds)))
+                let journal = Journal::OfCopy(opening, Deeds::from_vec(deeds));
+                Some(EndedCopy::of(journal, began, heard))
             }
             (opening, deeds) => {
                 drop(opening);
                 drop(deeds);
+                drop(began);
+                drop(heard);
                 None
             }
         }

@@ -4,6 +4,7 @@
 mod acting;
 pub mod began;
 mod both;
+pub mod ended;
 pub mod fault;
 pub mod gathering;
 pub mod got;
@@ -18,6 +19,7 @@ mod syncing;
 mod telling;
 
 pub use began::Began;
+pub use ended::EndedCopy;
 pub use fault::NodeFault;
 pub use gathering::{Stray, gathered, stands_in};
 pub use got::Got;

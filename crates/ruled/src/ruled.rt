@@ -10,6 +10,7 @@ ghost use Rattle.translog.specs.Device.{count_after};
 ghost use Rattle.translog.specs.Fault as log;
 ghost use Rattle.translog.specs.Fault.{errs_with, is_device};
 
+use crate::ended::EndedMaster;
 use crate::entry::{MasterEntry, journal_of};
 use crate::past::Past;
 use crate::told::{Decided, Known, Leading};
@@ -252,8 +253,28 @@ impl<D: LogDevice, J: RegistryName> Ruled<D, J> {
         Err(fault)
     }
 
-    /// The journal where memory has it, which is legal.
-    pub fn into_journal(self, alloc: Global) -> Result<Option<Journal>, AllocError>
+    /// The journal where memory has it, which is legal, for which the master is given up.
+    pub fn into_journal(self, alloc: Global) -> Result<Option<EndedMaster<J>>, AllocError>
+        ensures kept { IfOk result (λ o. is_some o ≡ self.kept) }
+        ensures legal { IfOk result (λ o. IfSome o IsLawful) }
+        ensures same { IfOk result (λ o. IfSome o (IsJournalOf self.entries)) }
+    {
+        let past = self.past();
+        match self.written(alloc) {
+            Ok(Some(journal)) => Ok(Some(EndedMaster::of(journal, past))),
+            Ok(None) => {
+                drop(past);
+                Ok(None)
+            }
+            Err(refused) => {
+                drop(past);
+                Err(refused)
+            }
+        }
+    }
+
+    /// The journal where memory has its entries.
+    fn written(self, alloc: Global) -> Result<Option<Journal>, AllocError>
         ensures kept { IfOk result (λ o. is_some o ≡ self.kept) }
         ensures legal { IfOk result (λ o. IfSome o IsLawful) }
         ensures same { IfOk result (λ o. IfSome o (IsJournalOf self.entries)) }

@@ -171,7 +171,7 @@ where
     let closed = cluster.close(rt, receipts.as_slice());
     drop(receipts);
     match served {
-        Ok(()) => handed(closed),
+        Ok(()) => handed(rt.alloc(), closed),
         Err(fault) => {
             drop(closed);
             Err(fault)
@@ -181,14 +181,11 @@ where
 
 /// The journals alone of what is handed out.
 fn handed<J: IndexName>(
+    alloc: Global,
     closed: Result<Option<HandedOut<J>>, ClusterFault>,
 ) -> Result<Option<Vec<Journal>>, ServeFault> {
     match closed {
-        Ok(Some(out)) => {
-            let HandedOut { journals, past } = out;
-            drop(past);
-            Ok(Some(journals))
-        }
+        Ok(Some(out)) => Ok(Some(out.into_journals(alloc)?)),
         Ok(None) => Ok(None),
         Err(fault) => Err(ServeFault::from(fault)),
     }

@@ -1,6 +1,6 @@
 use Rattle.std.specs.List.{AllWithin}
 use Rattle.cluster.specs.Journals.{StandsIn}
-use Rattle.cluster.proofs.left.stray_among.Given as goal
+use Rattle.cluster.proofs.left.lost_in.Given as goal
 
 -- the receipts so far stand in the journals
 abbrev pub invariant-loop-receipt : goal.invariant-loop-receipt

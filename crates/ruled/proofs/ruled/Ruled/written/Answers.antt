@@ -1,11 +1,11 @@
-use Rattle.std.proofs.Common.{◌≡◌, true, Option, IfOk, subst}
+use Rattle.std.proofs.Common.{◌≡◌, true, IfOk, subst}
 use Rattle.std.specs.Prelude.{IfSome, is_some}
 use Rattle.chronicle.specs.Ledger.{LedgerData}
 use Rattle.ruled.specs.declared.entry.MasterEntry.{MasterEntry}
 use Rattle.ruled.specs.Entries.{IsJournalOf}
 use Rattle.ruled.specs.Ruled.{RuledData, with_journal}
 use Rattle.ruled.proofs.Gathering.{handed_kept, handed_legal, handed_same}
-use Rattle.ruled.proofs.ruled.Ruled.into_journal.Goals as goal
+use Rattle.ruled.proofs.ruled.Ruled.written.Goals as goal
 
 pub returns-in-Some-clause-kept : goal.returns-in-Some-clause-kept
 returns-in-Some-clause-kept g c =
