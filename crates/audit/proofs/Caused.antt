@@ -10,7 +10,7 @@ use Rattle.master.specs.declared.state.Request.{Request}
 use Rattle.master.specs.declared.state.Request.TheVariants.{Promote as Promotion, Allocate as Allocation, Synced, Fail}
 use Rattle.journal.specs.declared.moves.Move.{Move}
 use Rattle.journal.specs.declared.moves.Move.TheVariants.{Asks as asks, Does as does, Tears as tears}
-use Rattle.audit.specs.Moves.{CanGo, IsAsked, IsTold, IsThere, may_tear}
+use Rattle.audit.specs.Moves.{CanGo, IsAsked, IsTold}
 use Rattle.audit.specs.Causes.{is_word, is_taking, needs, IsTaken, Lets, IsTo, IsReady, IsLet}
 use Rattle.world.specs.World.{World, message_at}
 

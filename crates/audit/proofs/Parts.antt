@@ -9,7 +9,7 @@ use Rattle.world.specs.declared.event.Event.{Event}
 use Rattle.journal.specs.declared.moves.Move.{Move}
 use Rattle.journal.specs.declared.moves.Placed.{Placed}
 use Rattle.world.specs.World.{World, world_step, world_after}
-use Rattle.audit.specs.Moves.{Moves, Counts, more, event_of, CanGo, IsNext, Leads}
+use Rattle.audit.specs.Moves.{Moves, Counts, more, event_of, IsNext, Leads}
 use Rattle.audit.specs.Merge.{part_of, moves_in, count_of, left_of, IsReached, IsWithin, HasNext}
 
 abbrev what_of : Placed → Move

@@ -10,6 +10,7 @@ use Rattle.journal.specs.declared.journal.Journal.TheVariants.{OfMaster as of_ma
 use Rattle.journal.specs.declared.journal.Ruling.{Ruling}
 use Rattle.journal.specs.declared.moves.Placed.{Placed}
 use Rattle.journal.specs.Opening.{born}
+use Rattle.world.specs.Nodes.{WorldData}
 use Rattle.world.specs.World.{World, new_world, world_of}
 use Rattle.audit.specs.Moves.{Moves, IsMade, IsHalted}
 use Rattle.audit.specs.Given.{AreAll}
@@ -96,6 +97,11 @@ pub record IsMissing (mapping : MappingData) (js : List Journal) (node place : �
   pub lacking : AreAll js → ⊥
   pub next : node ≡ length js
   pub at : place ≡ 0
+
+-- the world of an answer, without the segments of its copies
+abbrev pub world_in : Result WorldData AuditFault → Result World AuditFault
+world_in (Ok w) = Ok w.world
+world_in (Err e) = Err e
 
 -- what an audit of journals of one mapping answers
 abbrev pub IsAudited : MappingData → List Journal → Result World AuditFault → Type 0

@@ -6,7 +6,7 @@ ghost use Rattle.world.specs.Held.{Held};
 ghost use Rattle.audit.specs.Given as given;
 ghost use Rattle.audit.specs.Judge.{IsJudged, IsMisjudged};
 ghost use Rattle.journal.specs.declared.journal.Journal.TheVariants.{OfMaster, OfCopy};
-ghost use Rattle.audit.specs.Audit.{placed_in, IsAudited, IsSize, Pass};
+ghost use Rattle.audit.specs.Audit.{placed_in, world_in, IsAudited, IsSize, Pass};
 ghost use Rattle.audit.specs.Passing.{fault_at, IsCount, IsFailing, IsPassing};
 
 use crate::equal::equal_state;
@@ -27,8 +27,8 @@ use world::World;
 /// master's journal gives its id; or, where each journal may be true by itself, a node with an entry that nothing in the journals causes.
 pub fn audit(alloc: Global, mapping: &Mapping, journals: &[Journal]) -> Result<World, AuditFault>
     requires ids { length journals.now < 2 ^ 32 }
-    ensures audited { IsAudited mapping.now journals.now result }
-    ensures held { IfOk result Held }
+    ensures audited { IsAudited mapping.now journals.now (world_in result) }
+    ensures held { IfOk result (λ w. Held w.world) }
 {
     let copies = match count_of(alloc, journals) {
         Ok(copies) => copies,

@@ -16,9 +16,9 @@ use world::World;
 pub fn make(alloc: Global, mapping: &Mapping, copies: u8, parts: &[Part]) -> Result<World, Halt>
     requires size { (1 ≤ copies) × (copies ≤ 5) }
     requires ids { length parts.now < 2 ^ 32 }
-    ensures made { IfOk result (IsMerged (new_world mapping.now copies) parts.now) }
+    ensures made { IfOk result (λ w. IsMerged (new_world mapping.now copies) parts.now w.world) }
     ensures halts { IfErr result (HaltsIn (new_world mapping.now copies) parts.now) }
-    ensures held { IfOk result Held }
+    ensures held { IfOk result (λ w. Held w.world) }
 {
     let world = World::new(alloc, mapping, copies)?;
     let making = Making::new(alloc, world, parts.len())?;

@@ -43,7 +43,7 @@ impl Making {
 
     /// Whether a message that was sent is one that a move needs.
     fn is_let(&self, number: u64, next: &Move) -> bool
-        ensures { IsTrue result → IsLet self.now.world number next.now }
+        ensures { IsTrue result → IsLet self.now.world.world number next.now }
     {
         if number == 0 {
             return false;
@@ -56,7 +56,7 @@ impl Making {
 
     /// The number of a message that a move needs, among those where it should be.
     fn near(&self, node: u32, next: &Move) -> Option<u64>
-        ensures { IfSome result (λ k. IsLet self.now.world k next.now) }
+        ensures { IfSome result (λ k. IsLet self.now.world.world k next.now) }
     {
         for step in 0..around() {
             if let Some(number) = self.posts.near(node, next, step) {
@@ -70,8 +70,8 @@ impl Making {
 
     /// The number of a message that a move needs, among all.
     fn far(&self, next: &Move) -> Option<u64>
-        ensures some { IfSome result (λ k. IsLet self.now.world k next.now) }
-        ensures none { result ≡ None → (k : ℕ) → IsLet self.now.world k next.now → ⊥ }
+        ensures some { IfSome result (λ k. IsLet self.now.world.world k next.now) }
+        ensures none { result ≡ None → (k : ℕ) → IsLet self.now.world.world k next.now → ⊥ }
     {
         let messages = self.world.messages();
         for place in 0..messages.len() {
@@ -84,7 +84,7 @@ impl Making {
 }
 
 impl Stage for Making {
-    ghost world = { λ m. m.world };
+    ghost world = { λ m. m.world.world };
 
     fn guess(&self, node: u32, next: &Move) -> Option<u64> {
         if !is_ready(&self.world, node, next) {
@@ -125,7 +125,7 @@ impl Stage for Making {
 
 /// Whether all is there that a move needs beside a message.
 fn is_ready(world: &World, node: u32, next: &Move) -> bool
-    ensures { IsTrue result ↔ IsReady world.now node next.now }
+    ensures { IsTrue result ↔ IsReady world.now.world node next.now }
 {
     match next {
         Move::Asks(_) => node == 0,
@@ -135,7 +135,7 @@ fn is_ready(world: &World, node: u32, next: &Move) -> bool
 }
 
 fn is_there(world: &World, node: u32) -> bool
-    ensures { IsTrue result ↔ IsThere world.now node }
+    ensures { IsTrue result ↔ IsThere world.now.world node }
 {
     node != 0 && world.copy(node).is_some()
 }

@@ -28,7 +28,7 @@ contents_of e = record { mapping = e.mapping; records = e.records; point = e.poi
 
 -- its segments
 abbrev pub segments_of : EngineData → Segments
-segments_of e = record { mapping = e.mapping; published = e.published; next = e.next }
+segments_of e = record { mapping = e.mapping; published = e.published; live = e.live; next = e.next }
 
 -- what searches show, the segments that they look through, what is live in each, and the number of the next one
 pub record ShowingData : Type 0 where
@@ -39,7 +39,7 @@ pub record ShowingData : Type 0 where
 
 -- the segments that they look through
 abbrev pub segments_shown : ShowingData → Segments
-segments_shown s = record { mapping = s.snapshot.mapping; published = s.published; next = s.next }
+segments_shown s = record { mapping = s.snapshot.mapping; published = s.published; live = s.live; next = s.next }
 
 -- searches show the documents of the records up to the point
 pub record Shows (m : MappingData) (rs : List Record) (point : ℕ) (s : SnapshotData) : Type 0 where

@@ -67,10 +67,11 @@ pub record IsReplaced (taken : List Published) (number : ℕ) (mapping : Mapping
   pub numbered : merged.number ≡ number
   pub mapped : merged.mapping ≡ mapping
 
--- segments, the newest first, their mapping, and the number of the next one
+-- segments, the newest first, their mapping, what is live in each, and the number of the next one
 pub record Segments : Type 0 where
   pub mapping : MappingData
   pub published : List Published
+  pub live : List Documents
   pub next : ℕ
 
 -- one segment, of the next number, stands for those that a merge took: none of these that was published is it any more, and the number isn't given again, unless it is the greatest

@@ -4,10 +4,12 @@ use Rattle.op.specs.declared.record.Record.{Record}
 use Rattle.op.specs.Documents.{Documents}
 use Rattle.engine.specs.Answer.{SnapshotData}
 use Rattle.engine.specs.Contents.{Contents, EngineData, Shows}
-use Rattle.engine.specs.Published.{Published}
+use Rattle.engine.specs.Published.{Published, Segments}
 
--- new records if there are any, what searches show, of how many records, through which segments, what is live in each, and the number of the next one
+-- the segments before the change; new records if there are any, what searches show, of how many records, through which segments, what is live in each, and the
+-- number of the next one
 pub record StagedData : Type 0 where
+  pub before : Segments
   pub records : Option (List Record)
   pub snapshot : SnapshotData
   pub point : ℕ

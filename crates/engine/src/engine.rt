@@ -27,6 +27,7 @@ use doc::{DocId, Mapping};
 use op::{Body, Op, Record};
 use std::alloc::{AllocError, Global};
 use std::marker::Model;
+use std::snapshot::Snapshot as Seen;
 use std::sync::Arc;
 
 /// The last operation on an id, and whether it left a document there.
@@ -152,6 +153,7 @@ impl Engine {
     pub fn stage(&self, alloc: Global, change: SnapshotChange) -> Result<Staged, AllocError>
         requires { IsSnapshotChange change }
         ensures fits { IfOk result (IsStagedFrom (contents_of self.now)) }
+        ensures before { IfOk result (λ s. s.before ≡ segments_of self.now) }
         ensures leaves { IfOk result (λ s. contents_of (put_in self.now s) ≡ changed (contents_of self.now) change) }
         ensures published { IfOk result (λ s. ArePublished self.now change (put_in self.now s)) }
         ensures live { IfOk result (λ s. AreLive s.live) }
@@ -165,6 +167,7 @@ impl Engine {
     /// Makes a refresh ready.
     fn stage_refresh(&self, alloc: Global) -> Result<Staged, AllocError>
         ensures fits { IfOk result (IsStagedFrom (contents_of self.now)) }
+        ensures before { IfOk result (λ s. s.before ≡ segments_of self.now) }
         ensures leaves { IfOk result (λ s. contents_of (put_in self.now s) ≡ record (contents_of self.now) { point = length self.now.records }) }
         ensures numbered { IfOk result (λ s. IsNumbered self.now (put_in self.now s)) }
         ensures kept { IfOk result (λ s. OnlyOps self.now → IsRefreshed self.now (put_in self.now s)) }
@@ -173,6 +176,7 @@ impl Engine {
         let showing = self.refreshed(alloc)?;
         let _below = showing.next();
         Ok(Staged {
+            before: Seen::of(&self.showing),
             history: None,
             showing,
             point: self.history.len(),
@@ -183,6 +187,7 @@ impl Engine {
     fn stage_reopen(&self, alloc: Global, records: Vec<Record>) -> Result<Staged, AllocError>
         requires { All IsRecord records.items }
         ensures fits { IfOk result (IsStagedFrom (contents_of self.now)) }
+        ensures before { IfOk result (λ s. s.before ≡ segments_of self.now) }
         ensures leaves { IfOk result (λ s. contents_of (put_in self.now s) ≡ record (contents_of self.now) { records = records.items; point = length records.items }) }
         ensures published { IfOk result (λ s. s.published ≡ (record { number = self.now.next; mapping = self.now.mapping; documents = documents (operations records.items) }) ∷ []) }
         ensures next { IfOk result (λ s. s.next ≡ next_after self.now.next) }
@@ -197,6 +202,7 @@ impl Engine {
         )?;
         let point = reopened.len();
         Ok(Staged {
+            before: Seen::of(&self.showing),
             history: Some(reopened),
             showing,
             point,
@@ -222,12 +228,14 @@ impl Engine {
         Ok(showing)
     }
 
-    /// Makes a change that is ready for this engine. It takes no memory.
+    /// Makes a change that is ready for this engine, as it was made ready last: no segment has come or gone since. It takes no memory.
     pub fn put(&mut self, staged: Staged)
-        requires { IsStagedFrom (contents_of self.old) staged }
+        requires fits { IsStagedFrom (contents_of self.old) staged }
+        requires last { staged.before ≡ segments_of self.old }
         ensures { self.new ≡ put_in self.old staged }
     {
         let Staged {
+            before: _before,
             history,
             showing,
             point,

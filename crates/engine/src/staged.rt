@@ -8,6 +8,7 @@ use crate::snapshot::Snapshot;
 use op::Record;
 use std::alloc::Global;
 use std::marker::Model;
+use std::snapshot::Snapshot as Seen;
 use std::sync::Arc;
 
 /// A change of an engine that makes a new snapshot.
@@ -20,20 +21,23 @@ pub enum SnapshotChange {
 }
 
 /// A change that is ready: the new snapshot, what it shows, and new records if the change has any.
-/// `Engine::put` makes it and takes no memory.
+/// `Engine::put` makes it and takes no memory. What searches look through before it is for clauses alone.
 #[derive(Drop)]
 pub struct Staged {
+    pub(crate) before: Seen<Showing>,
     pub(crate) history: Option<History>,
     pub(crate) showing: Showing,
     pub(crate) point: usize,
 }
 
 impl Model for Staged {
+    ghost use Rattle.engine.specs.Contents.{segments_shown};
     ghost use Rattle.engine.specs.Staged.{StagedData};
 
     ghost Value = { StagedData };
 
     ghost view = { λ s. record {
+      before = segments_shown s.before.value;
       records = s.history;
       snapshot = s.showing.snapshot;
       point = s.point;

@@ -3,6 +3,7 @@ use Rattle.std.proofs.lemmas.List.{length_push}
 use Rattle.std.proofs.Common.{◌≡◌, ℕ, suc, ◌+◌, arith, Bool, false, List, [], ◌∷◌, ◌++◌, length, refl, sym, ap, subst, ◌∙◌, Result, Ok, Err, IfErr}
 use Rattle.std.proofs.lemmas.Result.{IfOk-weaker, IfErr-weaker}
 use Rattle.std.specs.Prelude.{Some, slice_get, IfOk, IsOk, is_ok}
+use Rattle.translog.specs.Kept.{kept as kept_in}
 use Rattle.replica.specs.declared.fault.CopyFault.{CopyFault}
 use Rattle.replica.specs.declared.output.Output.{Output}
 use Rattle.replica.specs.declared.input.Input.{Input}
@@ -81,6 +82,10 @@ held_step h d old new is logged step =
 -- nothing was done
 pub held_same : (h : JournalData) (old new : Logged) → IsHeld h old → IsIdle old new → IsHeld h new
 held_same h old new is idle = record { sound = is.sound; legal = is.legal; replayed = idles (after (open_at h.opening) 0 h.deeds) old new is.replayed idle }
+
+-- and one of which segments were merged
+pub held_merged : (h : JournalData) (old new : Logged) → new ≡ record old { segments = new.segments } → IsHeld h old → IsHeld h new
+held_merged h old new rest held = held_same h old new held (record { copy = ap (λ (l : Logged). l.copy) rest; closed = ap (λ (l : Logged). l.closed) rest; records = ap (λ (l : Logged). kept_in l.log) rest })
 
 -- ---- what a call leaves
 

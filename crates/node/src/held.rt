@@ -329,7 +329,8 @@ impl<D: LogDevice, J: RegistryName> Held<D, J> {
         self.copy.is_synced()
     }
 
-    /// Puts a merged part in place of those that it is made of, as the copy does; it makes no entry.
+    /// Puts a merged segment in place of those that it is made of, as the copy does; it makes no entry.
+    #[tactic(auto, using(crate::proofs::Calls::held_merged))]
     pub fn swap_merged(&mut self, alloc: Global, merged: Merged) -> Result<bool, AllocError>
         ensures { self.new ≡ self.old }
     {

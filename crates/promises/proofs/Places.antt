@@ -3,12 +3,13 @@ use Rattle.std.proofs.Common.{◌≡◌, inl, inr, List, [], ◌∷◌, ◌++◌
 use mathlib.Core.List.{IsPrefix}
 use Rattle.chronicle.proofs.Lines.{prefix_trans}
 use Rattle.op.specs.declared.operation.Op.{Op}
+use Rattle.replica.specs.Logged.{Logged, IsSame}
 use Rattle.front.specs.Command.{Command}
 use Rattle.front.specs.Reply.{Reply}
 use Rattle.shard.specs.Ready.{IsServed}
-use Rattle.shard.specs.History.{Stand, EndsIn, IsHistory, IsTold, RunsOn}
+use Rattle.shard.specs.History.{Stand, EndsIn, LeadsTo, IsHistory, IsTold, RunsOn}
 use Rattle.promises.specs.Promises.{NeverBack}
-use Rattle.promises.proofs.Serving.{IsThere, served}
+use Rattle.promises.proofs.Serving.{IsThere, served, stays}
 
 -- ---- places of a history
 
@@ -94,9 +95,15 @@ some_one x y e = cc
 
 -- ---- what is there stays
 
+goes_there : (o : Op) (seen : Bool) (s t : Stand) → LeadsTo s t → IsThere o seen s.copy → IsThere o seen t.copy
+goes_there o seen s t (inl f) there = served o seen s.copy s.master f.command f.reply t.copy t.master f.served there
+goes_there o seen s t (inr m) there =
+    let same : IsSame s.copy t.copy = record { copy = ap (λ (l : Logged). l.copy) m.copy; closed = ap (λ (l : Logged). l.closed) m.copy; log = ap (λ (l : Logged). l.log) m.copy; failures = ap (λ (l : Logged). l.failures) m.copy } in
+    stays o seen s.copy t.copy same there
+
 runs_there : (o : Op) (seen : Bool) (s : Stand) (ts : List Stand) → RunsOn s ts → IsThere o seen s.copy → IsThere o seen (last_after s ts).copy
 runs_there o seen s [] h there = there
-runs_there o seen s (t ∷ ts) h there = runs_there o seen t ts h.1 (served o seen s.copy s.master h.0.command h.0.reply t.copy t.master h.0.served there)
+runs_there o seen s (t ∷ ts) h there = runs_there o seen t ts h.1 (goes_there o seen s t h.0 there)
 
 along : (o : Op) (seen : Bool) (t at : Stand) (xs ys : List Stand) → EndsIn t xs → IsPrefix xs ys → IsHistory ys → EndsIn at ys → IsThere o seen t.copy → IsThere o seen at.copy
 along o seen t at xs ys ends begins legal last there =

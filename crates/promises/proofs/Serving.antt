@@ -105,7 +105,7 @@ log_keeps o seen l is logged =
     by_state l (λ now_open. record { records = l.copy.records; is = whole_kept l.log l.copy.records l.groups (logged now_open); has = (is.while_open now_open).0 }) (λ closed. is.while_closed closed)
 
 -- nothing was done
-stays : (o : Op) (seen : Bool) (s t : Logged) → IsSame s t → IsThere o seen s → IsThere o seen t
+pub stays : (o : Op) (seen : Bool) (s t : Logged) → IsSame s t → IsThere o seen s → IsThere o seen t
 stays o seen s t same is = record {
   while_open = λ now_open. rw same.copy (is.while_open (sym same.closed ∙ now_open));
   while_closed = λ closed. rw same.log (is.while_closed (sym same.closed ∙ closed));

@@ -25,8 +25,9 @@ use Rattle.replica.specs.declared.prepared.Prepared.{Prepared}
 use Rattle.replica.specs.declared.prepared.Prepared.TheVariants.{Restarted}
 use Rattle.replica.specs.Copy.{Copy}
 use Rattle.replica.specs.Fault.{of_log, has_failed, is_log, fault_of as copy_fault}
-use Rattle.replica.specs.Logged.{Logged, IsFramed, IsLogged, IsReady, IsUnread, prepared_step}
+use Rattle.replica.specs.Logged.{Logged, IsFramed, IsLogged, IsReady, IsUnread, prepared_step, searched}
 use Rattle.replica.specs.Planned.{stepped_by}
+use Rattle.replica.specs.Searched.{Searched, IsReopeningOf}
 use Rattle.replica.specs.Staged.{contents, reopened_by}
 use Rattle.replica.specs.Standing.{IsStanding}
 use Rattle.replica.specs.Step.{Step, Stepped}
@@ -70,11 +71,11 @@ mended_logged held old new contents torn rs groups after is found made same log 
 
 -- a restart is ready once its log was read and mended
 pub ready_again : (old mid new : Logged) (rs : List Record) (torn : Torn) (r : Reopened) (output : Output) → mid.log ≡ old.log → IsTornLog old.log rs torn mid.groups → new.log ≡ mended (own_header mid.log) mid.log torn → new.groups ≡ mid.groups
-    → new.copy ≡ mid.copy → IsStagedFrom (contents mid.copy) r.staged → IsStanding (reopened_by mid.copy r) → (reopened_by mid.copy r).records ≡ rs → IsReady new (Restarted r output)
-ready_again old mid new rs torn r output held log made same copy staged standing records =
+    → searched new ≡ searched mid → IsStagedFrom (contents mid.copy) r.staged → IsStanding (reopened_by mid.copy r) → (reopened_by mid.copy r).records ≡ rs → IsReopeningOf (searched mid) r.staged rs → IsReady new (Restarted r output)
+ready_again old mid new rs torn r output held log made same copy staged standing records reopening =
     let whole = reopened old.log mid.log new.log rs torn mid.groups new.groups held log made same in
-    subst (λ (c : Copy). IsStagedFrom (contents c) r.staged × IsStanding (reopened_by c r) × IsTranslog new.log (reopened_by c r).records new.groups) (sym copy)
-    (staged, standing, subst (λ (l : List Record). IsTranslog new.log l new.groups) (sym records) whole)
+    subst (λ (s : Searched). IsStagedFrom (contents s.copy) r.staged × IsStanding (reopened_by s.copy r) × IsTranslog new.log (reopened_by s.copy r).records new.groups × IsReopeningOf s r.staged (reopened_by s.copy r).records) (sym copy)
+    (staged, standing, subst (λ (l : List Record). IsTranslog new.log l new.groups) (sym records) whole, subst (λ (l : List Record). IsReopeningOf (searched mid) r.staged l) (sym records) reopening)
 
 -- a log with the frame of some records more
 pub grown : (l : Logged) (new : List Record) (frame : List ℕ) → IsLogged l → l.closed ≡ false → IsFramed l new frame → IsTranslog (l.log ++ frame) (l.copy.records ++ new) (l.groups || has_upgrade frame)

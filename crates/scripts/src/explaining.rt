@@ -1,6 +1,7 @@
 //! Why a line is refused, in words: what stands beside the name of the refusal for whoever wrote the line.
 
 use crate::command::{Command, LineWrite, command_of};
+use crate::index::Index;
 use crate::refusal::Refusal;
 use doc::{DocFault, DocId};
 use engine::Last;
@@ -11,7 +12,6 @@ use replica::CopyFault;
 use serde_json::Value;
 use std::alloc::{AllocError, Global};
 use std::str;
-use world::World;
 
 /// The lines of a script, by their first word.
 const FORMS: [(&str, &str); 20] = [
@@ -48,7 +48,7 @@ pub(crate) fn reason(
     alloc: Global,
     refusal: &Refusal,
     line: &[u8],
-    index: Option<&World>,
+    index: Option<&Index>,
 ) -> Result<String, AllocError> {
     let why = refused_for(alloc, refusal, line, index)?;
     one_line(alloc, &why)
@@ -58,7 +58,7 @@ fn refused_for(
     alloc: Global,
     refusal: &Refusal,
     line: &[u8],
-    index: Option<&World>,
+    index: Option<&Index>,
 ) -> Result<String, AllocError> {
     match refusal {
         Refusal::BadLine => bad_line(alloc, line),
@@ -133,7 +133,7 @@ fn doc_reason(
     alloc: Global,
     fault: &DocFault,
     line: &[u8],
-    index: Option<&World>,
+    index: Option<&Index>,
 ) -> Result<String, AllocError> {
     let mapping = match index {
         Some(world) => Some(world.mapping()),
@@ -158,7 +158,7 @@ fn copy_reason(
     alloc: Global,
     fault: &CopyFault,
     line: &[u8],
-    index: Option<&World>,
+    index: Option<&Index>,
 ) -> Result<String, AllocError> {
     match fault {
         CopyFault::VersionConflict => conflict(alloc, line, index),
@@ -184,7 +184,7 @@ fn copy_reason(
 }
 
 /// What a condition met: the numbers of the document's last change.
-fn conflict(alloc: Global, line: &[u8], index: Option<&World>) -> Result<String, AllocError> {
+fn conflict(alloc: Global, line: &[u8], index: Option<&Index>) -> Result<String, AllocError> {
     let Some(Command::Write(copy, id, change)) = command_of(line) else {
         return text(alloc, "the document's last change has other numbers");
     };
@@ -205,7 +205,7 @@ fn conflict(alloc: Global, line: &[u8], index: Option<&World>) -> Result<String,
 }
 
 /// The last change of a document that a copy has.
-fn live_at(alloc: Global, index: Option<&World>, copy: u64, id: &str) -> Option<Last> {
+fn live_at(alloc: Global, index: Option<&Index>, copy: u64, id: &str) -> Option<Last> {
     let copy = index?.copy(u32::try_from(copy).ok()?)?;
     let id = DocId::new(alloc, id).ok()?;
     copy.last(&id).filter(|last| last.live)

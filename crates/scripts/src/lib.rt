@@ -5,6 +5,7 @@ mod command;
 mod explaining;
 mod fault;
 mod ids;
+mod index;
 mod names;
 mod playing;
 mod refusal;
@@ -14,6 +15,7 @@ mod telling;
 mod writing;
 
 pub use fault::ReplayFault;
+pub use index::Index;
 pub use names::shown;
 pub use playing::{replay, replay_telling};
 pub use refusal::Refusal;

@@ -1,13 +1,14 @@
 -- Histories that go on.
-use Rattle.std.proofs.Common.{◌≡◌, ◌≤◌, ℕ, suc, ◌+◌, min, List, [], ◌∷◌, ◌++◌, length, map, refl, sym, ap, subst, ◌∙◌, arith}
+use Rattle.std.proofs.Common.{◌≡◌, inl, inr, ◌≤◌, ℕ, suc, ◌+◌, min, List, [], ◌∷◌, ◌++◌, length, map, refl, sym, ap, subst, ◌∙◌, arith}
 use Rattle.std.proofs.lemmas.List.{map-append, length-append}
 use mathlib.Core.List.{IsPrefix}
-use Rattle.replica.specs.Logged.{IsLogged}
+use Rattle.engine.specs.Published.{Segments}
+use Rattle.replica.specs.Logged.{Logged, IsLogged}
 use Rattle.front.specs.Command.{Command}
 use Rattle.front.specs.Reply.{Reply}
 use Rattle.shard.specs.Ready.{IsServed}
 use Rattle.doc.specs.Mapping.{MappingData}
-use Rattle.shard.specs.History.{AreUnder, Stand, EndsIn, Follows, IsDone, IsHistory, IsNext, RunsOn}
+use Rattle.shard.specs.History.{AreUnder, Stand, EndsIn, LeadsTo, IsDone, IsHistory, DiffersInSegments, IsNext, RunsOn}
 
 -- a map of a beginning begins the map
 pub map_prefix : {X Y : Type 0} (f : X → Y) (xs ys : List X) → IsPrefix xs ys → IsPrefix (map f xs) (map f ys)
@@ -21,7 +22,7 @@ abbrev last_after : Stand → List Stand → Stand
 last_after s [] = s
 last_after s (t ∷ ts) = last_after t ts
 
-runs_more : (s : Stand) (ts : List Stand) (u : Stand) → RunsOn s ts → Follows (last_after s ts) u → RunsOn s (ts ++ u ∷ [])
+runs_more : (s : Stand) (ts : List Stand) (u : Stand) → RunsOn s ts → LeadsTo (last_after s ts) u → RunsOn s (ts ++ u ∷ [])
 runs_more s [] u runs follows = (follows, tt)
 runs_more s (t ∷ ts) u runs follows = (runs.0, runs_more t ts u runs.1 follows)
 
@@ -36,9 +37,9 @@ last_is s [] (b ∷ before) t e = absurd (no_snoc before t (let h : [] ≡ befor
 last_is s (u ∷ us) (b ∷ before) t e = last_is u us before t (let h : u ∷ us ≡ before ++ t ∷ [] = cc in h)
 
 -- a history goes on from its last
-pub history_more : (ts : List Stand) (t u : Stand) → IsHistory ts → EndsIn t ts → Follows t u → IsHistory (ts ++ u ∷ [])
+pub history_more : (ts : List Stand) (t u : Stand) → IsHistory ts → EndsIn t ts → LeadsTo t u → IsHistory (ts ++ u ∷ [])
 history_more [] t u h ends follows = absurd h
-history_more (s ∷ ts) t u h ends follows = (h.0, runs_more s ts u h.1 (subst (λ (x : Stand). Follows x u) (sym (last_is s ts ends.before t ends.is)) follows))
+history_more (s ∷ ts) t u h ends follows = (h.0, runs_more s ts u h.1 (subst (λ (x : Stand). LeadsTo x u) (sym (last_is s ts ends.before t ends.is)) follows))
 
 pub ends_more : (ts : List Stand) (u : Stand) → EndsIn u (ts ++ u ∷ [])
 ends_more ts u = record { before = ts; is = refl }
@@ -60,14 +61,18 @@ under_last : (m : MappingData) (before : List Stand) (t : Stand) → AreUnder m 
 under_last m [] t under = under.0
 under_last m (b ∷ before) t under = under_last m before t under.1
 
+same_mapping : (s t : Stand) → LeadsTo s t → t.copy.copy.mapping ≡ s.copy.copy.mapping
+same_mapping s t (inl f) = f.mapping
+same_mapping s t (inr m) = ap (λ (l : Logged). l.copy.mapping) m.copy
+
 pub next_is_under : (m : MappingData) (old new : List Stand) → AreUnder m old → IsNext old new → AreUnder m new
 next_is_under m old new under n =
     let last : n.at.copy.copy.mapping ≡ m = under_last m n.ends.before n.at (subst (λ ts. AreUnder m ts) n.ends.is under) in
-    subst (λ ts. AreUnder m ts) (sym n.is) (under_more m old n.next under (n.follows.mapping ∙ last))
+    subst (λ ts. AreUnder m ts) (sym n.is) (under_more m old n.next under (same_mapping n.at n.next n.goes_on ∙ last))
 
 -- one more stands behind a history
 pub next_is_history : (old new : List Stand) → IsHistory old → IsNext old new → IsHistory new
-next_is_history old new h n = subst IsHistory (sym n.is) (history_more old n.at n.next h n.ends n.follows)
+next_is_history old new h n = subst IsHistory (sym n.is) (history_more old n.at n.next h n.ends n.goes_on)
 
 pub next_counted : {S : Type 0} (marked : List S) (f : S → Stand) (old : List Stand) (mark : List S) (count : ℕ) → old ≡ map f mark → count ≡ min (length mark) 18446744073709551615 → IsNext old (map f marked)
     → min (count + 1) 18446744073709551615 ≡ min (length marked) 18446744073709551615
@@ -83,8 +88,25 @@ next_by entries new x f old at c r same ends is served logged mapping = record {
   at = at;
   next = f x;
   ends = ends;
-  follows = record { command = c; reply = r; served = served; logged = logged; mapping = mapping };
+  goes_on = inl (record { command = c; reply = r; served = served; logged = logged; mapping = mapping });
   is = ap (map f) is ∙ (map_snoc f entries x ∙ ap (λ ts. ts ++ f x ∷ []) (sym same));
+}
+
+-- and so do segments that were merged
+pub merged_by : {S : Type 0} (entries new : List S) (x : S) (f : S → Stand) (old : List Stand) (at : Stand) → old ≡ map f entries → EndsIn at old → new ≡ entries ++ x ∷ []
+    → (f x).copy ≡ record at.copy { segments = (f x).copy.segments } → (f x).master ≡ at.master → IsNext old (map f new)
+merged_by entries new x f old at same ends is copy master = record {
+  at = at;
+  next = f x;
+  ends = ends;
+  goes_on = inr (record { copy = copy; master = master });
+  is = ap (map f) is ∙ (map_snoc f entries x ∙ ap (λ ts. ts ++ f x ∷ []) (sym same));
+}
+
+pub unmerged : (s t : Stand) → t.copy ≡ s.copy → t.master ≡ s.master → DiffersInSegments s t
+unmerged s t copy master = record {
+  copy = copy ∙ ap (λ (x : Segments). let l : Logged = record s.copy { segments = x } in l) (sym (ap (λ (l : Logged). l.segments) copy));
+  master = master;
 }
 
 pub done_by : {S : Type 0} (mark entries new : List S) (x : S) (f : S → Stand) (old reached : List Stand) (at : Stand) (c : Command) (r : Reply) → IsPrefix mark entries → old ≡ map f entries → EndsIn at old → new ≡ entries ++ x ∷ []

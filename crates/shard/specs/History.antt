@@ -32,10 +32,19 @@ pub record Follows (s t : Stand) : Type 0 where
   pub logged : IsLogged t.copy
   pub mapping : t.copy.copy.mapping ≡ s.copy.copy.mapping
 
+-- searches look through other segments; nothing else has changed
+pub record DiffersInSegments (s t : Stand) : Type 0 where
+  pub copy : t.copy ≡ record s.copy { segments = t.copy.segments }
+  pub master : t.master ≡ s.master
+
+-- a command led from one to the next, or segments were merged
+abbrev pub LeadsTo : Stand → Stand → Type 0
+LeadsTo s t = Follows s t ⊎ DiffersInSegments s t
+
 -- each follows from the one before it
 abbrev pub RunsOn : Stand → List Stand → Type 0
 RunsOn s [] = Unit {0}
-RunsOn s (t ∷ ts) = Follows s t × RunsOn t ts
+RunsOn s (t ∷ ts) = LeadsTo s t × RunsOn t ts
 
 abbrev pub IsHistory : List Stand → Type 0
 IsHistory [] = ⊥
@@ -51,12 +60,12 @@ pub record EndsIn (t : Stand) (ts : List Stand) : Type 0 where
   pub before : List Stand
   pub is : ts ≡ before ++ t ∷ []
 
--- one more stands behind those of a history, by a command
+-- one more stands behind those of a history
 pub record IsNext (old new : List Stand) : Type 0 where
   pub at : Stand
   pub next : Stand
   pub ends : EndsIn at old
-  pub follows : Follows at next
+  pub goes_on : LeadsTo at next
   pub is : new ≡ old ++ next ∷ []
 
 -- the history goes on from what was known up to a place, from which the command led to the next, which is the last that is known then

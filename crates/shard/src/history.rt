@@ -4,7 +4,7 @@ ghost use Rattle.std.specs.Arc.{arc_value};
 ghost use mathlib.Core.List.{IsPrefix};
 ghost use Rattle.front.specs.CommandView.{command_view};
 ghost use Rattle.front.specs.ReplyView.{reply_view};
-ghost use Rattle.shard.specs.History.{AreUnder, EndsIn, IsDone, IsHistory, IsNext, IsSeenOf};
+ghost use Rattle.shard.specs.History.{AreUnder, EndsIn, IsDone, IsHistory, DiffersInSegments, IsNext, IsSeenOf};
 
 use crate::shard::Shard;
 use chronicle::{Chronicle, Mark, Writer};
@@ -282,9 +282,13 @@ impl<D: LogDevice, N: HistoryName> Kept<D, N> {
     }
 
     /// Puts a merged segment in place of those that it is made of and that are still there, and tells whether one is. What the index has and shows stays.
+    #[tactic(auto, using(crate::proofs::Histories::merged_by, crate::proofs::Histories::unmerged))]
     pub(crate) fn swap_merged(&mut self, merged: Merged) -> Result<bool, AllocError>
-        ensures { self.new ≡ self.old }
+        ensures { DiffersInSegments self.old self.new }
     {
-        self.shard.swap_merged(merged)
+        let is_there = self.shard.swap_merged(merged)?;
+        let mark = self.writer.append(&self.chronicle, &self.shard);
+        self.last = self.last.behind(mark);
+        Ok(is_there)
     }
 }

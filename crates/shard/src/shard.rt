@@ -103,8 +103,9 @@ impl<D: LogDevice> Shard<D> {
 
     /// Puts a merged segment in place of those that it is made of and that are still there, and tells whether one is. What the index has and shows stays.
     pub(crate) fn swap_merged(&mut self, merged: Merged) -> Result<bool, AllocError>
-        ensures copy { self.new.copy ≡ self.old.copy }
+        ensures copy { self.new.copy ≡ record self.old.copy { segments = self.new.copy.segments } }
         ensures master { self.new.master ≡ self.old.master }
+        ensures err { OnErr result (self.new.copy ≡ self.old.copy) }
     {
         self.copy.swap_merged(self.alloc, merged)
     }

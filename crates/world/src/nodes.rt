@@ -1,21 +1,20 @@
 //! The nodes of a world, and the messages between them.
-ghost use Rattle.std.specs.Prelude.{◌≡◌, ◌<◌, ◌≤◌, false, vec_len, vec_capacity, IfOk, IfErr, IfSome, OnOk, OnErr, is_some};
+ghost use Rattle.std.specs.Prelude.{◌≡◌, ◌<◌, ◌≤◌, false, vec_len, vec_capacity, None, IfOk, IfErr, IfNone, IfSome, OnOk, OnErr};
 ghost use Rattle.std.specs.Option.{option_map};
 ghost use Rattle.doc.specs.Outcome.{Gives};
 ghost use Rattle.master.specs.Decide.{master_step};
 ghost use Rattle.master.specs.Fault.{fault_of, is_log};
 ghost use Rattle.world.specs.declared.event.EventAnswer.TheVariants.{RefusedByMaster};
-ghost use Rattle.world.specs.Nodes.{IsFollowed};
+ghost use Rattle.replica.specs.Logged.{searched};
+ghost use Rattle.world.specs.Nodes.{merge_of, node_in, IsFollowed, IsSwapAt};
 ghost use Rattle.world.specs.World.{answering, at_copy, at_master, copy_in, decided, decided_in, deliver, deliver_torn, message_at, new_world, request_of, torn_at, world_step, after_decision};
 
 mod copies;
 
 use crate::event::{Event, EventAnswer};
-use crate::nodes::copies::{
-    add_one, added, begun, merge_at, place_of, step_copy, swap_at, tear_copy,
-};
+use crate::nodes::copies::{add_one, added, begun, place_of, step_copy, tear_copy};
 use doc::Mapping;
-use engine::Merging;
+use engine::{Merged, Merging};
 use master::{Decision, Master, MasterFault, Request, State};
 use op::{Content, Msg, Op};
 use replica::{Copy, CopyFault, Input};
@@ -33,8 +32,6 @@ pub(crate) struct Nodes {
     copies: Vec<OneCopy>,
     messages: Vec<Msg>,
     acknowledged: Vec<Op>,
-    /// Merges that were begun and not put in place yet, one a copy. They are no part of the world: what a copy keeps and shows doesn't hang on them.
-    merges: Vec<Begun>,
 }
 
 impl Drop for Nodes {
@@ -45,32 +42,25 @@ impl Drop for Nodes {
             copies: _copies,
             messages: _messages,
             acknowledged: _acknowledged,
-            merges: _merges,
         } = self;
     }
 }
 
-/// A merge that was begun at a copy.
-#[derive(Drop)]
-struct Begun {
-    copy: u32,
-    merging: Merging,
-}
-
 impl Model for Nodes {
     ghost use Rattle.std.specs.Prelude.{◌≡◌, false};
-    ghost use Rattle.world.specs.World.{World};
+    ghost use Rattle.world.specs.Nodes.{copies_of, nodes_of, AreOpen, WorldData};
 
-    ghost Value = { World };
-
-    ghost use Rattle.world.specs.Nodes.{copies_of, AreOpen};
+    ghost Value = { WorldData };
 
     ghost view = { λ n. record {
-      mapping = n.mapping;
-      master = n.master.state;
-      copies = copies_of n.copies.items;
-      messages = n.messages.items;
-      acknowledged = n.acknowledged.items;
+      world = record {
+        mapping = n.mapping;
+        master = n.master.state;
+        copies = copies_of n.copies.items;
+        messages = n.messages.items;
+        acknowledged = n.acknowledged.items;
+      };
+      nodes = nodes_of n.copies.items;
     } };
 
     ghost invariant = { λ n. (n.master.closed ≡ false) × AreOpen n.copies.items };
@@ -80,7 +70,7 @@ impl Nodes {
     /// A new index of one copy to five.
     pub(crate) fn new(alloc: Global, mapping: &Mapping, copies: u8) -> Result<Nodes, AllocError>
         requires { (1 ≤ copies) × (copies ≤ 5) }
-        ensures { IfOk result (λ n. n ≡ new_world mapping.now copies) }
+        ensures { IfOk result (λ n. n.world ≡ new_world mapping.now copies) }
     {
         let master = match Master::begin(alloc, copies, MemDevice::new(Vec::new(alloc))) {
             Ok(master) => master,
@@ -104,14 +94,13 @@ impl Nodes {
             copies,
             messages: Vec::new(alloc),
             acknowledged: Vec::new(alloc),
-            merges: Vec::new(alloc),
         })
     }
 
     /// One event.
     pub(crate) fn step(&mut self, alloc: Global, event: &Event) -> Result<EventAnswer, AllocError>
-        ensures happened { IfOk result (λ a. world_step self.old event.now ≡ answering self.new a) }
-        ensures stays { OnErr result (self.new ≡ self.old) }
+        ensures happened { IfOk result (λ a. world_step self.old.world event.now ≡ answering self.new.world a) }
+        ensures stays { OnErr result (self.new.world ≡ self.old.world) }
     {
         match event {
             Event::Write(copy, write) => {
@@ -145,25 +134,25 @@ impl Nodes {
     }
 
     pub(crate) fn mapping(&self) -> &Mapping
-        ensures { result.now ≡ self.now.mapping }
+        ensures { result.now ≡ self.now.world.mapping }
     {
         &self.mapping
     }
 
     pub(crate) fn master(&self) -> &State
-        ensures { result.now ≡ self.now.master }
+        ensures { result.now ≡ self.now.world.master }
     {
         self.master.state()
     }
 
     pub(crate) fn messages(&self) -> &[Msg]
-        ensures { result.now ≡ self.now.messages }
+        ensures { result.now ≡ self.now.world.messages }
     {
         self.messages.as_slice()
     }
 
     pub(crate) fn acknowledged(&self) -> &[Op]
-        ensures { result.now ≡ self.now.acknowledged }
+        ensures { result.now ≡ self.now.world.acknowledged }
     {
         self.acknowledged.as_slice()
     }
@@ -171,7 +160,8 @@ impl Nodes {
     // ---- copies
 
     pub(crate) fn copy(&self, id: u32) -> Option<&OneCopy>
-        ensures copy { option_map (λ c. c.now.copy) result ≡ copy_in self.now.copies id }
+        ensures copy { option_map (λ c. c.now.copy) result ≡ copy_in self.now.world.copies id }
+        ensures node { option_map (λ c. searched c.now) result ≡ node_in self.now.nodes id }
         ensures open { IfSome result (λ c. c.now.closed ≡ false) }
     {
         match place_of(&self.copies, id) {
@@ -180,50 +170,58 @@ impl Nodes {
         }
     }
 
-    /// Begins a merge at a copy, in place of one that was begun there before. `false` where the copy isn't there.
-    pub(crate) fn begin_merge(&mut self, id: u32) -> Result<bool, AllocError>
-        ensures same { self.new ≡ self.old }
-        ensures there { IfOk result (λ b. b ≡ is_some (copy_in self.old.copies id)) }
+    /// Begins a merge at a copy. Nothing where the copy isn't there.
+    #[tactic(auto, using(crate::proofs::Swaps::begun_at, crate::proofs::Swaps::none_begun))]
+    pub(crate) fn begin_merge(&self, id: u32) -> Result<Option<Merging>, AllocError>
+        ensures { IfOk result (λ o. o ≡ option_map merge_of (node_in self.now.nodes id)) }
     {
-        let Some(copy) = self.copy(id) else {
-            return Ok(false);
-        };
-        let merging = copy.begin_merge()?;
-        let _earlier = taken(&mut self.merges, id);
-        self.merges.push(Begun { copy: id, merging })?;
-        Ok(true)
-    }
-
-    /// Ends the merge that was begun at a copy: it is built, and put in place if what it is made of is still there.
-    pub(crate) fn swap_merged(&mut self, alloc: Global, id: u32) -> Result<bool, AllocError>
-        ensures same { self.new ≡ self.old }
-        ensures there { IfOk result (λ b. b ≡ is_some (copy_in self.old.copies id)) }
-    {
-        let Some(place) = place_of(&self.copies, id) else {
-            return Ok(false);
-        };
-        if let Some(merging) = taken(&mut self.merges, id) {
-            let swapped = swap_at(alloc, &mut self.copies, place, &merging);
-            drop(merging);
-            swapped?;
+        match self.copy(id) {
+            Some(copy) => Ok(Some(copy.begin_merge()?)),
+            None => Ok(None),
         }
-        Ok(true)
     }
 
-    /// Merges at once what goes well into one, at a copy whose searches look through many parts. Nothing where the copy isn't there.
-    pub(crate) fn merge_next(&mut self, alloc: Global, id: u32) -> Result<(), AllocError>
-        ensures { self.new ≡ self.old }
+    /// Puts a merge in place at a copy, if what it is made of is still there. Nothing where the copy isn't there.
+    pub(crate) fn swap_merged(
+        &mut self,
+        alloc: Global,
+        id: u32,
+        merged: Merged,
+    ) -> Result<Option<bool>, AllocError>
+        ensures world { self.new.world ≡ self.old.world }
+        ensures none { IfOk result (λ o. IfNone o ((node_in self.old.nodes id ≡ None) × (self.new.nodes ≡ self.old.nodes))) }
+        ensures swapped { IfOk result (λ o. IfSome o (IsSwapAt id merged self.old.nodes self.new.nodes)) }
+        ensures err { OnErr result (self.new.nodes ≡ self.old.nodes) }
     {
         match place_of(&self.copies, id) {
-            Some(place) => merge_at(alloc, &mut self.copies, place),
+            Some(place) => {
+                let is_there = self.copies[place].swap_merged(alloc, merged)?;
+                Ok(Some(is_there))
+            }
+            None => {
+                drop(merged);
+                Ok(None)
+            }
+        }
+    }
+
+    /// Merges at once what goes well into one, at a copy whose searches look through many segments. Nothing where the copy isn't there.
+    pub(crate) fn merge_next(&mut self, alloc: Global, id: u32) -> Result<(), AllocError>
+        ensures { self.new.world ≡ self.old.world }
+    {
+        match place_of(&self.copies, id) {
+            Some(place) => {
+                let _is_merged = self.copies[place].merge_next(alloc)?;
+                Ok(())
+            }
             None => Ok(()),
         }
     }
 
     /// A step of a copy.
     fn at_copy(&mut self, alloc: Global, id: u32, input: Input) -> Result<EventAnswer, AllocError>
-        ensures happened { IfOk result (λ a. at_copy self.old (copy_in self.old.copies id) input ≡ answering self.new a) }
-        ensures stays { OnErr result (self.new ≡ self.old) }
+        ensures happened { IfOk result (λ a. at_copy self.old.world (copy_in self.old.world.copies id) input ≡ answering self.new.world a) }
+        ensures stays { OnErr result (self.new.world ≡ self.old.world) }
     {
         match place_of(&self.copies, id) {
             Some(place) => {
@@ -251,8 +249,8 @@ impl Nodes {
         input: Input,
         is_kept: bool,
     ) -> Result<EventAnswer, AllocError>
-        ensures happened { IfOk result (λ a. torn_at self.old (copy_in self.old.copies id) input is_kept ≡ answering self.new a) }
-        ensures stays { OnErr result (self.new ≡ self.old) }
+        ensures happened { IfOk result (λ a. torn_at self.old.world (copy_in self.old.world.copies id) input is_kept ≡ answering self.new.world a) }
+        ensures stays { OnErr result (self.new.world ≡ self.old.world) }
     {
         match place_of(&self.copies, id) {
             Some(place) => {
@@ -270,8 +268,8 @@ impl Nodes {
 
     /// Delivers a message, to a copy or to the master.
     fn deliver(&mut self, alloc: Global, number: u64) -> Result<EventAnswer, AllocError>
-        ensures happened { IfOk result (λ a. deliver self.old (message_at self.old number) ≡ answering self.new a) }
-        ensures stays { OnErr result (self.new ≡ self.old) }
+        ensures happened { IfOk result (λ a. deliver self.old.world (message_at self.old.world number) ≡ answering self.new.world a) }
+        ensures stays { OnErr result (self.new.world ≡ self.old.world) }
     {
         let Some(message) = self.message(alloc, number)? else {
             return Ok(EventAnswer::NoSuchMessage);
@@ -292,8 +290,8 @@ impl Nodes {
         number: u64,
         is_kept: bool,
     ) -> Result<EventAnswer, AllocError>
-        ensures happened { IfOk result (λ a. deliver_torn self.old (message_at self.old number) is_kept ≡ answering self.new a) }
-        ensures stays { OnErr result (self.new ≡ self.old) }
+        ensures happened { IfOk result (λ a. deliver_torn self.old.world (message_at self.old.world number) is_kept ≡ answering self.new.world a) }
+        ensures stays { OnErr result (self.new.world ≡ self.old.world) }
     {
         let Some(message) = self.message(alloc, number)? else {
             return Ok(EventAnswer::NoSuchMessage);
@@ -308,7 +306,7 @@ impl Nodes {
 
     /// A copy of a message, by its number from 1.
     fn message(&self, alloc: Global, number: u64) -> Result<Option<Msg>, AllocError>
-        ensures { IfOk result (λ m. m ≡ message_at self.now number) }
+        ensures { IfOk result (λ m. m ≡ message_at self.now.world number) }
     {
         if number == 0 {
             return Ok(None);
@@ -322,8 +320,8 @@ impl Nodes {
     // ---- the master
 
     fn deliver_to_master(&mut self, alloc: Global, message: &Msg) -> Result<EventAnswer, AllocError>
-        ensures happened { IfOk result (λ a. at_master self.old (request_of message.now.term message.now.content) ≡ answering self.new a) }
-        ensures stays { OnErr result (self.new ≡ self.old) }
+        ensures happened { IfOk result (λ a. at_master self.old.world (request_of message.now.term message.now.content) ≡ answering self.new.world a) }
+        ensures stays { OnErr result (self.new.world ≡ self.old.world) }
     {
         let Some(request) = request_of(message) else {
             return Ok(EventAnswer::Refused(CopyFault::WrongAddress));
@@ -335,8 +333,8 @@ impl Nodes {
     }
 
     fn ask(&mut self, alloc: Global, request: Request) -> Result<EventAnswer, AllocError>
-        ensures happened { IfOk result (λ a. after_decision self.old decided (master_step self.old.master request) ≡ answering self.new a) }
-        ensures stays { OnErr result (self.new ≡ self.old) }
+        ensures happened { IfOk result (λ a. after_decision self.old.world decided (master_step self.old.world.master request) ≡ answering self.new.world a) }
+        ensures stays { OnErr result (self.new.world ≡ self.old.world) }
     {
         match self.decide(alloc, request) {
             Ok(decision) => Ok(EventAnswer::Decided(decision.given, decision.sent)),
@@ -347,8 +345,8 @@ impl Nodes {
     /// A decision of the master, the copy that it gives an id to, and its message. It is looked at before it is made, so that memory is wanting before
     /// anything changes.
     fn decide(&mut self, alloc: Global, request: Request) -> Result<Decision, MasterFault>
-        ensures decided { Gives fault_of (λ d. (self.new, d)) result (decided_in self.old (master_step self.old.master request)) }
-        ensures stays { OnErr result (self.new ≡ self.old) }
+        ensures decided { Gives fault_of (λ d. (self.new.world, d)) result (decided_in self.old.world (master_step self.old.world.master request)) }
+        ensures stays { OnErr result (self.new.world ≡ self.old.world) }
         ensures no_log { IfErr result (λ e. is_log e ≡ false) }
     {
         let decision = match self.master.preview(alloc, request) {
@@ -366,16 +364,6 @@ impl Nodes {
         let made = self.master.step(alloc, request);
         follow(&mut self.copies, &mut self.messages, copy, decision, made)
     }
-}
-
-/// Takes the merge that was begun at a copy, if there is one.
-fn taken(merges: &mut Vec<Begun>, id: u32) -> Option<Merging> {
-    for at in 0..merges.len() {
-        if merges[at].copy == id {
-            return Some(merges.swap_remove(at).merging);
-        }
-    }
-    None
 }
 
 /// Adds what a decision gives and tells, where it was made.

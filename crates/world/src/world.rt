@@ -1,9 +1,11 @@
 //! A world: what events make of a new index of some copies.
-ghost use Rattle.std.specs.Prelude.{◌≡◌, ◌≤◌, false, length, IfOk, IfErr, IfSome, OnOk, OnErr, is_some};
+ghost use Rattle.std.specs.Prelude.{◌≡◌, ◌≤◌, false, length, None, IfOk, IfErr, IfNone, IfSome, OnOk, OnErr};
 ghost use Rattle.std.specs.Option.{option_map};
 ghost use Rattle.query.specs.View.{query_view};
 ghost use Rattle.engine.specs.Shown.{hits_view};
+ghost use Rattle.replica.specs.Logged.{searched};
 ghost use Rattle.world.specs.Held.{HasInSyncCopies, Held};
+ghost use Rattle.world.specs.Nodes.{merge_of, node_in, IsSwapAt};
 ghost use Rattle.world.specs.Reached.{IsRefusedRun};
 ghost use Rattle.world.specs.Search.{search_in};
 ghost use Rattle.world.specs.World.{answering, copy_in, new_world, world_of, world_step};
@@ -12,7 +14,7 @@ use crate::event::{Event, EventAnswer};
 use crate::fault::RunFault;
 use crate::nodes::{Nodes, OneCopy};
 use doc::Mapping;
-use engine::Hits;
+use engine::{Hits, Merged, Merging};
 use master::State;
 use op::{Msg, Op};
 use query::{Page, Query};
@@ -31,24 +33,24 @@ impl Drop for World {
 }
 
 impl Model for World {
-    ghost use Rattle.world.specs.World as spec;
+    ghost use Rattle.world.specs.Nodes.{WorldData};
 
-    ghost Value = { spec.World };
+    ghost Value = { WorldData };
 
     ghost use Rattle.world.specs.Reached.{IsReached};
 
     ghost view = { λ w. w.nodes };
 
-    ghost invariant = { λ w. IsReached w.nodes };
+    ghost invariant = { λ w. IsReached w.nodes.world };
 }
 
 impl World {
     /// A new index of one copy to five: copy 1 is the primary of term 1.
     pub fn new(alloc: Global, mapping: &Mapping, copies: u8) -> Result<World, AllocError>
         requires { (1 ≤ copies) × (copies ≤ 5) }
-        ensures world { IfOk result (λ w. w ≡ new_world mapping.now copies) }
-        ensures held { IfOk result Held }
-        ensures in_sync { IfOk result HasInSyncCopies }
+        ensures world { IfOk result (λ w. w.world ≡ new_world mapping.now copies) }
+        ensures held { IfOk result (λ w. Held w.world) }
+        ensures in_sync { IfOk result (λ w. HasInSyncCopies w.world) }
     {
         let nodes = Nodes::new(alloc, mapping, copies)?;
         Ok(World { nodes })
@@ -56,57 +58,65 @@ impl World {
 
     /// One event. Want of memory changes nothing.
     pub fn step(&mut self, alloc: Global, event: &Event) -> Result<EventAnswer, AllocError>
-        ensures happened { IfOk result (λ a. world_step self.old event.now ≡ answering self.new a) }
-        ensures stays { OnErr result (self.new ≡ self.old) }
-        ensures held { Held self.new }
-        ensures in_sync { HasInSyncCopies self.new }
+        ensures happened { IfOk result (λ a. world_step self.old.world event.now ≡ answering self.new.world a) }
+        ensures stays { OnErr result (self.new.world ≡ self.old.world) }
+        ensures held { Held self.new.world }
+        ensures in_sync { HasInSyncCopies self.new.world }
     {
         self.nodes.step(alloc, event)
     }
 
-    /// Begins a merge of the parts that searches at a copy look through; one that was begun there before is dropped. `false` where the
-    /// copy isn't there. A merge is no event: the world stays as it is.
-    pub fn begin_merge(&mut self, copy: u32) -> Result<bool, AllocError>
-        ensures same { self.new ≡ self.old }
-        ensures there { IfOk result (λ b. b ≡ is_some (copy_in self.old.copies copy)) }
+    /// Begins a merge of the segments that searches at a copy look through, to be built by whoever asked. `None` where the copy isn't there. A merge is no
+    /// event: the world stays as it is.
+    pub fn begin_merge(&self, copy: u32) -> Result<Option<Merging>, AllocError>
+        ensures { IfOk result (λ o. o ≡ option_map merge_of (node_in self.now.nodes copy)) }
     {
         self.nodes.begin_merge(copy)
     }
 
-    /// Builds the merge that was begun at a copy, if there is one, and puts it in place if the parts that it is made of are still there.
-    pub fn swap_merged(&mut self, alloc: Global, copy: u32) -> Result<bool, AllocError>
-        ensures same { self.new ≡ self.old }
-        ensures there { IfOk result (λ b. b ≡ is_some (copy_in self.old.copies copy)) }
+    /// Puts a merged segment in place at a copy, of those that it is made of and that are still there; `false` where none is. `None` where the copy isn't
+    /// there.
+    pub fn swap_merged(
+        &mut self,
+        alloc: Global,
+        copy: u32,
+        merged: Merged,
+    ) -> Result<Option<bool>, AllocError>
+        ensures world { self.new.world ≡ self.old.world }
+        ensures none { IfOk result (λ o. IfNone o ((node_in self.old.nodes copy ≡ None) × (self.new.nodes ≡ self.old.nodes))) }
+        ensures swapped { IfOk result (λ o. IfSome o (IsSwapAt copy merged self.old.nodes self.new.nodes)) }
+        ensures err { OnErr result (self.new.nodes ≡ self.old.nodes) }
     {
-        self.nodes.swap_merged(alloc, copy)
+        self.nodes.swap_merged(alloc, copy, merged)
     }
 
-    /// Merges at once what goes well into one, at a copy whose searches look through many parts. Nothing where the copy isn't there.
+    /// Merges at once what goes well into one, at a copy whose searches look through many segments. Nothing where the copy isn't there.
     pub fn merge_next(&mut self, alloc: Global, copy: u32) -> Result<(), AllocError>
-        ensures { self.new ≡ self.old }
+        ensures { self.new.world ≡ self.old.world }
     {
         self.nodes.merge_next(alloc, copy)
     }
 
     /// The mapping that documents are read under.
     pub fn mapping(&self) -> &Mapping
-        ensures { result.now ≡ self.now.mapping }
+        ensures { result.now ≡ self.now.world.mapping }
     {
         self.nodes.mapping()
     }
 
     /// What the master knows.
     pub fn master(&self) -> &State
-        ensures { result.now ≡ self.now.master }
+        ensures { result.now ≡ self.now.world.master }
     {
         self.nodes.master()
     }
 
     /// The copy with an id. Its log hasn't failed.
     pub fn copy(&self, id: u32) -> Option<&OneCopy>
-        ensures copy { option_map (λ c. c.now.copy) result ≡ copy_in self.now.copies id }
+        ensures copy { option_map (λ c. c.now.copy) result ≡ copy_in self.now.world.copies id }
+        ensures node { option_map (λ c. searched c.now) result ≡ node_in self.now.nodes id }
         ensures open { IfSome result (λ c. c.now.closed ≡ false) }
-        ensures mapping { IfSome result (λ c. c.now.copy.mapping ≡ self.now.mapping) }
+        ensures mapping { IfSome result (λ c. c.now.copy.mapping ≡ self.now.world.mapping) }
     {
         self.nodes.copy(id)
     }
@@ -120,7 +130,7 @@ impl World {
         query: &Query,
         page: Page,
     ) -> Result<Option<Hits>, AllocError>
-        ensures { IfOk result (λ found. option_map hits_view found ≡ search_in self.now self.now.mapping copy (query_view query.now) page) }
+        ensures { IfOk result (λ found. option_map hits_view found ≡ search_in self.now.world self.now.world.mapping copy (query_view query.now) page) }
     {
         let Some(there) = self.copy(copy) else {
             return Ok(None);
@@ -134,14 +144,14 @@ impl World {
 
     /// Every message that was ever sent; message 1 comes first.
     pub fn messages(&self) -> &[Msg]
-        ensures { result.now ≡ self.now.messages }
+        ensures { result.now ≡ self.now.world.messages }
     {
         self.nodes.messages()
     }
 
     /// Every operation that was ever acknowledged.
     pub fn acknowledged(&self) -> &[Op]
-        ensures { result.now ≡ self.now.acknowledged }
+        ensures { result.now ≡ self.now.world.acknowledged }
     {
         self.nodes.acknowledged()
     }
@@ -154,9 +164,9 @@ pub fn run(
     copies: u8,
     events: &[Event],
 ) -> Result<World, RunFault>
-    ensures world { IfOk result (λ w. w ≡ world_of mapping.now copies events.now) }
-    ensures held { IfOk result Held }
-    ensures in_sync { IfOk result HasInSyncCopies }
+    ensures world { IfOk result (λ w. w.world ≡ world_of mapping.now copies events.now) }
+    ensures held { IfOk result (λ w. Held w.world) }
+    ensures in_sync { IfOk result (λ w. HasInSyncCopies w.world) }
     ensures count { OnOk result ((1 ≤ copies) × (copies ≤ 5)) }
     ensures refused { IfErr result (IsRefusedRun copies (length events.now)) }
 {

@@ -43,8 +43,8 @@ struct Draft {
 impl State {
     /// What the writes of a bulk give and leave, or why all are refused. Nothing changes.
     pub(crate) fn plan_all(&self, alloc: Global, writes: Writes) -> Result<PlannedAll, CopyFault>
-        ensures gives { Gives fault_of (stepped_all_by self.now) result (copy_step self.now (Bulk writes)) }
-        ensures planned { IfOk result (IsPlannedAll self.now) }
+        ensures gives { Gives fault_of (stepped_all_by self.now.copy) result (copy_step self.now.copy (Bulk writes)) }
+        ensures planned { IfOk result (IsPlannedAll self.now.copy) }
         ensures no_log { IfErr result (λ e. is_log e ≡ false) }
     {
         let Role::Primary(lead) = &self.role else {
@@ -58,9 +58,9 @@ impl State {
 
     /// No write yet.
     fn draft(&self, alloc: Global, lead: &Lead) -> Result<Draft, AllocError>
-        requires { self.now.role ≡ Primary lead.now }
-        ensures folds { IfOk result (λ d. folding self.now d ≡ unwritten self.now) }
-        ensures drafted { IfOk result (IsDrafted self.now) }
+        requires { self.now.copy.role ≡ Primary lead.now }
+        ensures folds { IfOk result (λ d. folding self.now.copy d ≡ unwritten self.now.copy) }
+        ensures drafted { IfOk result (IsDrafted self.now.copy) }
         ensures none { IfOk result (λ d. d.items.items ≡ []) }
     {
         Ok(Draft {
@@ -77,10 +77,10 @@ impl State {
 
     /// The same after all writes of a bulk.
     fn draft_all(&self, alloc: Global, first: Draft, writes: Writes) -> Result<Draft, AllocError>
-        requires drafted { IsDrafted self.now first }
+        requires drafted { IsDrafted self.now.copy first }
         requires none { first.items.items ≡ [] }
-        ensures folds { IfOk result (λ d. folding self.now d ≡ folded (folding self.now first) writes) }
-        ensures drafted { IfOk result (IsDrafted self.now) }
+        ensures folds { IfOk result (λ d. folding self.now.copy d ≡ folded (folding self.now.copy first) writes) }
+        ensures drafted { IfOk result (IsDrafted self.now.copy) }
         ensures few { IfOk result (λ d. length d.items.items ≤ 1024) }
     {
         let mut draft = first;
@@ -92,9 +92,9 @@ impl State {
 
     /// The same after one more write.
     fn draft_with(&self, alloc: Global, draft: Draft, write: Write) -> Result<Draft, AllocError>
-        requires { IsDrafted self.now draft }
-        ensures folds { IfOk result (λ d. folding self.now d ≡ with_write (folding self.now draft) (write_step (drafted self.now draft) write)) }
-        ensures drafted { IfOk result (IsDrafted self.now) }
+        requires { IsDrafted self.now.copy draft }
+        ensures folds { IfOk result (λ d. folding self.now.copy d ≡ with_write (folding self.now.copy draft) (write_step (drafted self.now.copy draft) write)) }
+        ensures drafted { IfOk result (IsDrafted self.now.copy) }
         ensures one { IfOk result (λ d. length d.items.items ≡ suc (length draft.items.items)) }
     {
         let last = self.engine.last_with(&draft.ahead, &write.id);
@@ -115,11 +115,11 @@ impl State {
         write: Write,
         last: Option<Last>,
     ) -> Result<Draft, AllocError>
-        requires drafted { IsDrafted self.now draft }
-        requires last { last ≡ option_map last_of (last_on (operations (drafted self.now draft)) write.id) }
-        requires none { first_fault (write_faults (drafted self.now draft) write) ≡ Ok tt }
-        ensures folds { IfOk result (λ d. folding self.now d ≡ with_write (folding self.now draft) (write_step (drafted self.now draft) write)) }
-        ensures drafted { IfOk result (IsDrafted self.now) }
+        requires drafted { IsDrafted self.now.copy draft }
+        requires last { last ≡ option_map last_of (last_on (operations (drafted self.now.copy draft)) write.id) }
+        requires none { first_fault (write_faults (drafted self.now.copy draft) write) ≡ Ok tt }
+        ensures folds { IfOk result (λ d. folding self.now.copy d ≡ with_write (folding self.now.copy draft) (write_step (drafted self.now.copy draft) write)) }
+        ensures drafted { IfOk result (IsDrafted self.now.copy) }
         ensures one { IfOk result (λ d. length d.items.items ≡ suc (length draft.items.items)) }
     {
         let outcome = writing::outcome(writing::is_live(last), &write.kind);
@@ -143,11 +143,11 @@ impl State {
         op: Op,
         outcome: Outcome,
     ) -> Result<Draft, AllocError>
-        requires drafted { IsDrafted self.now draft }
-        requires next { IsNextOp (drafted self.now draft) draft.lead op }
+        requires drafted { IsDrafted self.now.copy draft }
+        requires next { IsNextOp (drafted self.now.copy draft) draft.lead op }
         requires small { is_too_large (Record.Op (checkpoint_of draft.known) op) ≡ false }
-        ensures folds { IfOk result (λ d. folding self.now d ≡ with_write (folding self.now draft) (Ok (write_gives (drafted self.now draft) draft.lead op outcome))) }
-        ensures drafted { IfOk result (IsDrafted self.now) }
+        ensures folds { IfOk result (λ d. folding self.now.copy d ≡ with_write (folding self.now.copy draft) (Ok (write_gives (drafted self.now.copy draft) draft.lead op outcome))) }
+        ensures drafted { IfOk result (IsDrafted self.now.copy) }
         ensures one { IfOk result (λ d. length d.items.items ≡ suc (length draft.items.items)) }
     {
         let mut messages = self
@@ -201,7 +201,7 @@ impl State {
         op: &Op,
     ) -> Result<Messages, AllocError>
         requires { known ≤ 2 ^ 63 }
-        ensures { IfOk result (λ a. a ≡ op_messages (record self.now { known = known }) lead.now op.now) }
+        ensures { IfOk result (λ a. a ≡ op_messages (record self.now.copy { known = known }) lead.now op.now) }
     {
         let content = Content::Op(checkpoint::from_count(known), op.copy(alloc)?);
         self.messages(alloc, &lead.members, self.term, &content)

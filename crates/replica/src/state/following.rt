@@ -31,8 +31,8 @@ impl State {
         op: Op,
     ) -> Result<Handled, CopyFault>
         requires { IsRecord (Record.Op known op) }
-        ensures gives { Gives fault_of (handled_step self.now) result (settled (spec.take_op self.now from known op self.now.role)) }
-        ensures handled { IfOk result (IsHandled self.now) }
+        ensures gives { Gives fault_of (handled_step self.now.copy) result (settled (spec.take_op self.now.copy from known op self.now.copy.role)) }
+        ensures handled { IfOk result (IsHandled self.now.copy) }
         ensures no_log { IfErr result (λ e. is_log e ≡ false) }
     {
         let Some(role) = self.role.follower() else {
@@ -57,9 +57,9 @@ impl State {
         op: Op,
         role: Role,
     ) -> Result<Handled, CopyFault>
-        requires { IsFollowing self.now known op role }
-        ensures gives { Gives fault_of (handled_step self.now) result (settled (spec.take_new self.now from known op)) }
-        ensures handled { IfOk result (IsHandled self.now) }
+        requires { IsFollowing self.now.copy known op role }
+        ensures gives { Gives fault_of (handled_step self.now.copy) result (settled (spec.take_new self.now.copy from known op)) }
+        ensures handled { IfOk result (IsHandled self.now.copy) }
         ensures no_log { IfErr result (λ e. is_log e ≡ false) }
     {
         if op.seq >= self.local_count() + WINDOW {
@@ -78,9 +78,9 @@ impl State {
         op: Op,
         role: Role,
     ) -> Result<Planned, AllocError>
-        requires { IsFollowing self.now known op role }
-        ensures gives { IfOk result (λ p. stepped_by self.now p ≡ op_gives self.now from known op) }
-        ensures planned { IfOk result (IsPlanned self.now) }
+        requires { IsFollowing self.now.copy known op role }
+        ensures gives { IfOk result (λ p. stepped_by self.now.copy p ≡ op_gives self.now.copy from known op) }
+        ensures planned { IfOk result (IsPlanned self.now.copy) }
         ensures kept { IfOk result (λ p. p.next_record ≡ Record.Op known op) }
     {
         let answer = if self.engine.is_stale(&op) {
@@ -106,7 +106,7 @@ impl State {
 
     /// An acknowledgement of a number, with a local checkpoint.
     fn ack(&self, alloc: Global, to: u32, seq: i64, local: i64) -> Result<Messages, AllocError>
-        ensures { IfOk result (λ a. a ≡ record { from = self.now.id; to = to; term = self.now.term; content = Content.Ack seq local } ∷ []) }
+        ensures { IfOk result (λ a. a ≡ record { from = self.now.copy.id; to = to; term = self.now.copy.term; content = Content.Ack seq local } ∷ []) }
     {
         self.message(alloc, to, self.term, Content::Ack(seq, local))
     }
@@ -114,7 +114,7 @@ impl State {
     /// An acknowledgement of no number, with so many from number 0 up, in a term that the copy takes.
     fn ack_all(&self, alloc: Global, to: u32, term: u64, local: u64) -> Result<Messages, AllocError>
         requires { local ≤ 2 ^ 63 }
-        ensures { IfOk result (λ a. a ≡ ack_all_of self.now.id to term local ∷ []) }
+        ensures { IfOk result (λ a. a ≡ ack_all_of self.now.copy.id to term local ∷ []) }
     {
         let content = Content::Ack(-1, checkpoint::from_count(local));
         self.message(alloc, to, term, content)
@@ -132,8 +132,8 @@ impl State {
         tail: Operations,
     ) -> Result<Handled, CopyFault>
         requires { IsRecord (Record.Resync term known tail) }
-        ensures gives { Gives fault_of (handled_step self.now) result (settled (spec.take_resync self.now from term known tail (term == self.now.term))) }
-        ensures handled { IfOk result (IsHandled self.now) }
+        ensures gives { Gives fault_of (handled_step self.now.copy) result (settled (spec.take_resync self.now.copy from term known tail (term == self.now.copy.term))) }
+        ensures handled { IfOk result (IsHandled self.now.copy) }
         ensures no_log { IfErr result (λ e. is_log e ≡ false) }
     {
         if term == self.term {
@@ -158,10 +158,10 @@ impl State {
         tail: Operations,
     ) -> Result<Planned, AllocError>
         requires is { IsRecord (Record.Resync term known tail) }
-        requires up { IsAscending (operations self.now) }
-        requires there { count_of known ≤ local_count (operations self.now) }
-        ensures gives { IfOk result (λ p. stepped_by self.now p ≡ resync_gives self.now from term known tail) }
-        ensures planned { IfOk result (IsPlanned self.now) }
+        requires up { IsAscending (operations self.now.copy) }
+        requires there { count_of known ≤ local_count (operations self.now.copy) }
+        ensures gives { IfOk result (λ p. stepped_by self.now.copy p ≡ resync_gives self.now.copy from term known tail) }
+        ensures planned { IfOk result (IsPlanned self.now.copy) }
         ensures kept { IfOk result (λ p. p.next_record ≡ Record.Resync term known tail) }
     {
         let count = checkpoint::count(known);
@@ -177,8 +177,8 @@ impl State {
 
     /// What a resync of the copy's own term gives, or why it is refused.
     fn resync_again(&self, alloc: Global, from: u32) -> Result<Handled, CopyFault>
-        ensures gives { Gives fault_of (handled_step self.now) result (settled (spec.resync_again self.now from self.now.role)) }
-        ensures handled { IfOk result (IsHandled self.now) }
+        ensures gives { Gives fault_of (handled_step self.now.copy) result (settled (spec.resync_again self.now.copy from self.now.copy.role)) }
+        ensures handled { IfOk result (IsHandled self.now.copy) }
         ensures no_log { IfErr result (λ e. is_log e ≡ false) }
     {
         if let Role::Primary(_) = &self.role {
@@ -199,8 +199,8 @@ impl State {
         all: Operations,
     ) -> Result<Handled, CopyFault>
         requires { IsRecord (Record.Recover term all) }
-        ensures gives { Gives fault_of (handled_step self.now) result (settled (spec.take_recover self.now from term all self.now.role)) }
-        ensures handled { IfOk result (IsHandled self.now) }
+        ensures gives { Gives fault_of (handled_step self.now.copy) result (settled (spec.take_recover self.now.copy from term all self.now.copy.role)) }
+        ensures handled { IfOk result (IsHandled self.now.copy) }
         ensures no_log { IfErr result (λ e. is_log e ≡ false) }
     {
         let Role::Empty = &self.role else {
@@ -219,8 +219,8 @@ impl State {
         all: Operations,
     ) -> Result<Planned, AllocError>
         requires { IsRecord (Record.Recover term all) }
-        ensures gives { IfOk result (λ p. stepped_by self.now p ≡ recover_gives self.now from term all) }
-        ensures planned { IfOk result (IsPlanned self.now) }
+        ensures gives { IfOk result (λ p. stepped_by self.now.copy p ≡ recover_gives self.now.copy from term all) }
+        ensures planned { IfOk result (IsPlanned self.now.copy) }
         ensures kept { IfOk result (λ p. p.next_record ≡ Record.Recover term all) }
     {
         let sent = self.recovery(alloc, from, term, all.as_slice().len() as u64)?;
@@ -235,8 +235,8 @@ impl State {
 
     /// What a recovery of a copy that has records gives, or why it is refused.
     fn recover_again(&self, alloc: Global, from: u32, term: u64) -> Result<Handled, CopyFault>
-        ensures gives { Gives fault_of (handled_step self.now) result (settled (spec.recover_again self.now from term)) }
-        ensures handled { IfOk result (IsHandled self.now) }
+        ensures gives { Gives fault_of (handled_step self.now.copy) result (settled (spec.recover_again self.now.copy from term)) }
+        ensures handled { IfOk result (IsHandled self.now.copy) }
         ensures no_log { IfErr result (λ e. is_log e ≡ false) }
     {
         if term != self.term {
@@ -255,7 +255,7 @@ impl State {
         local: u64,
     ) -> Result<Messages, AllocError>
         requires { local ≤ 2 ^ 63 }
-        ensures { IfOk result (λ a. a ≡ recovery_of self.now.id from term local) }
+        ensures { IfOk result (λ a. a ≡ recovery_of self.now.copy.id from term local) }
     {
         let mut items = self.ack_all(alloc, from, term, local)?.into_vec();
         items.push(Msg {

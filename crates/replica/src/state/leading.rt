@@ -64,8 +64,8 @@ impl State {
         next: u64,
         latest: Option<&Op>,
     ) -> Result<Led, AllocError>
-        ensures led { IfOk result (λ l. l ≡ led_by self.now lead next (option_copied latest.entry)) }
-        ensures standing { IsStanding self.now }
+        ensures led { IfOk result (λ l. l ≡ led_by self.now.copy lead next (option_copied latest.entry)) }
+        ensures standing { IsStanding self.now.copy }
     {
         let known = self.known.max(lead.least(self.id, next));
         let Ok(acknowledged) = self.acknowledged(alloc, &lead, latest) else {
@@ -90,7 +90,7 @@ impl State {
         lead: &Lead,
         latest: Option<&Op>,
     ) -> Result<Operations, AllocError>
-        ensures { IfOk result (λ a. a ≡ filter_map (op_among (operations self.now) (option_copied latest.entry)) (filter (is_settled_by self.now.id lead.now) lead.now.pending)) }
+        ensures { IfOk result (λ a. a ≡ filter_map (op_among (operations self.now.copy) (option_copied latest.entry)) (filter (is_settled_by self.now.copy.id lead.now) lead.now.pending)) }
     {
         let settled = lead.settled(alloc, self.id)?;
         self.settled_ops(alloc, &settled, latest)
@@ -103,7 +103,7 @@ impl State {
         settled: &Numbers,
         latest: Option<&Op>,
     ) -> Result<Operations, AllocError>
-        ensures { IfOk result (λ a. a ≡ filter_map (op_among (operations self.now) (option_copied latest.entry)) settled.now) }
+        ensures { IfOk result (λ a. a ≡ filter_map (op_among (operations self.now.copy) (option_copied latest.entry)) settled.now) }
     {
         let numbers = settled.to_vec(alloc)?;
         let mut items = Vec::new(alloc);
@@ -117,7 +117,7 @@ impl State {
 
     /// The operation at a number, which may be the latest one.
     fn op_among<'a>(&'a self, latest: Option<&'a Op>, number: u64) -> Option<&'a Op>
-        ensures { option_copied result ≡ op_among (operations self.now) (option_copied latest.entry) number }
+        ensures { option_copied result ≡ op_among (operations self.now.copy) (option_copied latest.entry) number }
     {
         match latest {
             Some(op) => if op.seq == number {
@@ -131,9 +131,9 @@ impl State {
 
     /// The primary after a message that it keeps no record of.
     fn turned(&self, alloc: Global, lead: Lead, sent: Messages) -> Result<Settled, AllocError>
-        requires { IsTurn self.now lead }
-        ensures gives { IfOk result (λ s. stepped (turned self.now s) s.output ≡ turned_step self.now lead sent) }
-        ensures settling { IfOk result (IsSettling self.now) }
+        requires { IsTurn self.now.copy lead }
+        ensures gives { IfOk result (λ s. stepped (turned self.now.copy s) s.output ≡ turned_step self.now.copy lead sent) }
+        ensures settling { IfOk result (IsSettling self.now.copy) }
     {
         let led = self.settle(alloc, lead, self.next_seq(), None)?;
         Ok(led.into_settled(Answer::Taken, sent))
@@ -143,8 +143,8 @@ impl State {
 
     /// What a report gives, or why it is refused.
     pub(crate) fn report(&self, alloc: Global, id: u32) -> Result<Output, CopyFault>
-        ensures gives { Gives fault_of (stepped self.now) result (copy_step self.now (Report id)) }
-        ensures members { IfOk result (λ o. o.members ≡ members_of self.now.role) }
+        ensures gives { Gives fault_of (stepped self.now.copy) result (copy_step self.now.copy (Report id)) }
+        ensures members { IfOk result (λ o. o.members ≡ members_of self.now.copy.role) }
         ensures no_log { IfErr result (λ e. is_log e ≡ false) }
     {
         let Role::Primary(lead) = &self.role else {
@@ -170,8 +170,8 @@ impl State {
         seq: i64,
         below: i64,
     ) -> Result<Handled, CopyFault>
-        ensures gives { Gives fault_of (handled_step self.now) result (settled (spec.take_ack self.now from (known seq) (known below) self.now.role)) }
-        ensures handled { IfOk result (IsHandled self.now) }
+        ensures gives { Gives fault_of (handled_step self.now.copy) result (settled (spec.take_ack self.now.copy from (known seq) (known below) self.now.copy.role)) }
+        ensures handled { IfOk result (IsHandled self.now.copy) }
         ensures no_log { IfErr result (λ e. is_log e ≡ false) }
     {
         let Role::Primary(lead) = &self.role else {
@@ -194,8 +194,8 @@ impl State {
 
     /// What the tracking of a copy gives and leaves, or why it is refused.
     pub(super) fn take_track(&self, alloc: Global, id: u32) -> Result<Handled, CopyFault>
-        ensures gives { Gives fault_of (handled_step self.now) result (settled (spec.take_track self.now id self.now.role)) }
-        ensures handled { IfOk result (IsHandled self.now) }
+        ensures gives { Gives fault_of (handled_step self.now.copy) result (settled (spec.take_track self.now.copy id self.now.copy.role)) }
+        ensures handled { IfOk result (IsHandled self.now.copy) }
         ensures no_log { IfErr result (λ e. is_log e ≡ false) }
     {
         let Role::Primary(lead) = &self.role else {
@@ -219,8 +219,8 @@ impl State {
 
     /// What the removal of a copy gives and leaves, or why it is refused.
     pub(super) fn take_removed(&self, alloc: Global, id: u32) -> Result<Handled, CopyFault>
-        ensures gives { Gives fault_of (handled_step self.now) result (settled (spec.take_removed self.now id self.now.role)) }
-        ensures handled { IfOk result (IsHandled self.now) }
+        ensures gives { Gives fault_of (handled_step self.now.copy) result (settled (spec.take_removed self.now.copy id self.now.copy.role)) }
+        ensures handled { IfOk result (IsHandled self.now.copy) }
         ensures no_log { IfErr result (λ e. is_log e ≡ false) }
     {
         let Role::Primary(lead) = &self.role else {

@@ -32,9 +32,9 @@ impl State {
         set: CopyIds,
     ) -> Result<Handled, CopyFault>
         requires is_term { IsTerm term }
-        requires member { has set self.now.id ≡ true }
-        ensures gives { Gives fault_of (handled_step self.now) result (settled (spec.take_promoted self.now term set (term == self.now.term))) }
-        ensures handled { IfOk result (IsHandled self.now) }
+        requires member { has set self.now.copy.id ≡ true }
+        ensures gives { Gives fault_of (handled_step self.now.copy) result (settled (spec.take_promoted self.now.copy term set (term == self.now.copy.term))) }
+        ensures handled { IfOk result (IsHandled self.now.copy) }
         ensures no_log { IfErr result (λ e. is_log e ≡ false) }
     {
         if term == self.term {
@@ -50,7 +50,7 @@ impl State {
 
     /// Whether a tail makes the record of a promotion.
     fn is_tail(&self, term: u64, tail: &Operations) -> bool
-        ensures { result ≡ is_record (Record.Resync term (checkpoint_of self.now.known) tail.now) }
+        ensures { result ≡ is_record (Record.Resync term (checkpoint_of self.now.copy.known) tail.now) }
     {
         is_resync_record(term, checkpoint::from_count(self.known), tail.as_slice())
     }
@@ -63,10 +63,10 @@ impl State {
         set: CopyIds,
         tail: Operations,
     ) -> Result<Planned, AllocError>
-        requires { IsPromotion self.now term set tail }
-        ensures gives { IfOk result (λ p. stepped_by self.now p ≡ promotion_gives self.now term set) }
-        ensures planned { IfOk result (IsPlanned self.now) }
-        ensures kept { IfOk result (λ p. p.next_record ≡ resync_of self.now term) }
+        requires { IsPromotion self.now.copy term set tail }
+        ensures gives { IfOk result (λ p. stepped_by self.now.copy p ≡ promotion_gives self.now.copy term set) }
+        ensures planned { IfOk result (IsPlanned self.now.copy) }
+        ensures kept { IfOk result (λ p. p.next_record ≡ resync_of self.now.copy term) }
     {
         let sent = self.resync_messages(alloc, &set, term, &tail)?;
         let led = self.settle(alloc, new_lead(alloc, set), self.next_seq(), None)?;
@@ -76,7 +76,7 @@ impl State {
 
     /// The record of a promotion.
     fn resync_record(&self, term: u64, tail: Operations) -> Record
-        ensures { result ≡ Record.Resync term (checkpoint_of self.now.known) tail }
+        ensures { result ≡ Record.Resync term (checkpoint_of self.now.copy.known) tail }
     {
         Record::Resync(term, checkpoint::from_count(self.known), tail)
     }
@@ -89,8 +89,8 @@ impl State {
         term: u64,
         tail: &Operations,
     ) -> Result<Messages, AllocError>
-        requires { tail.now ≡ tail_of self.now term }
-        ensures { IfOk result (λ a. a ≡ resync_messages self.now term set.now) }
+        requires { tail.now ≡ tail_of self.now.copy term }
+        ensures { IfOk result (λ a. a ≡ resync_messages self.now.copy term set.now) }
     {
         let content = Content::Resync(checkpoint::from_count(self.known), tail.copy(alloc)?);
         self.messages(alloc, set, term, &content)
@@ -98,7 +98,7 @@ impl State {
 
     /// What a new primary has above its checkpoint, its gaps filled with operations that do nothing.
     fn tail(&self, alloc: Global, term: u64) -> Result<Operations, AllocError>
-        ensures { IfOk result (λ a. a ≡ tail_of self.now term) }
+        ensures { IfOk result (λ a. a ≡ tail_of self.now.copy term) }
     {
         let mut items = Vec::new(alloc);
         let next = self.next_seq();
@@ -110,7 +110,7 @@ impl State {
 
     /// The operation at a number, or one that does nothing.
     fn filled(&self, alloc: Global, number: u64, term: u64) -> Result<Op, AllocError>
-        ensures { IfOk result (λ o. o ≡ unwrap_or (op_at (operations self.now) number) (no_op term number)) }
+        ensures { IfOk result (λ o. o ≡ unwrap_or (op_at (operations self.now.copy) number) (no_op term number)) }
     {
         match self.engine.op_at(number) {
             Some(op) => op.copy(alloc),

@@ -19,8 +19,8 @@ use std::alloc::Global;
 impl State {
     /// What a message gives and leaves, or why it is refused. Nothing changes.
     pub(crate) fn take(&self, alloc: Global, message: Msg) -> Result<Handled, CopyFault>
-        ensures gives { Gives fault_of (handled_step self.now) result (copy_step self.now (Take message)) }
-        ensures handled { IfOk result (IsHandled self.now) }
+        ensures gives { Gives fault_of (handled_step self.now.copy) result (copy_step self.now.copy (Take message)) }
+        ensures handled { IfOk result (IsHandled self.now.copy) }
         ensures no_log { IfErr result (λ e. is_log e ≡ false) }
     {
         self.check(&message)?;
@@ -35,8 +35,8 @@ impl State {
 
     /// Why a message is refused before its case: its address, an empty copy, its term, its shape.
     fn check(&self, message: &Msg) -> Result<(), CopyFault>
-        ensures gives { Gives fault_of (λ u. u) result (first_fault (take_faults self.now message.now)) }
-        ensures shape { IfOk result (λ u. is_shaped self.now.id message.now.term message.now.content ≡ true) }
+        ensures gives { Gives fault_of (λ u. u) result (first_fault (take_faults self.now.copy message.now)) }
+        ensures shape { IfOk result (λ u. is_shaped self.now.copy.id message.now.term message.now.content ≡ true) }
         ensures no_log { IfErr result (λ e. is_log e ≡ false) }
     {
         if message.to != self.id {
@@ -65,9 +65,9 @@ impl State {
         term: u64,
         content: Content,
     ) -> Result<Handled, CopyFault>
-        requires { is_shaped self.now.id term content ≡ true }
-        ensures gives { Gives fault_of (handled_step self.now) result (settled (spec.take_content self.now from term content)) }
-        ensures handled { IfOk result (IsHandled self.now) }
+        requires { is_shaped self.now.copy.id term content ≡ true }
+        ensures gives { Gives fault_of (handled_step self.now.copy) result (settled (spec.take_content self.now.copy from term content)) }
+        ensures handled { IfOk result (IsHandled self.now.copy) }
         ensures no_log { IfErr result (λ e. is_log e ≡ false) }
     {
         match content {

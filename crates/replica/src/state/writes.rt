@@ -23,8 +23,8 @@ use std::alloc::{AllocError, Global};
 impl State {
     /// What a write gives and leaves, or why it is refused. Nothing changes.
     pub(crate) fn plan(&self, alloc: Global, write: Write) -> Result<Planned, CopyFault>
-        ensures gives { Gives fault_of (stepped_by self.now) result (copy_step self.now (Client write)) }
-        ensures keepable { IfOk result (IsKeepable self.now) }
+        ensures gives { Gives fault_of (stepped_by self.now.copy) result (copy_step self.now.copy (Client write)) }
+        ensures keepable { IfOk result (IsKeepable self.now.copy) }
         ensures no_log { IfErr result (λ e. is_log e ≡ false) }
     {
         let Role::Primary(lead) = &self.role else {
@@ -56,10 +56,10 @@ impl State {
         op: Op,
         outcome: Outcome,
     ) -> Result<Planned, AllocError>
-        requires { IsNextOp self.now lead.now op }
-        ensures gives { IfOk result (λ p. stepped_by self.now p ≡ write_gives self.now lead.now op outcome) }
-        ensures planned { IfOk result (IsPlanned self.now) }
-        ensures kept { IfOk result (λ p. p.next_record ≡ record_of self.now op) }
+        requires { IsNextOp self.now.copy lead.now op }
+        ensures gives { IfOk result (λ p. stepped_by self.now.copy p ≡ write_gives self.now.copy lead.now op outcome) }
+        ensures planned { IfOk result (IsPlanned self.now.copy) }
+        ensures kept { IfOk result (λ p. p.next_record ≡ record_of self.now.copy op) }
     {
         let answer = wrote(&op, outcome);
         let sent = self.op_messages(alloc, lead, &op)?;
@@ -71,7 +71,7 @@ impl State {
 
     /// The messages of an operation, to each other member.
     fn op_messages(&self, alloc: Global, lead: &Lead, op: &Op) -> Result<Messages, AllocError>
-        ensures { IfOk result (λ a. a ≡ op_messages self.now lead.now op.now) }
+        ensures { IfOk result (λ a. a ≡ op_messages self.now.copy lead.now op.now) }
     {
         let content = Content::Op(checkpoint::from_count(self.known), op.copy(alloc)?);
         self.messages(alloc, &lead.members, self.term, &content)

@@ -14,7 +14,6 @@ ghost use Rattle.world.specs.World.{place_in};
 use crate::event::EventAnswer;
 use crate::nodes::OneCopy;
 use doc::Mapping;
-use engine::Merging;
 use op::{Msg, Op};
 use replica::{Birth, Copy, CopyFault, Input, Output, Prepared};
 use std::alloc::{AllocError, Global};
@@ -30,35 +29,6 @@ pub(crate) fn place_of(copies: &[OneCopy], id: u32) -> Option<usize>
         }
     }
     None
-}
-
-/// Builds a merge and puts it in place at a copy, if what it is made of is still there.
-pub(crate) fn swap_at(
-    alloc: Global,
-    copies: &mut Vec<OneCopy>,
-    place: usize,
-    merging: &Merging,
-) -> Result<(), AllocError>
-    requires { place < vec_len copies.old }
-    ensures { copies.new.items ≡ copies.old.items }
-{
-    let merged = merging.build(alloc)?;
-    let _is_there = copies[place].swap_merged(alloc, merged)?;
-    Ok(())
-}
-
-/// Merges at once what goes well into one at the copy that stands at this place, where one stands there.
-pub(crate) fn merge_at(
-    alloc: Global,
-    copies: &mut Vec<OneCopy>,
-    place: usize,
-) -> Result<(), AllocError>
-    ensures { copies.new.items ≡ copies.old.items }
-{
-    if place < copies.len() {
-        let _is_merged = copies[place].merge_next(alloc)?;
-    }
-    Ok(())
 }
 
 /// A step of a copy, with the messages and the acknowledged operations that it adds. Room for these is made before the step is done.

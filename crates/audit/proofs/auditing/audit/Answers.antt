@@ -15,8 +15,8 @@ returns-in-Ok-make-clause-audited c =
     let n = c.in-Ok.copies in
     let all = c.are_all.ensures.0 c.if-not-are_all.false in
     let same = c.as_slice.ensures.value ∙ c.in-Ok-judge_all.ensures.parts in
-    audited_ok mapping n c.args.journals.now c.in-Ok-make.world c.in-Ok.ensures.size c.in-Ok-judge_all.ensures.pass all
-    (subst (λ (ps : List (List Placed)). IsMerged (new_world mapping n) ps c.in-Ok-make.world) same c.in-Ok-make.ensures.made)
+    audited_ok mapping n c.args.journals.now c.in-Ok-make.world.world c.in-Ok.ensures.size c.in-Ok-judge_all.ensures.pass all
+    (subst (λ (ps : List (List Placed)). IsMerged (new_world mapping n) ps c.in-Ok-make.world.world) same c.in-Ok-make.ensures.made)
 
 pub returns-in-Err-At-clause-audited : goal.returns-in-Err-At-clause-audited
 returns-in-Err-At-clause-audited c =

@@ -13,7 +13,7 @@ returns-in-Err-clause-unread g c = rw c.from-in-Err.ensures (unread _ c.in-Err.f
 pub returns-in-Ok-mend-clause-whole : goal.returns-in-Ok-mend-clause-whole
 returns-in-Ok-mend-clause-whole g c =
     let whole = reopened _ _ _ _ c.in-Ok.torn _ _ c.in-Ok.ensures.held c.in-Ok.ensures.torn c.in-Ok-mend.ensures.ok c.in-Ok-mend.ensures.groups in
-    let records : c.in_ok-state-in-Ok.state.records ≡ c.in-Ok.records.items = ap (λ (x : Copy). x.records) c.in_ok-state-in-Ok.ensures in
+    let records : c.in_ok-state-in-Ok.state.copy.records ≡ c.in-Ok.records.items = ap (λ (x : Copy). x.records) c.in_ok-state-in-Ok.ensures.copy in
     subst (λ (rs : List Record). IsTranslog (g.D.LogDevice.bytes c.mend.new.self.device) rs c.mend.new.self.groups) (sym records) whole
 
 pub returns-in-Ok-mend-clause-left : goal.returns-in-Ok-mend-clause-left

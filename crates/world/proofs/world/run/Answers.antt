@@ -13,6 +13,6 @@ loop-taken-preserved c =
     let e = c.index-events-taken.result in
     let more : take (i + 1) es ≡ take i es ++ e ∷ [] = take_more es i e c.loop-taken-test.true ∙ ap (λ (x : Event). take i es ++ x ∷ []) (sym c.index-events-taken.is) in
     let taken : is_err c.step.result ≡ false = sym c.is_err.ensures.value ∙ c.if-is_err.false in
-    let after : c.step.new.self ≡ world_of c.args.mapping.now c.args.copies (take (i + 1) es) =
-    rw more (run_on c.step.result c.args.mapping.now c.args.copies (take i es) e c.loop-taken.world c.step.new.self c.step.ensures.happened taken c.loop-taken.invariant.0) in
+    let after : c.step.new.self.world ≡ world_of c.args.mapping.now c.args.copies (take (i + 1) es) =
+    rw more (run_on c.step.result c.args.mapping.now c.args.copies (take i es) e c.loop-taken.world.world c.step.new.self.world c.step.ensures.happened taken c.loop-taken.invariant.0) in
     (after, c.step.ensures.held, c.step.ensures.in_sync)

@@ -5,4 +5,4 @@ use Rattle.world.proofs.world.run.Given as goal
 
 -- the world so far is that after the events so far
 abbrev pub invariant-loop-taken : goal.invariant-loop-taken
-invariant-loop-taken l = (l.world ≡ world_of l.mapping l.copies (take l.taken l.events)) × Held l.world × HasInSyncCopies l.world
+invariant-loop-taken l = (l.world.world ≡ world_of l.mapping l.copies (take l.taken l.events)) × Held l.world.world × HasInSyncCopies l.world.world

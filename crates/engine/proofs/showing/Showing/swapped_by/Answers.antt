@@ -30,8 +30,8 @@ returns-in_ok-showing-in-Some-clause-there c =
 pub returns-in_ok-showing-in-Some-clause-swapped : goal.returns-in_ok-showing-in-Some-clause-swapped
 returns-in_ok-showing-in-Some-clause-swapped c =
     let taken = c.args.taken.now.published in
-    let old : Segments = record { mapping = (arc_value c.self.inside.parts).mapping; published = (arc_value c.self.inside.parts).published; next = c.self.inside.next } in
-    let new : Segments = record { mapping = c.in-Some.parts.mapping; published = c.in-Some.parts.published; next = c.saturating_add.result } in
+    let old : Segments = record { mapping = (arc_value c.self.inside.parts).mapping; published = (arc_value c.self.inside.parts).published; live = (arc_value c.self.inside.parts).live; next = c.self.inside.next } in
+    let new : Segments = record { mapping = c.in-Some.parts.mapping; published = c.in-Some.parts.published; live = c.in-Some.parts.live; next = c.saturating_add.result } in
     let replaced = rw (c.in-Some.is, c.deref.ensures, c.parts.ensures) at c.in_ok-parts.ensures.swapped in
     let was : old ≡ segments_shown c.args.self.now = ap (λ (m : MappingData). let o : Segments = record old { mapping = m } in o) (ap (λ (s : SnapshotData). s.mapping) (sym c.self.invariant.same)) ∙ ap segments_shown c.self.view_is in
     let is : new ≡ segments_shown c.in_ok-showing-in-Some.showing = ap segments_shown (sym c.in_ok-showing-in-Some.ensures) in

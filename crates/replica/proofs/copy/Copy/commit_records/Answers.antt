@@ -1,5 +1,5 @@
 use Rattle.std.proofs.Common.{◌≡◌, ◌++◌, refl, ap, subst, ◌∙◌}
-use Rattle.replica.specs.Copy.{Copy}
+use Rattle.replica.specs.Searched.{Searched}
 use Rattle.replica.specs.Logged.{Logged, IsLogged}
 use Rattle.replica.specs.Standing.{placed_all}
 use Rattle.replica.proofs.LogLaws.{front_at, grown_by, torn_at}
@@ -12,7 +12,7 @@ returns-in-Err-clause-closed g c failed =
     let log = ap (λ (l : Logged). l.log) c.self.view_is in
     record {
       closed = refl;
-      copy = c.in-Ok.ensures.ok ∙ ap (λ (l : Logged). placed_all l.copy c.args.planned.records.items c.args.planned.known c.args.planned.role) c.self.view_is;
+      copy = ap (λ (x : Searched). x.copy) c.in-Ok.ensures.ok ∙ ap (λ (l : Logged). placed_all l.copy c.args.planned.records.items c.args.planned.known c.args.planned.role) c.self.view_is;
       records = torn_at s _ _ c.args.planned.records.items c.args.frame log logged c.requires.0 c.requires.2 c.in-Err.ensures.err;
       log = front_at _ _ c.args.frame _ log c.in-Err.ensures.err;
     }
@@ -20,6 +20,6 @@ returns-in-Err-clause-closed g c failed =
 pub invariant_of-self-in-Ok-append : goal.invariant_of-self-in-Ok-append
 invariant_of-self-in-Ok-append g c opened =
     let s = c.args.self.now in
-    let records : c.place_all-kept.new.self.records ≡ s.copy.records ++ c.args.planned.records.items =
-    ap (λ (x : Copy). x.records) c.in-Ok.ensures.ok ∙ ap (λ (l : Logged). l.copy.records ++ c.args.planned.records.items) c.self.view_is in
+    let records : c.place_all-kept.new.self.copy.records ≡ s.copy.records ++ c.args.planned.records.items =
+    ap (λ (x : Searched). x.copy.records) c.in-Ok.ensures.ok ∙ ap (λ (l : Logged). l.copy.records ++ c.args.planned.records.items) c.self.view_is in
     grown_by _ s c.args.planned.records.items c.args.frame _ _ _ c.self.view_is c.self.invariant opened c.requires.2 c.in-Ok-append.ensures.ok records c.in-Ok-append.ensures.groups

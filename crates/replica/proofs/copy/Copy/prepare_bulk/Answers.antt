@@ -14,7 +14,7 @@ pub returns-in_err-planned-clause-step : goal.returns-in_err-planned-clause-step
 returns-in_err-planned-clause-step g c opened =
     let s = c.args.self.now in
     let e = c.in_err-planned.field-0.0 in
-    let copy : c.self.inside.state ≡ s.copy = ap (λ (l : Logged). l.copy) c.self.view_is in
+    let copy : c.self.inside.state.copy ≡ s.copy = ap (λ (l : Logged). l.copy) c.self.view_is in
     let p = err_from_is_err_and c.from_residual.result c.from_residual.ensures.1 in
     rw (p.1, p.2) (subst (λ (x : Copy). Fails fault_of e (copy_step x (Bulk c.args.writes))) copy c.in_err-planned.ensures.gives)
 
@@ -22,6 +22,6 @@ pub returns-clause-step : goal.returns-clause-step
 returns-clause-step g c opened =
     let s = c.args.self.now in
     let planned = c.in_ok-planned.planned in
-    let copy : c.self.inside.state ≡ s.copy = ap (λ (l : Logged). l.copy) c.self.view_is in
+    let copy : c.self.inside.state.copy ≡ s.copy = ap (λ (l : Logged). l.copy) c.self.view_is in
     let gives = subst (λ (x : Copy). copy_step x (Bulk c.args.writes) ≡ Ok (stepped_all_by x planned)) copy c.in_ok-planned.ensures.gives in
     all_recorded s.copy planned c.prepare_records.result (copy_step s.copy (Bulk c.args.writes)) gives c.prepare_records.ensures.step c.prepare_records.ensures.memory

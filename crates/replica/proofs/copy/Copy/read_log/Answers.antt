@@ -8,9 +8,9 @@ use Rattle.replica.proofs.copy.Copy.read_log.Goals as goal
 
 pub invariant_of-self : goal.invariant_of-self
 invariant_of-self g c opened =
-    let l : Logged = record { copy = c.self.inside.state; closed = c.self.inside.closed; log = g.D.LogDevice.bytes c.self.inside.log.device; groups = c.self.inside.log.groups; failures = 0; room = 0 } in
+    let l : Logged = record { copy = c.self.inside.state.copy; segments = c.self.inside.state.segments; closed = c.self.inside.closed; log = g.D.LogDevice.bytes c.self.inside.log.device; groups = c.self.inside.log.groups; failures = 0; room = 0 } in
     let log = read_logged l c.in-Ok.found.0.items c.in-Ok.found.1 c.read.new.self.groups c.self.invariant opened c.in-Ok.ensures.torn c.in-Ok.ensures.found in
-    subst (λ (x : List ℕ). IsTranslog x c.self.inside.state.records c.read.new.self.groups) (sym c.in-Ok.ensures.held) log
+    subst (λ (x : List ℕ). IsTranslog x c.self.inside.state.copy.records c.read.new.self.groups) (sym c.in-Ok.ensures.held) log
 
 pub returns-in-Ok-clause-same : goal.returns-in-Ok-clause-same
 returns-in-Ok-clause-same g c opened =

@@ -1,8 +1,8 @@
 use Rattle.std.proofs.Common.{◌≡◌, ◌++◌, ◌∷◌, [], List, ap, ◌∙◌}
-use Rattle.std.specs.Prelude.{All}
 use Rattle.std.proofs.lemmas.List.Elements.{All-push}
 use Rattle.op.specs.declared.record.Record.{Record}
 use Rattle.op.specs.Records.{IsRecord}
+use Rattle.replica.specs.Searched.{Searched}
 use Rattle.replica.specs.Copy.{Copy}
 use Rattle.replica.proofs.LogLaws.{grown_by}
 use Rattle.replica.proofs.copy.Copy.restart_with.Goals as goal
@@ -13,6 +13,6 @@ stage_reopen-requires g c = rw c.in_default.ensures.items (All-push IsRecord c.a
 pub invariant_of-self : goal.invariant_of-self
 invariant_of-self g c opened =
     let s = c.args.self.now in
-    let records : c.reopen.new.self.records ≡ s.copy.records ++ c.args.planned.next_record ∷ [] =
-    ap (λ (x : Copy). x.records) (c.reopen.ensures ∙ c.in-Ok.ensures.opened) ∙ c.in_default.ensures.items ∙ ap (λ (rs : List Record). rs ++ c.args.planned.next_record ∷ []) c.requires.records in
+    let records : c.reopen.new.self.copy.records ≡ s.copy.records ++ c.args.planned.next_record ∷ [] =
+    ap (λ (x : Copy). x.records) (ap (λ (x : Searched). x.copy) c.reopen.ensures ∙ c.in-Ok.ensures.opened) ∙ c.in_default.ensures.items ∙ ap (λ (rs : List Record). rs ++ c.args.planned.next_record ∷ []) c.requires.records in
     grown_by _ s (c.args.planned.next_record ∷ []) c.args.frame _ _ _ c.self.view_is c.self.invariant opened c.requires.ready.2 c.in-Ok-append.ensures.ok records c.in-Ok-append.ensures.groups

@@ -3,6 +3,7 @@ use Rattle.std.proofs.lemmas.List.Elements.{All-append, All-from_recursion}
 use Rattle.op.specs.declared.record.Record.{Record}
 use Rattle.op.specs.Operations.{next_seq}
 use Rattle.op.specs.Records.{IsRecord}
+use Rattle.replica.specs.Searched.{Searched}
 use Rattle.replica.specs.Copy.{Copy, operations}
 use Rattle.replica.proofs.Drafting.{each_record}
 use Rattle.replica.proofs.LogLaws.{grown_by}
@@ -16,6 +17,6 @@ stage_reopen-requires g c =
 pub invariant_of-self : goal.invariant_of-self
 invariant_of-self g c opened =
     let s = c.args.self.now in
-    let records : c.reopen.new.self.records ≡ s.copy.records ++ c.args.planned.records.items =
-    ap (λ (x : Copy). x.records) (c.reopen.ensures ∙ c.in-Ok.ensures.opened) ∙ c.in_default.ensures.items ∙ ap (λ (rs : List Record). rs ++ c.args.planned.records.items) c.requires.records in
+    let records : c.reopen.new.self.copy.records ≡ s.copy.records ++ c.args.planned.records.items =
+    ap (λ (x : Copy). x.records) (ap (λ (x : Searched). x.copy) c.reopen.ensures ∙ c.in-Ok.ensures.opened) ∙ c.in_default.ensures.items ∙ ap (λ (rs : List Record). rs ++ c.args.planned.records.items) c.requires.records in
     grown_by _ s c.args.planned.records.items c.args.frame _ _ _ c.self.view_is c.self.invariant opened c.requires.ready.2 c.in-Ok-append.ensures.ok records c.in-Ok-append.ensures.groups

@@ -1,6 +1,7 @@
 use Rattle.std.proofs.lemmas.Result.{err_from_is_err_and}
 use Rattle.replica.specs.Step.{copy_step}
 use Rattle.replica.proofs.Failures.{refused_at_once, refused_in}
+use Rattle.replica.proofs.Searching.{done_searches, refused_stays}
 use Rattle.replica.proofs.copy.Copy.step.Goals as goal
 
 pub returns-in_err-prepared-clause-refused : goal.returns-in_err-prepared-clause-refused
@@ -15,3 +16,13 @@ returns-clause-refused g c =
     let ready = c.in_ok-prepared.ensures in
     let done = c.commit.ensures in
     refused_in c.commit.result c.args.self.now c.prepare.new.self c.commit.new.self c.args.input c.in_ok-prepared.prepared done.cause done.closed done.memory done.counts done.sure ready.prepared.kind ready.prepared.closed ready.untouched.copy ready.untouched.stays ready.untouched.log ready.untouched.counts ready.prepared.step
+
+-- what searches look through afterwards
+pub returns-clause-searched : goal.returns-clause-searched
+returns-clause-searched g c =
+    let ready = c.in_ok-prepared.ensures in
+    let done = c.commit.ensures in
+    done_searches c.commit.result c.args.input c.args.self.now c.prepare.new.self c.commit.new.self c.in_ok-prepared.prepared ready.prepared.ready ready.untouched.copy ready.segments ready.prepared.kind ready.prepared.shows done.copy done.segments
+
+pub returns-clause-stays : goal.returns-clause-stays
+returns-clause-stays g c = refused_stays c.commit.result c.args.self.now c.prepare.new.self c.commit.new.self c.in_ok-prepared.ensures.segments c.commit.ensures.refused

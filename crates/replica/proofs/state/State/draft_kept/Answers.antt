@@ -12,18 +12,19 @@ use Rattle.replica.specs.Drafted.{drafted}
 use Rattle.replica.specs.Step.{counted_by, is_settled_by, item_of, op_messages, record_of, wrote}
 use Rattle.checkpoint.specs.Numbers.{least}
 use Rattle.replica.proofs.Drafting.{acknowledged_by, ahead_below, gives_one, is_drafted, lead_with}
+use Rattle.replica.specs.Searched.{Searched}
 use Rattle.replica.proofs.state.State.draft_kept.Goals as goal
 use Rattle.replica.proofs.state.State.draft_kept.Goals.{then-is_settled+in_ok-copy+in_ok-push-3, else-is_settled+in_ok-lead}
 
 pub push-requires-2 : goal.push-requires-2
-push-requires-2 c = ahead_below c.args.self.now c.args.draft c.args.op c.requires.drafted c.requires.next
+push-requires-2 c = ahead_below c.args.self.now.copy c.args.draft c.args.op c.requires.drafted c.requires.next
 
 pub returns-clause-folds : goal.returns-clause-folds
 returns-clause-folds c =
-    let s = c.args.self.now in
+    let s = c.args.self.now.copy in
     let d = c.args.draft in
     let o = c.args.op in
-    let own : c.self.inside.id ≡ s.id = ap (λ (x : Copy). x.id) c.self.view_is in
+    let own : c.self.inside.id ≡ s.id = ap (λ (x : Copy). x.id) (ap (λ (v : Searched). v.copy) c.self.view_is) in
     let settled : Bool = is_settled_by s.id d.lead o.seq in
     let same : c.is_settled.result ≡ settled = c.is_settled.ensures ∙ ap (λ (n : ℕ). is_settled_by n d.lead o.seq) own in
     let kept : c.push-3.new.self.items ≡ d.records.items ++ record_of (drafted s d) o ∷ [] = c.in_ok-push-4.ensures.items ∙ ap (λ (r : Record). d.records.items ++ r ∷ []) c.kept_record.ensures in
@@ -44,10 +45,10 @@ returns-clause-folds c =
 
 pub returns-clause-drafted : goal.returns-clause-drafted
 returns-clause-drafted c =
-    let s = c.args.self.now in
+    let s = c.args.self.now.copy in
     let d = c.args.draft in
     let o = c.args.op in
-    let own : c.self.inside.id ≡ s.id = ap (λ (x : Copy). x.id) c.self.view_is in
+    let own : c.self.inside.id ≡ s.id = ap (λ (x : Copy). x.id) (ap (λ (v : Searched). v.copy) c.self.view_is) in
     let settled : Bool = is_settled_by s.id d.lead o.seq in
     let same : c.is_settled.result ≡ settled = c.is_settled.ensures ∙ ap (λ (n : ℕ). is_settled_by n d.lead o.seq) own in
     let kept : c.push-3.new.self.items ≡ d.records.items ++ record_of (drafted s d) o ∷ [] = c.in_ok-push-4.ensures.items ∙ ap (λ (r : Record). d.records.items ++ r ∷ []) c.kept_record.ensures in

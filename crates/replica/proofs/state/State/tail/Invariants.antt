@@ -5,4 +5,4 @@ use Rattle.replica.proofs.state.State.tail.Given as goal
 
 -- those at the numbers so far
 abbrev pub invariant-loop-number : goal.invariant-loop-number
-invariant-loop-number l = l.items.items ≡ numbers (filled (operations l.self) l.term) (numbered (operations l.self) l.term) l.self.known l.number
+invariant-loop-number l = l.items.items ≡ numbers (filled (operations l.self.copy) l.term) (numbered (operations l.self.copy) l.term) l.self.copy.known l.number

@@ -11,13 +11,14 @@ use Rattle.replica.specs.Standing.{IsStanding}
 use Rattle.std.proofs.lemmas.Result.{err_from_is_err_and}
 use Rattle.replica.proofs.Settling.{fails_on, leads}
 use Rattle.replica.proofs.Turning.{ack_again, ack_refused, ack_taken}
+use Rattle.replica.specs.Searched.{Searched}
 use Rattle.replica.proofs.state.State.take_ack.Goals as goal
 
 pub returns-in_err-check_ack-clause-gives : goal.returns-in_err-check_ack-clause-gives
 returns-in_err-check_ack-clause-gives c =
-    let s = c.args.self.now in
+    let s = c.args.self.now.copy in
     let lead = c.in-Primary.lead in
-    let primary : s.role ≡ Primary lead = sym (ap (λ (x : Copy). x.role) c.self.view_is) ∙ c.in-Primary.is in
+    let primary : s.role ≡ Primary lead = sym (ap (λ (x : Copy). x.role) (ap (λ (v : Searched). v.copy) c.self.view_is)) ∙ c.in-Primary.is in
     let seq_fits : SFits w64 c.args.seq = search rules in
     let below_fits : SFits w64 c.args.below = search rules in
     let seq : c.count-seq.result ≡ known c.args.seq = simp to_z-of_z at c.count-seq.ensures.counted in
@@ -28,23 +29,23 @@ returns-in_err-check_ack-clause-gives c =
 
 pub returns-then-has_acknowledged-clause-gives : goal.returns-then-has_acknowledged-clause-gives
 returns-then-has_acknowledged-clause-gives c =
-    let s = c.args.self.now in
+    let s = c.args.self.now.copy in
     let lead = c.in-Primary.lead in
-    let primary : s.role ≡ Primary lead = sym (ap (λ (x : Copy). x.role) c.self.view_is) ∙ c.in-Primary.is in
+    let primary : s.role ≡ Primary lead = sym (ap (λ (x : Copy). x.role) (ap (λ (v : Searched). v.copy) c.self.view_is)) ∙ c.in-Primary.is in
     let seq_fits : SFits w64 c.args.seq = search rules in
     let below_fits : SFits w64 c.args.below = search rules in
     let seq : c.count-seq.result ≡ known c.args.seq = simp to_z-of_z at c.count-seq.ensures.counted in
     let below : c.count-below.result ≡ known c.args.below = simp to_z-of_z at c.count-below.ensures.counted in
-    let stands : IsStanding s = subst (λ (x : Copy). IsStanding x) c.self.view_is c.self.invariant in
+    let stands : IsStanding s = subst (λ (x : Copy). IsStanding x) (ap (λ (v : Searched). v.copy) c.self.view_is) c.self.invariant in
     let none = rw (c.next_seq.ensures.next, seq, below) at c.in_ok-check_ack.ensures.gives in
     let is : c.has_acknowledged.result ≡ pointwise nat_eq (acks_of lead.acks c.args.from) (marked (acks_of lead.acks c.args.from) (known c.args.seq) (known c.args.below)) = rw (c.of-numbers.ensures, seq, below) at c.has_acknowledged.ensures in
     rw c.output.ensures (ack_again s lead primary c.args.from (known c.args.seq) (known c.args.below) c.in_ok-check_ack.field-0 stands none (sym is ∙ c.if-has_acknowledged.true))
 
 pub returns-clause-gives : goal.returns-clause-gives
 returns-clause-gives c =
-    let s = c.args.self.now in
+    let s = c.args.self.now.copy in
     let lead = c.in-Primary.lead in
-    let primary : s.role ≡ Primary lead = sym (ap (λ (x : Copy). x.role) c.self.view_is) ∙ c.in-Primary.is in
+    let primary : s.role ≡ Primary lead = sym (ap (λ (x : Copy). x.role) (ap (λ (v : Searched). v.copy) c.self.view_is)) ∙ c.in-Primary.is in
     let seq_fits : SFits w64 c.args.seq = search rules in
     let below_fits : SFits w64 c.args.below = search rules in
     let seq : c.count-seq.result ≡ known c.args.seq = simp to_z-of_z at c.count-seq.ensures.counted in
@@ -56,9 +57,9 @@ returns-clause-gives c =
 
 pub turned-requires : goal.turned-requires
 turned-requires c =
-    let s = c.args.self.now in
+    let s = c.args.self.now.copy in
     let lead = c.in-Primary.lead in
-    let primary : s.role ≡ Primary lead = sym (ap (λ (x : Copy). x.role) c.self.view_is) ∙ c.in-Primary.is in
-    let stands : IsStanding s = subst (λ (x : Copy). IsStanding x) c.self.view_is c.self.invariant in
+    let primary : s.role ≡ Primary lead = sym (ap (λ (x : Copy). x.role) (ap (λ (v : Searched). v.copy) c.self.view_is)) ∙ c.in-Primary.is in
+    let stands : IsStanding s = subst (λ (x : Copy). IsStanding x) (ap (λ (v : Searched). v.copy) c.self.view_is) c.self.invariant in
     let l = leads s lead stands primary in
     rw c.in_ok-acked.ensures (record { first = l.first; member = l.member })

@@ -13,13 +13,13 @@ use Rattle.replica.proofs.state.State.take_new.Goals as goal
 
 pub returns-then-op-local_count-clause-gives : goal.returns-then-op-local_count-clause-gives
 returns-then-op-local_count-clause-gives c =
-    let s = c.args.self.now in
+    let s = c.args.self.now.copy in
     let beyond : nat_le (local_count (operations s) + 1024) c.args.op.seq ≡ true = grind (arith, nat_tests, c.local_count.ensures.count) in
     new_beyond s c.args.from c.args.known c.args.op beyond
 
 pub returns-in_err-spelled-clause-gives : goal.returns-in_err-spelled-clause-gives
 returns-in_err-spelled-clause-gives c =
-    let s = c.args.self.now in
+    let s = c.args.self.now.copy in
     let fits : SFits w64 c.args.known = search rules in
     let follows : IsFollower s.role = subst (λ (r : Role). IsFollower r) (sym c.requires.same) c.requires.follows in
     let within : nat_le (local_count (operations s) + 1024) c.args.op.seq ≡ false = grind (arith, nat_tests, c.local_count.ensures.count) in
@@ -28,7 +28,7 @@ returns-in_err-spelled-clause-gives c =
 
 pub returns-clause-gives : goal.returns-clause-gives
 returns-clause-gives c =
-    let s = c.args.self.now in
+    let s = c.args.self.now.copy in
     let fits : SFits w64 c.args.known = search rules in
     let follows : IsFollower s.role = subst (λ (r : Role). IsFollower r) (sym c.requires.same) c.requires.follows in
     let within : nat_le (local_count (operations s) + 1024) c.args.op.seq ≡ false = grind (arith, nat_tests, c.local_count.ensures.count) in

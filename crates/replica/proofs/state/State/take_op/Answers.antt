@@ -6,25 +6,26 @@ use Rattle.op.specs.Operations.{is_op, local_checkpoint, op_at}
 use Rattle.replica.specs.declared.role.Role.{Role}
 use Rattle.replica.specs.Standing.{IsFollower, IsStanding}
 use Rattle.replica.proofs.Following.{op_again, op_other}
+use Rattle.replica.specs.Searched.{Searched}
 use Rattle.replica.proofs.state.State.take_op.Goals as goal
 
 pub returns-then-not-is-clause-gives : goal.returns-then-not-is-clause-gives
 returns-then-not-is-clause-gives c =
-    let s = c.args.self.now in
-    let follows : IsFollower s.role = subst (λ (r : Role). IsFollower r) (c.in-Some.ensures.same ∙ ap (λ (x : Copy). x.role) c.self.view_is) c.in-Some.ensures.follows in
-    let there : op_at (operations s) c.args.op.seq ≡ Some c.in-Some-op_at.found.now = ap (λ (x : Copy). op_at (operations x) c.args.op.seq) (sym c.self.view_is) ∙ sym c.in-Some-op_at.ensures in
+    let s = c.args.self.now.copy in
+    let follows : IsFollower s.role = subst (λ (r : Role). IsFollower r) (c.in-Some.ensures.same ∙ ap (λ (x : Copy). x.role) (ap (λ (v : Searched). v.copy) c.self.view_is)) c.in-Some.ensures.follows in
+    let there : op_at (operations s) c.args.op.seq ≡ Some c.in-Some-op_at.found.now = ap (λ (x : Copy). op_at (operations x) c.args.op.seq) (sym (ap (λ (v : Searched). v.copy) c.self.view_is)) ∙ sym c.in-Some-op_at.ensures in
     let other : is_op c.args.op c.in-Some-op_at.found.now ≡ false = cc in
     op_other s c.args.from c.args.known c.args.op c.in-Some-op_at.found.now follows there other
 
 pub returns-clause-gives : goal.returns-clause-gives
 returns-clause-gives c =
-    let s = c.args.self.now in
-    let follows : IsFollower s.role = subst (λ (r : Role). IsFollower r) (c.in-Some.ensures.same ∙ ap (λ (x : Copy). x.role) c.self.view_is) c.in-Some.ensures.follows in
-    let there : op_at (operations s) c.args.op.seq ≡ Some c.in-Some-op_at.found.now = ap (λ (x : Copy). op_at (operations x) c.args.op.seq) (sym c.self.view_is) ∙ sym c.in-Some-op_at.ensures in
-    let stands : IsStanding s = subst (λ (x : Copy). IsStanding x) c.self.view_is c.self.invariant in
+    let s = c.args.self.now.copy in
+    let follows : IsFollower s.role = subst (λ (r : Role). IsFollower r) (c.in-Some.ensures.same ∙ ap (λ (x : Copy). x.role) (ap (λ (v : Searched). v.copy) c.self.view_is)) c.in-Some.ensures.follows in
+    let there : op_at (operations s) c.args.op.seq ≡ Some c.in-Some-op_at.found.now = ap (λ (x : Copy). op_at (operations x) c.args.op.seq) (sym (ap (λ (v : Searched). v.copy) c.self.view_is)) ∙ sym c.in-Some-op_at.ensures in
+    let stands : IsStanding s = subst (λ (x : Copy). IsStanding x) (ap (λ (v : Searched). v.copy) c.self.view_is) c.self.invariant in
     let same : is_op c.args.op c.in-Some-op_at.found.now ≡ true = cc in
     let small : c.args.op.seq < 2 ^ 63 = c.requires.1.small_seq in
     let seq : to_z w64 c.args.op.seq ≡ pos c.args.op.seq = to_z_pos w64 c.args.op.seq small in
     let fits : SFits w64 c.local.result = search rules in
-    let local : to_z w64 (of_z w64 c.local.result) ≡ local_checkpoint (operations s) = to_z-of_z w64 c.local.result fits ∙ c.local.ensures.number ∙ ap (λ (x : Copy). local_checkpoint (operations x)) c.self.view_is in
+    let local : to_z w64 (of_z w64 c.local.result) ≡ local_checkpoint (operations s) = to_z-of_z w64 c.local.result fits ∙ c.local.ensures.number ∙ ap (λ (x : Copy). local_checkpoint (operations x)) (ap (λ (v : Searched). v.copy) c.self.view_is) in
     rw (c.output_sending.ensures, c.in_ok-sent.ensures, seq, local) (op_again s c.args.from c.args.known c.args.op c.in-Some-op_at.found.now stands follows there same)

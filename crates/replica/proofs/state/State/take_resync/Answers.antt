@@ -8,12 +8,13 @@ use Rattle.std.proofs.lemmas.Result.{err_from_is_err_and}
 use Rattle.op.specs.Checkpoint.{known}
 use Rattle.op.specs.Operations.{local_count}
 use Rattle.replica.proofs.Following.{resync_beyond, resync_spelled}
+use Rattle.replica.specs.Searched.{Searched}
 use Rattle.replica.proofs.state.State.take_resync.Goals as goal
 
 pub returns-then-local_count-count-clause-gives : goal.returns-then-local_count-count-clause-gives
 returns-then-local_count-count-clause-gives c =
-    let s = c.args.self.now in
-    let term : c.self.inside.term ≡ s.term = ap (λ (x : Copy). x.term) c.self.view_is in
+    let s = c.args.self.now.copy in
+    let term : c.self.inside.term ≡ s.term = ap (λ (x : Copy). x.term) (ap (λ (v : Searched). v.copy) c.self.view_is) in
     let new : (c.args.term == s.term) ≡ false = grind (arith, nat_tests) in
     let fits : SFits w64 c.args.known = search rules in
     let count : c.count-count.result ≡ known c.args.known = simp to_z-of_z at c.count-count.ensures.counted in
@@ -22,8 +23,8 @@ returns-then-local_count-count-clause-gives c =
 
 pub returns-in_err-spelled-clause-gives : goal.returns-in_err-spelled-clause-gives
 returns-in_err-spelled-clause-gives c =
-    let s = c.args.self.now in
-    let term : c.self.inside.term ≡ s.term = ap (λ (x : Copy). x.term) c.self.view_is in
+    let s = c.args.self.now.copy in
+    let term : c.self.inside.term ≡ s.term = ap (λ (x : Copy). x.term) (ap (λ (v : Searched). v.copy) c.self.view_is) in
     let new : (c.args.term == s.term) ≡ false = grind (arith, nat_tests) in
     let fits : SFits w64 c.args.known = search rules in
     let count : c.count-count.result ≡ known c.args.known = simp to_z-of_z at c.count-count.ensures.counted in
@@ -33,8 +34,8 @@ returns-in_err-spelled-clause-gives c =
 
 pub returns-clause-gives : goal.returns-clause-gives
 returns-clause-gives c =
-    let s = c.args.self.now in
-    let term : c.self.inside.term ≡ s.term = ap (λ (x : Copy). x.term) c.self.view_is in
+    let s = c.args.self.now.copy in
+    let term : c.self.inside.term ≡ s.term = ap (λ (x : Copy). x.term) (ap (λ (v : Searched). v.copy) c.self.view_is) in
     let new : (c.args.term == s.term) ≡ false = grind (arith, nat_tests) in
     let fits : SFits w64 c.args.known = search rules in
     let count : c.count-count.result ≡ known c.args.known = simp to_z-of_z at c.count-count.ensures.counted in

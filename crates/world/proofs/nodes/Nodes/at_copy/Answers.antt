@@ -2,7 +2,7 @@ use Rattle.std.proofs.Common.{◌≡◌, ◌<◌, length, set, Some, None, refl,
 use Rattle.std.proofs.lemmas.Result.{err_from_is_err_and}
 use Rattle.replica.specs.Copy.{Copy}
 use Rattle.replica.specs.Logged.{Logged}
-use Rattle.world.specs.Nodes.{copies_of}
+use Rattle.world.specs.Nodes.{copies_of, WorldData}
 use Rattle.world.specs.World.{place_in, copy_in}
 use Rattle.world.proofs.Places.{is_first, first_within, none_found, open_at}
 use Rattle.world.proofs.Doing.{stepped_at, stays_there}
@@ -31,7 +31,7 @@ returns-in_err-answer-in-Some-clause-stays c =
     let new = c.step_copy.new.copy in
     let stays : copies_of (set ls c.in-Some.place new) ≡ copies_of ls =
     stays_there inside.mapping inside.master.state ls inside.messages.items inside.acknowledged.items c.args.id c.in-Some.place old new place c.index_mut.ensures.value (ap (λ (x : Copy). x.id) done.stays) done.stays in
-    rw (p.1, stays, done.messages, done.acknowledged) c.self.view_is
+    rw (p.1, stays, done.messages, done.acknowledged) (ap (λ (n : WorldData). n.world) c.self.view_is)
 
 pub returns-in_ok-answer-in-Some-clause-happened : goal.returns-in_ok-answer-in-Some-clause-happened
 returns-in_ok-answer-in-Some-clause-happened c =

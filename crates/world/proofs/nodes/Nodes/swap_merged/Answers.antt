@@ -1,32 +1,43 @@
-use Rattle.std.proofs.Common.{◌≡◌, ◌<◌, length, Some, None, refl, sym, arith}
-use Rattle.std.specs.Prelude.{is_some, true}
-use Rattle.world.specs.Nodes.{copies_of}
-use Rattle.world.specs.World.{place_in, copy_in}
-use Rattle.world.proofs.Places.{is_first, first_within, none_found, place_found}
+use Rattle.std.proofs.Common.{◌≡◌, ◌<◌, length, set, Some, None, refl, sym, ap, subst, arith}
+use Rattle.replica.specs.Copy.{Copy}
+use Rattle.replica.specs.Logged.{Logged}
+use Rattle.world.specs.Nodes.{copies_of, nodes_of, WorldData, IsSwapAt}
+use Rattle.world.specs.World.{place_in}
+use Rattle.world.proofs.Places.{is_first, first_within, none_found}
+use Rattle.world.proofs.Doing.{stays_there}
+use Rattle.world.proofs.Swaps.{no_node, swapped_at}
 use Rattle.world.proofs.nodes.Nodes.swap_merged.Goals as goal
 
-pub swap_at-swapped-requires : goal.swap_at-swapped-requires
-swap_at-swapped-requires c =
+pub index_mut-requires : goal.index_mut-requires
+index_mut-requires c =
     let within : c.in-Some.place < length c.deref.result.now = first_within c.deref.result.now c.args.id c.in-Some.place (is_first c.deref.result.now c.args.id c.in-Some.place (sym c.in-Some.ensures)) in
     omega (arith, within, c.deref.ensures.len)
 
-pub returns-in_default-clause-there : goal.returns-in_default-clause-there
-returns-in_default-clause-there c =
-    let ls = c.self.inside.copies.items in
-    let place : place_in (copies_of ls) c.args.id ≡ None = rw (← c.deref.ensures.value) (sym c.in_default.ensures) in
-    let none : copy_in (copies_of ls) c.args.id ≡ None = none_found ls c.args.id place in
-    rw (← c.self.view_is, none) refl
+pub returns-in_ok-is_there-in-Some-clause-world : goal.returns-in_ok-is_there-in-Some-clause-world
+returns-in_ok-is_there-in-Some-clause-world c =
+    let inside = c.self.inside in
+    let ls = inside.copies.items in
+    let place : place_in (copies_of ls) c.args.id ≡ Some c.in-Some.place = rw (← c.deref.ensures.value) (sym c.in-Some.ensures) in
+    let old = c.index_mut.result.now in
+    let new = c.swap_merged.new.self in
+    let copy : new.copy ≡ old.copy = ap (λ (l : Logged). l.copy) c.in_ok-is_there-in-Some.ensures.rest in
+    let stays : copies_of (set ls c.in-Some.place new) ≡ copies_of ls =
+    stays_there inside.mapping inside.master.state ls inside.messages.items inside.acknowledged.items c.args.id c.in-Some.place old new place c.index_mut.ensures.value (ap (λ (x : Copy). x.id) copy) copy in
+    rw stays (ap (λ (n : WorldData). n.world) c.self.view_is)
 
-pub returns-in_ok-swapped-clause-there : goal.returns-in_ok-swapped-clause-there
-returns-in_ok-swapped-clause-there c =
+pub returns-in_ok-is_there-in-Some-clause-swapped : goal.returns-in_ok-is_there-in-Some-clause-swapped
+returns-in_ok-is_there-in-Some-clause-swapped c =
     let ls = c.self.inside.copies.items in
     let place : place_in (copies_of ls) c.args.id ≡ Some c.in-Some.place = rw (← c.deref.ensures.value) (sym c.in-Some.ensures) in
-    let there : is_some (copy_in (copies_of ls) c.args.id) ≡ true = place_found (copies_of ls) c.args.id c.in-Some.place place in
-    rw (← c.self.view_is) (sym there)
+    let old = c.index_mut.result.now in
+    let new = c.swap_merged.new.self in
+    let done = c.in_ok-is_there-in-Some in
+    let copy : new.copy ≡ old.copy = ap (λ (l : Logged). l.copy) done.ensures.rest in
+    subst (λ (n : WorldData). IsSwapAt c.args.id c.args.merged n.nodes (nodes_of (set ls c.in-Some.place new)) done.is_there) c.self.view_is
+    (swapped_at ls c.args.id c.in-Some.place old new c.args.merged done.is_there (is_first ls c.args.id c.in-Some.place place) c.index_mut.ensures.value copy done.ensures.swapped)
 
-pub returns-in_default-taken-clause-there : goal.returns-in_default-taken-clause-there
-returns-in_default-taken-clause-there c =
+pub returns-in-None-clause-none : goal.returns-in-None-clause-none
+returns-in-None-clause-none c =
     let ls = c.self.inside.copies.items in
-    let place : place_in (copies_of ls) c.args.id ≡ Some c.in-Some.place = rw (← c.deref.ensures.value) (sym c.in-Some.ensures) in
-    let there : is_some (copy_in (copies_of ls) c.args.id) ≡ true = place_found (copies_of ls) c.args.id c.in-Some.place place in
-    rw (← c.self.view_is) (sym there)
+    let place : place_in (copies_of ls) c.args.id ≡ None = rw (← c.deref.ensures.value) (sym c.in-None.ensures) in
+    rw (← c.self.view_is) (no_node ls c.args.id (none_found ls c.args.id place), refl)
