@@ -92,7 +92,8 @@ def missing(folder):
 def interrupted(top):
     """Starts that end early leave some files of a new index, empty or torn."""
     for number, files in enumerate(({"mapping.json.new": b"{"}, {"mapping.json": b"{}"}, {"mapping.json": b"{}", "copy-1.rsx": b""},
-                                    {"mapping.json": b"{}", "copy-1.rsx": b"", "master.log": b"RS"}, {"mapping.json": b"{}", "copy-1.rsx": b"RSX", "master.log": b"RSM1\2\0"})):
+                                    {"mapping.json": b"{}", "copy-1.rsx": b"", "master.log": b"RS"}, {"mapping.json": b"{}", "copy-1.rsx": b"RSX", "master.log": b"RSM1\2\0"},
+                                    {"mapping.json": b"{}", "copy-1.rsx": b"RSX1\x2b\0\0\0\1\xff", "master.log": b"RSM1"})):
         folder = top / f"begun-{number}"
         folder.mkdir()
         for name, text in files.items():

@@ -1,5 +1,5 @@
 -- What changes where only some ids have new operations.
-use Rattle.std.proofs.Common.{◌≡◌, ◌≤◌, ◌<◌, ◌+◌, ◌-◌, ℕ, ℤ, length, map, take, drop, get_or, length-drop, arith, Bool, true, false, cond, List, [], ◌∷◌, Option, Some, None, if◌then◌else◌, refl, sym, ap, ◌∙◌}
+use Rattle.std.proofs.Common.{◌≡◌, ◌≤◌, ◌<◌, ◌+◌, ◌-◌, ◌++◌, ℕ, zero, suc, ℤ, length, map, take, drop, get_or, length-drop, arith, Bool, true, false, cond, List, [], ◌∷◌, Option, Some, None, if◌then◌else◌, refl, sym, ap, ◌∙◌}
 use Rattle.std.specs.Prelude.{is_some, not, nat_lt, ◌||◌, fold}
 use Rattle.std.specs.declared.cmp.Ordering.{Ordering}
 use Rattle.std.specs.declared.cmp.Ordering.TheVariants.{Less, Equal, Greater}
@@ -11,7 +11,7 @@ use Rattle.op.specs.declared.record.Record.TheVariants.{Op as Kept}
 use Rattle.op.specs.Records.{after_record, operations, shown}
 use Rattle.engine.specs.Entry.{put_if}
 use Rattle.engine.proofs.ChosenLaws.{among-more}
-use Rattle.std.specs.List.{list_any}
+use Rattle.std.specs.List.{list_any, AllPass}
 use Rattle.std.specs.Option.{option_or}
 use Rattle.std.proofs.lemmas.List.Folds.{list_any_more}
 use Rattle.std.specs.Cmp.Lexicographic.{nat_list_cmp_total}
@@ -25,7 +25,7 @@ use Rattle.op.proofs.DocumentLaws.{document_at-documents, is_sorted-documents}
 use Rattle.engine.specs.Live.{changed_live, unchanged}
 use Rattle.engine.specs.Parts.{merged, without, is_among, has_id}
 use Rattle.engine.specs.Published.{Published}
-use Rattle.engine.specs.SnapshotChange.{is_write}
+use Rattle.engine.specs.SnapshotChange.{is_op, is_write}
 use Rattle.engine.proofs.PartLaws.{true_T, T_true, find-merged, in_order-merged, or_none}
 use Rattle.engine.proofs.ApartLaws.{find-without}
 
@@ -137,6 +137,16 @@ ids-end rs point i le =
 
 pub rest-whole : {A : Type 0} (n : ℕ) (xs : List A) → take (length xs - n) (drop n xs) ≡ drop n xs
 rest-whole n xs = take_all (length xs - n) (drop n xs) (omega (arith, length-drop n xs))
+
+-- what stands behind a place of two lists, of which the first ends before it
+pub drop-behind : {A : Type 0} (xs ys : List A) (n b : ℕ) → length xs ≡ b → b ≤ n → drop n (xs ++ ys) ≡ drop (n - b) ys
+drop-behind [] ys n b is le = ap (λ m. drop m ys) (omega (arith, is))
+drop-behind (x ∷ xs) ys zero b is le = absurd (omega (arith, is, le))
+drop-behind (x ∷ xs) ys (suc n) b is le = drop-behind xs ys n (b - 1) (omega (arith, is)) (omega (arith, le)) ∙ ap (λ m. drop m ys) (omega (arith, is, le))
+
+-- not all are operations where one is none
+pub not-all : (rs : List Record) (i : ℕ) (r : Record) → i < length rs → r ≡ get_or rs i r → is_op r ≡ false → AllPass is_op rs → ⊥
+not-all rs i r within at other all = absurd (let wrong : true ≡ false = sym (all i r within) ∙ (ap is_op (sym at) ∙ other) in cc)
 
 -- ---- the documents at ids
 

@@ -1,6 +1,6 @@
 -- Operations that are kept beside their records.
 -- For proofs alone: no public contract rests on it.
-use Rattle.std.specs.Prelude.{◌≡◌, ◌≤◌, ◌^◌, List}
+use Rattle.std.specs.Prelude.{◌≡◌, ◌≤◌, ◌^◌, ℕ, List}
 use Rattle.op.specs.declared.operation.Op.{Op}
 use Rattle.op.specs.declared.record.Record.{Record}
 use Rattle.op.specs.Operations.{IsAscending, next_seq}
@@ -11,3 +11,8 @@ pub record IsKept (os : List Op) (rs : List Record) : Type 0 where
   pub same : os ≡ operations rs
   pub ascending : IsAscending os
   pub small : next_seq os ≤ 2 ^ 63
+
+-- records, and the place from which on memory has them
+pub record HistoryData : Type 0 where
+  pub records : List Record
+  pub begin : ℕ

@@ -46,7 +46,7 @@ pub(crate) fn documents_at<'a>(
     ids: &'a [DocId],
 ) -> Result<Vec<Entry<'a>>, AllocError>
     ensures sorted { IfOk result (λ v. is_sorted id_cmp (map entry_view v.items) ≡ true) }
-    ensures found { IfOk result (λ v. (id : Id) → document_at (map entry_view v.items) id ≡ (if is_among ids.now id then document_at (documents (operations history.now)) id else None)) }
+    ensures found { IfOk result (λ v. (id : Id) → document_at (map entry_view v.items) id ≡ (if is_among ids.now id then document_at (documents (operations history.now.records)) id else None)) }
 {
     let mut found = BTreeMap::new(alloc);
     for id in ids {
@@ -64,7 +64,7 @@ fn add_at<'a>(
 ) -> Result<(), AllocError>
     requires { IsByIds found.old }
     ensures by_ids { OnOk result (IsByIds found.new) }
-    ensures documents { OnOk result (documents_in found.new ≡ put_if id.now (document_at (documents (operations history.now)) id.now) (documents_in found.old)) }
+    ensures documents { OnOk result (documents_in found.new ≡ put_if id.now (document_at (documents (operations history.now.records)) id.now) (documents_in found.old)) }
 {
     if let Some(document) = history.get(id) {
         let entry = Entry {

@@ -13,7 +13,7 @@ ghost use Rattle.engine.specs.Contents.{contents_of, segments_of};
 ghost use Rattle.engine.specs.Live.{changed_live, changed_segments, is_live, live_of, small_count, woven, AreLive, FitOneMerge};
 ghost use Rattle.engine.specs.Published.{next_after, numbered, taken_of, AreBelow, AreGone, IsFronted, IsSwapped};
 ghost use Rattle.engine.specs.SnapshotChange.{changed, is_written, next_segment, ArePublished, IsNumbered, IsRefreshed, IsSnapshotChange, OnlyOps};
-ghost use Rattle.engine.specs.Staged.{IsStagedFrom, put_in};
+ghost use Rattle.engine.specs.Staged.{put_in, records_of, IsStagedFrom};
 
 use crate::ahead::Ahead;
 use crate::documents::documents_at;
@@ -60,6 +60,7 @@ impl Drop for Engine {
 }
 
 impl Model for Engine {
+    ghost use Rattle.std.specs.Prelude.{◌≤◌};
     ghost use Rattle.std.specs.Arc.{arc_value};
     ghost use Rattle.engine.specs.Contents.{EngineData, Shows};
 
@@ -67,14 +68,14 @@ impl Model for Engine {
 
     ghost view = { λ e. record {
       mapping = arc_value e.mapping;
-      records = e.history;
+      records = e.history.records;
       point = e.point;
       published = e.showing.published;
       live = e.showing.live;
       next = e.showing.next;
     } };
 
-    ghost invariant = { λ e. Shows (arc_value e.mapping) e.history e.point e.showing.snapshot };
+    ghost invariant = { λ e. Shows (arc_value e.mapping) e.history.records e.point e.showing.snapshot × (e.history.begin ≤ e.point) };
 }
 
 impl Engine {
@@ -91,7 +92,8 @@ impl Engine {
         }) }
     {
         let mapping = Arc::new(alloc, mapping)?;
-        let history = History::of(alloc, records)?;
+        let mut history = History::of(alloc, records)?;
+        history.forget();
         let showing = Showing::of(alloc, &mapping, 0, history.operations())?;
         let point = history.len();
         Ok(Engine {
@@ -193,7 +195,8 @@ impl Engine {
         ensures next { IfOk result (λ s. s.next ≡ next_after self.now.next) }
         ensures live { IfOk result (λ s. AreLive s.live) }
     {
-        let reopened = History::of(alloc, records)?;
+        let mut reopened = History::of(alloc, records)?;
+        reopened.forget();
         let showing = Showing::of(
             alloc,
             &self.mapping,
@@ -228,10 +231,11 @@ impl Engine {
         Ok(showing)
     }
 
-    /// Makes a change that is ready for this engine, as it was made ready last: no segment has come or gone since. It takes no memory.
+    /// Makes a change that is ready for this engine, as it was made ready last: no segment has come or gone since, and no record has come. It takes no memory.
     pub fn put(&mut self, staged: Staged)
         requires fits { IsStagedFrom (contents_of self.old) staged }
         requires last { staged.before ≡ segments_of self.old }
+        requires all { staged.point ≡ length (records_of self.old.records staged.records) }
         ensures { self.new ≡ put_in self.old staged }
     {
         let Staged {
@@ -243,6 +247,7 @@ impl Engine {
         if let Some(history) = history {
             self.history = history;
         }
+        self.history.forget();
         self.showing = showing;
         self.point = point;
     }

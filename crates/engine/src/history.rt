@@ -1,5 +1,6 @@
 //! The records of a copy, and their operations.
-ghost use Rattle.std.specs.Prelude.{◌≡◌, ◌<◌, ◌≤◌, ◌^◌, ◌||◌, false, None, All, drop, IfOk, IfSome, OnOk, OnErr};
+ghost use Rattle.std.specs.Prelude.{◌≡◌, ◌<◌, ◌≤◌, ◌^◌, ◌||◌, ◌++◌, false, None, All, drop, IfOk, IfSome, OnOk, OnErr};
+ghost use Rattle.chronicle.specs.Written.{written};
 ghost use Rattle.doc.specs.Id.{Id};
 ghost use Rattle.std.specs.Option.{option_copied, option_map};
 ghost use Rattle.op.specs.Checkpoint.{checkpoint_of, known};
@@ -13,6 +14,7 @@ ghost use Rattle.std.specs.List.{list_any, AllPass};
 
 use crate::operation_index::OperationIndex;
 use crate::operations;
+use chronicle::{Chronicle, Writer};
 use doc::{DocId, Source};
 use op::{Body, Op, Record, checkpoint};
 use std::alloc::{AllocError, Global};
@@ -38,77 +40,104 @@ pub struct Found<'a> {
     pub source: &'a Source,
 }
 
-/// The records in the order in which they came, and their operations in order of number.
+/// How many records memory may forget. They count within 64 bits with those that it has.
+const MOST_FORGOTTEN: usize = 1 << 63;
+
+/// The records in the order in which they came, and their operations in order of number. Memory has the records from a place on, clauses see all of them.
 pub(crate) struct History {
-    records: Vec<Record>,
+    chronicle: Chronicle<Record>,
+    before: Writer<Record>,
+    begin: usize,
+    recent: Vec<Record>,
     operations: OperationIndex,
 }
 
 impl Drop for History {
     fn drop(self) {
         let History {
-            records: _records,
+            chronicle: _chronicle,
+            before: _before,
+            begin: _,
+            recent: _recent,
             operations: _operations,
         } = self;
     }
 }
 
 impl Model for History {
-    ghost use Rattle.std.specs.Prelude.{List};
-    ghost use Rattle.op.specs.declared.record.Record.{Record};
-    ghost use Rattle.engine.specs.Kept.{IsKept};
+    ghost use Rattle.std.specs.Prelude.{◌≡◌, ◌≤◌, ◌^◌, ◌++◌, length};
+    ghost use Rattle.engine.specs.Kept.{HistoryData, IsKept};
 
-    ghost Value = { List Record };
+    ghost Value = { HistoryData };
 
-    ghost view = { λ h. h.records.items };
+    ghost view = { λ h. record { records = h.before.entries ++ h.recent.items; begin = h.begin } };
 
-    ghost invariant = { λ h. IsKept h.operations h.records.items };
+    ghost invariant = { λ h. IsKept h.operations (h.before.entries ++ h.recent.items) × (h.before.line.book ≡ h.chronicle) × (length h.before.entries ≡ h.begin) × (h.begin ≤ 2 ^ 63) };
 }
 
 impl History {
-    ghost use Rattle.std.specs.Prelude.{◌++◌, length};
+    ghost use Rattle.std.specs.Prelude.{length};
     ghost use Rattle.op.specs.Documents.{document_at, documents};
     ghost use Rattle.engine.specs.Applied.{applied_of, records_after, RiseFrom};
 
     /// The history that these records are.
     pub(crate) fn of(alloc: Global, records: Vec<Record>) -> Result<History, AllocError>
         requires { All IsRecord records.items }
-        ensures { IfOk result (λ h. h ≡ records.items) }
+        ensures { IfOk result (λ h. h ≡ record { records = records.items; begin = 0 }) }
     {
         let mut operations = OperationIndex::new(alloc);
         for kept in &records {
             operations.keep(alloc, kept)?;
         }
+        let chronicle = Chronicle::new();
+        let before = chronicle.writer();
         Ok(History {
-            records,
+            chronicle,
+            before,
+            begin: 0,
+            recent: records,
             operations,
         })
     }
 
+    /// Lets memory forget the records that are there. Clauses see them still.
+    pub(crate) fn forget(&mut self)
+        ensures records { self.new.records ≡ self.old.records }
+        ensures begin { self.new.begin ≤ length self.new.records }
+    {
+        let end = self.begin + self.recent.len();
+        if end <= MOST_FORGOTTEN {
+            append_all(&self.chronicle, &mut self.before, &self.recent);
+            self.recent.clear();
+            self.recent.shrink_to_fit();
+            self.begin = end;
+        }
+    }
+
     /// How many records there are.
     pub(crate) fn len(&self) -> usize
-        ensures { result ≡ length self.now }
+        ensures { result ≡ length self.now.records }
     {
-        self.records.len()
+        self.begin + self.recent.len()
     }
 
     /// The operations in order of number.
     pub(crate) fn operations(&self) -> &[Op]
-        ensures { result.now ≡ operations self.now }
+        ensures { result.now ≡ operations self.now.records }
     {
         self.operations.as_slice()
     }
 
     /// The last operation on the id.
     pub(crate) fn last(&self, id: &DocId) -> Option<&Op>
-        ensures { option_copied result ≡ last_on (operations self.now) id.now }
+        ensures { option_copied result ≡ last_on (operations self.now.records) id.now }
     {
         self.operations.last_on(id)
     }
 
     /// The document with the id.
     pub(crate) fn get(&self, id: &DocId) -> Option<Found<'_>>
-        ensures { option_map found_document result ≡ document_at (documents (operations self.now)) id.now }
+        ensures { option_map found_document result ≡ document_at (documents (operations self.now.records)) id.now }
     {
         match self.last(id) {
             Some(op) => document_of(op),
@@ -118,23 +147,23 @@ impl History {
 
     /// The operation with the number.
     pub(crate) fn op_at(&self, seq: u64) -> Option<&Op>
-        ensures { option_copied result ≡ op_at (operations self.now) seq }
+        ensures { option_copied result ≡ op_at (operations self.now.records) seq }
     {
         self.operations.op_at(seq)
     }
 
     /// The greatest number, or -1 where there is none.
     pub(crate) fn greatest(&self) -> i64
-        ensures number { result ≡ checkpoint_of (next_seq (operations self.now)) }
-        ensures ascending { IsAscending (operations self.now) }
+        ensures number { result ≡ checkpoint_of (next_seq (operations self.now.records)) }
+        ensures ascending { IsAscending (operations self.now.records) }
     {
         operations::greatest(self.operations.as_slice())
     }
 
     /// The greatest number up to which none is missing, or -1.
     pub(crate) fn local(&self) -> i64
-        ensures number { result ≡ local_checkpoint (operations self.now) }
-        ensures ascending { IsAscending (operations self.now) }
+        ensures number { result ≡ local_checkpoint (operations self.now.records) }
+        ensures ascending { IsAscending (operations self.now.records) }
     {
         checkpoint::from_count(self.operations.local())
     }
@@ -142,22 +171,22 @@ impl History {
     /// The same once an operation is kept whose number is free.
     pub(crate) fn local_with(&self, op: &Op) -> i64
         requires small { op.now.seq < 2 ^ 63 }
-        requires free { op_at (operations self.now) op.now.seq ≡ None }
-        ensures { result ≡ local_checkpoint (add (operations self.now) op.now) }
+        requires free { op_at (operations self.now.records) op.now.seq ≡ None }
+        ensures { result ≡ local_checkpoint (add (operations self.now.records) op.now) }
     {
         checkpoint::from_count(self.operations.local_with(op))
     }
 
     /// Whether an operation on the same id has a greater number.
     pub(crate) fn is_stale(&self, op: &Op) -> bool
-        ensures { result ≡ is_stale (operations self.now) op.now }
+        ensures { result ≡ is_stale (operations self.now.records) op.now }
     {
         self.operations.is_stale(op)
     }
 
     /// The operations above a checkpoint.
     pub(crate) fn above(&self, alloc: Global, global: i64) -> Result<Vec<Op>, AllocError>
-        ensures { IfOk result (λ v. v.items ≡ from_number (known global) (operations self.now)) }
+        ensures { IfOk result (λ v. v.items ≡ from_number (known global) (operations self.now.records)) }
     {
         operations::from_number(alloc, self.operations.as_slice(), checkpoint::count(global))
     }
@@ -168,13 +197,14 @@ impl History {
         alloc: Global,
         point: usize,
     ) -> Result<Option<Vec<DocId>>, AllocError>
-        requires { point ≤ length self.now }
-        ensures others { IfOk result (λ ids. IfSome ids (λ v. (id : Id) → is_among v.items id ≡ false → last_on (operations self.now) id ≡ last_on (shown self.now point) id)) }
-        ensures only { IfOk result (λ ids. AllPass is_op (drop point self.now) → ids ≡ None → ⊥) }
-        ensures are { IfOk result (λ ids. IfSome ids (λ v. (id : Id) → is_among v.items id ≡ list_any (is_write id) (drop point self.now))) }
+        requires begin { self.now.begin ≤ point }
+        requires within { point ≤ length self.now.records }
+        ensures others { IfOk result (λ ids. IfSome ids (λ v. (id : Id) → is_among v.items id ≡ false → last_on (operations self.now.records) id ≡ last_on (shown self.now.records point) id)) }
+        ensures only { IfOk result (λ ids. AllPass is_op (drop point self.now.records) → ids ≡ None → ⊥) }
+        ensures are { IfOk result (λ ids. IfSome ids (λ v. (id : Id) → is_among v.items id ≡ list_any (is_write id) (drop point self.now.records))) }
     {
         let mut ids = Vec::new(alloc);
-        for kept in &self.records[point..] {
+        for kept in &self.recent[point - self.begin..] {
             match kept {
                 Record::Op(_, op) => push_id(alloc, &mut ids, op)?,
                 Record::Resync(_, _, _) => return Ok(None),
@@ -187,18 +217,19 @@ impl History {
     /// Keeps the record, where it isn't an operation whose number is there.
     pub(crate) fn apply(&mut self, alloc: Global, kept: &Record) -> Result<Applied, AllocError>
         requires { IsRecord kept.now }
-        ensures answer { IfOk result (λ a. a ≡ applied_of (operations self.old) kept.now) }
-        ensures records { IfOk result (λ a. self.new ≡ records_after self.old kept.now a) }
-        ensures err { OnErr result (self.new ≡ self.old) }
+        ensures answer { IfOk result (λ a. a ≡ applied_of (operations self.old.records) kept.now) }
+        ensures records { IfOk result (λ a. self.new.records ≡ records_after self.old.records kept.now a) }
+        ensures begin { self.new.begin ≡ self.old.begin }
+        ensures err { OnErr result (self.new.records ≡ self.old.records) }
     {
         let applied = self.operations.applied_of(kept);
         if let Applied::Repeated = applied {
             return Ok(applied);
         }
-        self.records.reserve(1)?;
+        self.recent.reserve(1)?;
         let copy = kept.copy(alloc)?;
         self.operations.keep(alloc, kept)?;
-        self.records.push(copy)?;
+        self.recent.push(copy)?;
         Ok(applied)
     }
 
@@ -208,15 +239,26 @@ impl History {
         alloc: Global,
         records: Vec<Record>,
     ) -> Result<(), AllocError>
-        requires { RiseFrom (next_seq (operations self.old)) records.items }
-        ensures ok { OnOk result (self.new ≡ self.old ++ records.items) }
-        ensures err { OnErr result (self.new ≡ self.old) }
+        requires { RiseFrom (next_seq (operations self.old.records)) records.items }
+        ensures ok { OnOk result (self.new.records ≡ self.old.records ++ records.items) }
+        ensures begin { self.new.begin ≡ self.old.begin }
+        ensures err { OnErr result (self.new.records ≡ self.old.records) }
     {
         let mut records = records;
-        self.records.reserve(records.len())?;
+        self.recent.reserve(records.len())?;
         self.operations.add_all(alloc, &records)?;
-        self.records.append(&mut records)?;
+        self.recent.append(&mut records)?;
         Ok(())
+    }
+}
+
+/// Notes records behind those that are noted.
+fn append_all(chronicle: &Chronicle<Record>, before: &mut Writer<Record>, records: &[Record])
+    requires { chronicle.now ≡ before.old.line.book }
+    ensures { before.new ≡ written before.old.line (before.old.entries ++ records.now) }
+{
+    for kept in records {
+        let _mark = before.append(chronicle, kept);
     }
 }
 

@@ -31,6 +31,7 @@ pub struct Staged {
 }
 
 impl Model for Staged {
+    ghost use Rattle.std.specs.Prelude.{option_map};
     ghost use Rattle.engine.specs.Contents.{segments_shown};
     ghost use Rattle.engine.specs.Staged.{StagedData};
 
@@ -38,7 +39,7 @@ impl Model for Staged {
 
     ghost view = { λ s. record {
       before = segments_shown s.before.value;
-      records = s.history;
+      records = option_map (λ h. h.records) s.history;
       snapshot = s.showing.snapshot;
       point = s.point;
       published = s.showing.published;

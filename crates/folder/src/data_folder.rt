@@ -13,7 +13,7 @@ use std::fs;
 use std::fs::{File, OpenFile, OpenOptions, TryLockError};
 use std::io::{Read, Write};
 use std::rt::Files;
-use translog::{FileDevice, LogFault, MemDevice, Refused, Translog};
+use translog::{FileDevice, LogFault, MemDevice, Translog};
 
 /// The file that is locked while the folder is served.
 const LOCK: &str = "lock";
@@ -374,7 +374,7 @@ impl<'a, R: Files<File = File> + AllocGlobal> Folder<'a, R> {
             Err(refused) => return Err(DataFault::Master(refused.into_fault())),
         };
         let opened = if master.state().term == 1 {
-            begun_or_opened(alloc, mapping, copy)
+            self.begun_or_opened(mapping, copy)
         } else {
             opened(alloc, mapping, copy)
         };
@@ -383,23 +383,36 @@ impl<'a, R: Files<File = File> + AllocGlobal> Folder<'a, R> {
             Err(fault) => Err(fault),
         }
     }
+
+    /// The copy of an index in its first term: a new one where its log has no record.
+    fn begun_or_opened(
+        &self,
+        mapping: Mapping,
+        device: FileDevice<File>,
+    ) -> Result<Copy<FileDevice<File>>, DataFault> {
+        let alloc = self.rt.alloc();
+        if device.len() <= HEADER {
+            return begun(alloc, mapping, device);
+        }
+        let copy = opened(alloc, mapping.copy(alloc)?, device)?;
+        if copy.point() > 0 {
+            return Ok(copy);
+        }
+        // The only record was torn, and is cut off now.
+        drop(copy);
+        let device = self.device(COPY)?;
+        begun(alloc, mapping, device)
+    }
 }
 
-/// The copy of an index in its first term: a new one where its log has no record.
-fn begun_or_opened(
+/// A copy of a new index, whose log has no record.
+fn begun(
     alloc: Global,
     mapping: Mapping,
     device: FileDevice<File>,
 ) -> Result<Copy<FileDevice<File>>, DataFault> {
-    let kept = mapping.copy(alloc)?;
     match Copy::begin(alloc, 1, 1, mapping, device) {
         Ok(copy) => Ok(copy),
-        Err(
-            Refused {
-                device,
-                fault: CopyFault::Mismatch,
-            },
-        ) => opened(alloc, kept, device),
         Err(refused) => Err(DataFault::Copy(1, refused.into_fault())),
     }
 }

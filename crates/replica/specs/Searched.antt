@@ -11,6 +11,7 @@ use Rattle.engine.specs.SnapshotChange.{IsNumbered, IsRefreshed, OnlyOps}
 use Rattle.engine.specs.Staged.{StagedData, put_in}
 use Rattle.replica.specs.Copy.{Copy}
 
+-- a copy, and the segments
 pub record Searched : Type 0 where
   pub copy : Copy
   pub segments : Segments
@@ -44,11 +45,13 @@ pub record ShowsAnew (old new : Segments) (rs : List Record) : Type 0 where
 -- a refresh that was made ready for the copy as it is now
 pub record IsRefreshOf (s : Searched) (staged : StagedData) : Type 0 where
   pub before : staged.before ≡ s.segments
+  pub all : staged.point ≡ length s.copy.records
   pub shows : ShowsAll (engine_of s) (put_in (engine_of s) staged)
 
 -- a restart with these records that was made ready for the copy as it is now
 pub record IsReopeningOf (s : Searched) (staged : StagedData) (rs : List Record) : Type 0 where
   pub before : staged.before ≡ s.segments
+  pub all : staged.point ≡ length rs
   pub shows : ShowsAnew s.segments (staged_segments s.segments staged) rs
 
 -- a merge of some of many small segments, that go well into one

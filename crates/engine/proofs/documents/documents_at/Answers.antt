@@ -13,7 +13,7 @@ use Rattle.engine.proofs.documents.documents_at.Goals as goal
 -- one id more
 pub loop-id-preserved : goal.loop-id-preserved
 loop-id-preserved c =
-    let all = documents (operations c.args.history.now) in
+    let all = documents (operations c.args.history.now.records) in
     let before = documents_in c.loop-id.found in
     let i = c.id-item.result in
     let same = c.in_ok-add_at.ensures.documents in
@@ -32,4 +32,4 @@ pub returns-clause-found : goal.returns-clause-found
 returns-clause-found c = λ id.
     let same : map entry_view c.in_ok-entries.entries.items ≡ documents_in c.loop-id.found = ap (map entry_view) c.in_ok-entries.ensures ∙ documents-values c.loop-id.found.entries in
     ap (λ (ds : Documents). document_at ds id) same ∙ c.loop-id.invariant.found id
-    ∙ ap (λ ids. if is_among ids id then document_at (documents (operations c.args.history.now)) id else None) (take_all c.loop-id.id-index c.args.ids.now c.loop-id-test.false)
+    ∙ ap (λ ids. if is_among ids id then document_at (documents (operations c.args.history.now.records)) id else None) (take_all c.loop-id.id-index c.args.ids.now c.loop-id-test.false)

@@ -12,5 +12,5 @@ abbrev pub invariant-loop-id : goal.invariant-loop-id
 invariant-loop-id l = record {
   by_ids : IsByIds l.found;
   sorted : is_sorted id_cmp (documents_in l.found) ≡ true;
-  found : (id : Id) → document_at (documents_in l.found) id ≡ (if is_among (take l.id-index l.ids) id then document_at (documents (operations l.history)) id else None);
+  found : (id : Id) → document_at (documents_in l.found) id ≡ (if is_among (take l.id-index l.ids) id then document_at (documents (operations l.history.records)) id else None);
 }

@@ -20,7 +20,7 @@ pub with-requires-clause-only : goal.with-requires-clause-only
 with-requires-clause-only c =
     let ids = c.in-Some.ids.items in
     rw (c.deref-2.ensures.value, c.deref-3.ensures.value)
-    (only_among (operations c.self.inside.history) ids (map entry_view c.in_ok-entries.entries.items) (rw c.deref.ensures.value at c.in_ok-entries.ensures.found))
+    (only_among (operations c.self.inside.history.records) ids (map entry_view c.in_ok-entries.entries.items) (rw c.deref.ensures.value at c.in_ok-entries.ensures.found))
 
 -- with the others as they were they are the documents of all records
 pub returns-clause-snapshot : goal.returns-clause-snapshot
@@ -30,8 +30,8 @@ returns-clause-snapshot c =
     let es = map entry_view c.in_ok-entries.entries.items in
     let at = rw c.deref.ensures.value at c.in_ok-entries.ensures.found in
     let others = rw c.in-Some.is at c.in_ok-ids.ensures.others in
-    let all = refreshed (operations inside.history) (shown inside.history inside.point) ids es c.in_ok-entries.ensures.sorted at others in
-    (rw (c.deref-2.ensures.value, c.deref-3.ensures.value, c.self.invariant.same) at c.in_ok-showing-2.ensures.snapshot)
+    let all = refreshed (operations inside.history.records) (shown inside.history.records inside.point) ids es c.in_ok-entries.ensures.sorted at others in
+    (rw (c.deref-2.ensures.value, c.deref-3.ensures.value, c.self.invariant.0.same) at c.in_ok-showing-2.ensures.snapshot)
     ∙ ap (λ (ds : Documents). let s : SnapshotData = record { mapping = arc_value inside.mapping; documents = ds } in s) all
     ∙ ap (λ (e : EngineData). let s : SnapshotData = record { mapping = e.mapping; documents = documents (operations e.records) } in s) c.self.view_is
 
@@ -50,15 +50,15 @@ pub returns-clause-published : goal.returns-clause-published
 returns-clause-published c =
     let inside = c.self.inside in
     let before = inside.showing in
-    let v : EngineData = record { mapping = arc_value inside.mapping; records = inside.history; point = inside.point; published = before.published; live = before.live; next = before.next } in
+    let v : EngineData = record { mapping = arc_value inside.mapping; records = inside.history.records; point = inside.point; published = before.published; live = before.live; next = before.next } in
     let ids = c.in-Some.ids.items in
     let es = map entry_view c.in_ok-entries.entries.items in
     let at = rw c.deref.ensures.value at c.in_ok-entries.ensures.found in
     let are : (id : Id) → is_among ids id ≡ is_written v id = rw c.in-Some.is at c.in_ok-ids.ensures.are in
     let new : Documents → Published = λ ds. record { number = before.next; mapping = arc_value inside.mapping; documents = ds } in
     λ ops.
-    (rw (c.deref-2.ensures.value, c.deref-3.ensures.value, c.self.invariant.same) at c.in_ok-showing-2.ensures.published)
-    ∙ ap (λ (ds : Documents). changed_segments (is_among ids) (new ds) before.published before.live) (are-where (operations inside.history) ids es c.in_ok-entries.ensures.sorted at (is_written v) are)
+    (rw (c.deref-2.ensures.value, c.deref-3.ensures.value, c.self.invariant.0.same) at c.in_ok-showing-2.ensures.published)
+    ∙ ap (λ (ds : Documents). changed_segments (is_among ids) (new ds) before.published before.live) (are-where (operations inside.history.records) ids es c.in_ok-entries.ensures.sorted at (is_written v) are)
     ∙ ap (λ (ls : List Documents). living (next_segment v ∷ before.published) ls) (changed_live-same (is_among ids) (is_written v) are (next_segment v) before.live)
     ∙ ap (λ (e : EngineData). changed_segments (is_written e) (next_segment e) e.published e.live) c.self.view_is
 
@@ -66,7 +66,7 @@ pub returns-clause-kept : goal.returns-clause-kept
 returns-clause-kept c =
     let inside = c.self.inside in
     let before = inside.showing in
-    let v : EngineData = record { mapping = arc_value inside.mapping; records = inside.history; point = inside.point; published = before.published; live = before.live; next = before.next } in
+    let v : EngineData = record { mapping = arc_value inside.mapping; records = inside.history.records; point = inside.point; published = before.published; live = before.live; next = before.next } in
     let ids = c.in-Some.ids.items in
     let es = map entry_view c.in_ok-entries.entries.items in
     let at = rw c.deref.ensures.value at c.in_ok-entries.ensures.found in
@@ -76,7 +76,7 @@ returns-clause-kept c =
     c.in_ok-showing-2.ensures.live
     ∙ ap (λ (is : List Id). filter is_live (changed_live (is_among is) (new (map entry_view c.deref-3.result.now)) before.live)) c.deref-2.ensures.value
     ∙ ap (λ xs. filter is_live (changed_live (is_among ids) (new (map entry_view xs)) before.live)) c.deref-3.ensures.value
-    ∙ ap (λ (ds : Documents). filter is_live (changed_live (is_among ids) (new ds) before.live)) (are-where (operations inside.history) ids es c.in_ok-entries.ensures.sorted at (is_written v) are)
+    ∙ ap (λ (ds : Documents). filter is_live (changed_live (is_among ids) (new ds) before.live)) (are-where (operations inside.history.records) ids es c.in_ok-entries.ensures.sorted at (is_written v) are)
     ∙ ap (λ (ls : List Documents). filter is_live ls) (changed_live-same (is_among ids) (is_written v) are (next_segment v) before.live)
     ∙ ap (λ (e : EngineData). filter is_live (changed_live (is_written e) (next_segment e) e.live)) c.self.view_is
 

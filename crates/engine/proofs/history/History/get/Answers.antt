@@ -6,7 +6,7 @@ use Rattle.engine.proofs.history.History.get.Goals as goal
 
 -- the document is that of the last operation on the id
 pub returns-in-Some : goal.returns-in-Some
-returns-in-Some c = let last = c.in-Some.ensures in c.document_of.ensures ∙ ap document_of last ∙ sym (document_at-documents (operations c.args.self.now) c.args.id.now)
+returns-in-Some c = let last = c.in-Some.ensures in c.document_of.ensures ∙ ap document_of last ∙ sym (document_at-documents (operations c.args.self.now.records) c.args.id.now)
 
 pub returns-in-None : goal.returns-in-None
-returns-in-None c = let last = c.in-None.ensures in ap document_of last ∙ sym (document_at-documents (operations c.args.self.now) c.args.id.now)
+returns-in-None c = let last = c.in-None.ensures in ap document_of last ∙ sym (document_at-documents (operations c.args.self.now.records) c.args.id.now)

@@ -11,6 +11,6 @@ use Rattle.engine.proofs.history.History.ids_since.Given as goal
 -- so far, the last operation on each other id is the one of the point, and no other record is one on such an id
 abbrev pub invariant-loop-kept : goal.invariant-loop-kept
 invariant-loop-kept l = record {
-  others : (id : Id) → is_among l.ids.items id ≡ false → last_on (fold after_record (shown l.self l.point) (take l.kept-index (drop l.point l.self))) id ≡ last_on (shown l.self l.point) id;
-  are : (id : Id) → is_among l.ids.items id ≡ list_any (is_write id) (take l.kept-index (drop l.point l.self));
+  others : (id : Id) → is_among l.ids.items id ≡ false → last_on (fold after_record (shown l.self.records l.point) (take l.kept-index (drop l.point l.self.records))) id ≡ last_on (shown l.self.records l.point) id;
+  are : (id : Id) → is_among l.ids.items id ≡ list_any (is_write id) (take l.kept-index (drop l.point l.self.records));
 }

@@ -1,0 +1,59 @@
+//! Merges of what searches look through. They are no steps.
+ghost use Rattle.std.specs.Prelude.{◌≡◌, ◌≤◌, false, None, IfOk, IfSome, OnErr};
+ghost use Rattle.engine.specs.Live.{small_count};
+ghost use Rattle.engine.specs.Published.{taken_of};
+ghost use Rattle.op.specs.Documents.{documents};
+ghost use Rattle.op.specs.Records.{shown};
+ghost use Rattle.replica.specs.Logged.{searched};
+ghost use Rattle.replica.specs.Searched.{IsNextMerge, IsSwapOf};
+
+use crate::copy::Copy;
+use engine::{Merged, Merging};
+use std::alloc::{AllocError, Global};
+use translog::LogDevice;
+
+impl<D: LogDevice> Copy<D> {
+    /// Begins a merge of all segments that searches look through, to be built by whoever asked, or of none where there is only one, or where one bears the
+    /// greatest number. It is no step of the copy, which stays as it is.
+    pub fn begin_merge(&self) -> Result<Merging, AllocError>
+        ensures { IfOk result (λ m. m ≡ record { taken = taken_of self.now.segments.published; mapping = self.now.copy.mapping; documents = documents (shown self.now.copy.records self.now.copy.point) }) }
+    {
+        self.state.begin_merge()
+    }
+
+    /// Begins a merge of some of the segments that searches look through, where many of these are small: of those that go well into one. It is no step of
+    /// the copy, which stays as it is.
+    pub fn begin_next_merge(&self, alloc: Global) -> Result<Option<Merging>, AllocError>
+        ensures none { IfOk result (λ o. o ≡ None → small_count self.now.segments.published self.now.segments.live ≤ 16) }
+        ensures some { IfOk result (λ o. IfSome o (IsNextMerge self.now.segments)) }
+        ensures mapping { IfOk result (λ o. IfSome o (λ m. m.mapping ≡ self.now.copy.mapping)) }
+    {
+        self.state.begin_next_merge(alloc)
+    }
+
+    /// Makes such a merge at once, where there is one, and tells whether it was put in place. What the copy keeps and shows stays.
+    pub fn merge_next(&mut self, alloc: Global) -> Result<bool, AllocError>
+        ensures rest { self.new ≡ record self.old { segments = self.new.segments } }
+        ensures none { IfOk result (λ b. b ≡ false → self.new ≡ self.old) }
+        ensures err { OnErr result (self.new ≡ self.old) }
+    {
+        match self.state.begin_next_merge(alloc)? {
+            Some(merging) => {
+                let merged = merging.build(alloc);
+                drop(merging);
+                self.state.swap_merged(alloc, merged?)
+            }
+            None => Ok(false),
+        }
+    }
+
+    /// Puts a merged segment in place of those that it is made of and that are still there; `false` where none is. It is no step of the copy either: what
+    /// the copy keeps and shows stays.
+    pub fn swap_merged(&mut self, alloc: Global, merged: Merged) -> Result<bool, AllocError>
+        ensures swapped { IfOk result (IsSwapOf merged (searched self.old) (searched self.new)) }
+        ensures rest { self.new ≡ record self.old { segments = self.new.segments } }
+        ensures err { OnErr result (self.new ≡ self.old) }
+    {
+        self.state.swap_merged(alloc, merged)
+    }
+}
