@@ -95,23 +95,27 @@ impl<'w, W: Watcher, K: Drop> Clients<'w, W, K> {
         self.limits.working() + 1
     }
 
-    /// Serves connections in this lane with this service, until the last that is wanted has ended; in the last lane it refreshes the index.
-    pub fn run<R: Wait + Clock, S: Resumable<Known = K> + Drop>(
+    /// Serves connections in this lane with this service, until the last that is wanted has ended; in the last lane it refreshes the index again and again,
+    /// by a call that tells whether that was done.
+    pub fn run<R: Wait + Clock, S: Resumable<Known = K> + Drop, B: Fn() -> bool>(
         &self,
         rt: &R,
         lane: usize,
         service: S,
-    ) -> io::Result<()> {
+        refresh: &B,
+    ) -> io::Result<()>
+        requires { B.Fn.pre refresh.now tt }
+    {
+        if lane >= self.limits.working() {
+            self.refresh_in_turn(rt, refresh);
+            return Ok(());
+        }
         let mut service = Noting {
             service,
             notes: &self.notes,
             lead: None,
             alone: false,
         };
-        if lane >= self.limits.working() {
-            self.refresh_in_turn(rt, &mut service);
-            return Ok(());
-        }
         let worked = self.serve(rt, &mut service);
         self.end();
         worked
@@ -361,7 +365,9 @@ impl<'w, W: Watcher, K: Drop> Clients<'w, W, K> {
     }
 
     /// Refreshes the index again and again until the last connection has ended: each time that its time is over, or many writes came.
-    fn refresh_in_turn<C: Clock, S: Service>(&self, clock: &C, service: &mut S) {
+    fn refresh_in_turn<C: Clock, B: Fn() -> bool>(&self, clock: &C, refresh: &B)
+        requires { B.Fn.pre refresh.now tt }
+    {
         if self.limits.refresh == 0 {
             return;
         }
@@ -374,21 +380,23 @@ impl<'w, W: Watcher, K: Drop> Clients<'w, W, K> {
             thread::sleep(clock, Duration::from_millis(tick));
             left -= tick;
             if left == 0 || self.notes.written.load(Ordering::SeqCst) >= MANY {
-                self.refresh_once(service);
+                self.refresh_once(refresh);
                 left = self.limits.refresh;
             }
         }
     }
 
     /// Refreshes the index where something was written. What is refused is tried again when its time is over.
-    fn refresh_once<S: Service>(&self, service: &mut S) {
+    fn refresh_once<B: Fn() -> bool>(&self, refresh: &B)
+        requires { B.Fn.pre refresh.now tt }
+    {
         if self.notes.written.swap(0, Ordering::SeqCst) == 0 {
             return;
         }
         self.notes.refreshing.store(true, Ordering::SeqCst);
-        let reply = service.call(Command::Refresh);
+        let done = refresh();
         self.notes.refreshing.store(false, Ordering::SeqCst);
-        if let Reply::Refused(_) = reply {
+        if !done {
             self.notes.written.fetch_add(1, Ordering::SeqCst);
         }
     }

@@ -1,61 +1,32 @@
 -- An index of operations with one more.
-use Rattle.std.proofs.Common.{◌≡◌, ℕ, zero, suc, ◌≤◌, ◌++◌, length, slice_get, is_some, Bool, true, false, ◌&&◌, List, [], ◌∷◌, ◌<◌, if◌then◌else◌, Option, Some, None, refl, sym, ap, ◌∙◌, subst, arith}
-use Rattle.std.specs.Prelude.{nat_lt, ◌==◌, IfSome}
+use Rattle.std.proofs.Common.{◌≡◌, ℕ, zero, suc, ◌≤◌, ◌++◌, length, get_or, take, slice_get, is_some, Bool, true, false, ◌&&◌, List, [], ◌∷◌, ◌<◌, if◌then◌else◌, Option, Some, None, refl, sym, ap, ◌∙◌, arith}
+use Rattle.std.specs.Prelude.{nat_lt, ◌==◌, IfSome, not, option_map}
 use Rattle.std.specs.List.{AllByRecursion}
 use Rattle.std.specs.Option.{option_or}
-use Rattle.std.specs.Str.{bytes_eq}
-use Rattle.std.specs.Cmp.Lexicographic.{nat_list_eq_equiv}
 use Rattle.std.proofs.lemmas.Bool.Decides.{nat_tests}
-use Rattle.std.proofs.lemmas.Map.Text.{is_eq-slice_cmp}
-use Rattle.std.specs.Prelude.{not, option_map}
-use Rattle.std.proofs.lemmas.Map.Lookups.{exact_bytes}
-use Rattle.std.specs.declared.cmp.Ordering.{Ordering}
-use Rattle.std.specs.declared.cmp.Ordering.TheVariants.{Less, Equal, Greater}
-use Rattle.std.specs.Ordering.{is_eq}
 use Rattle.op.specs.declared.operation.Op.{Op}
-use Rattle.op.specs.declared.operation.Body.{Body}
-use Rattle.op.specs.declared.operation.Body.TheVariants.{Index, Delete, NoOp}
-use Rattle.op.specs.Operations.{IsAscending, op_at, placed, add, concerns, is_on, is_newer, is_stale, last_like, last_on, local_count}
+use Rattle.op.specs.Operations.{IsAscending, op_at, placed, add, is_on, is_newer, last_on, local_count}
 use Rattle.op.proofs.OperationLaws.{IsAscending-placed, last_on-placed, last_on-push}
-use Rattle.doc.specs.Id.{Id, id_cmp, is_id}
-use Rattle.engine.specs.OperationIndex.{IsIndexed}
+use Rattle.doc.specs.Id.{Id}
+use Rattle.engine.specs.OperationIndex.{IsIndexed, raised}
 
 pub IsIndexed-nil : (latest : Id → Option ℕ) → ((id : Id) → latest id ≡ None) → IsIndexed [] latest 0
 IsIndexed-nil latest none = record { ascending = tt; last = none; reached = refl }
 
--- the same id by its test
-same_id : (i j : Id) → is_id i j ≡ true → i ≡ j
-same_id i j is = by_order (id_cmp i j) refl is
-  where
-    by_order : (r : Ordering) → id_cmp i j ≡ r → is_eq r ≡ true → i ≡ j
-    by_order Less e is = cc
-    by_order Equal e is = exact_bytes i j e
-    by_order Greater e is = cc
-
--- the last on the id that an operation is on is the last like it
-like : (os : List Op) (id : Id) (b : Body) → concerns id b ≡ true → last_like os b ≡ last_on os id
-like os id (Index i s) on = ap (last_on os) (sym (same_id id i on))
-like os id (Delete i) on = ap (last_on os) (sym (same_id id i on))
-like os id NoOp on = cc
-
-number_if : (b : Bool) (o : Op) (l : Option Op) → option_map (λ p. p.seq) (if b then Some o else l) ≡ (if b then Some o.seq else option_map (λ p. p.seq) l)
-number_if true o l = refl
-number_if false o l = refl
-
--- it is the last on its id unless it is stale
-not_stale : (os : List Op) (o : Op) (id : Id) (on : Bool) → is_on id o ≡ on → (on && not (is_newer (last_on os id) o.seq)) ≡ (on && not (is_stale os o))
-not_stale os o id true is = ap (λ l. not (is_newer l o.seq)) (sym (like os id o.body is))
-not_stale os o id false is = refl
+-- the number at an id is raised where the operation is on it
+raised_if : (b : Bool) (o : Op) (l : Option Op) → (if b then raised o.seq (option_map (λ p. p.seq) l) else option_map (λ p. p.seq) l) ≡ option_map (λ p. p.seq) (if b && not (is_newer l o.seq) then Some o else l)
+raised_if true o None = refl
+raised_if true o (Some q) = grind (arith, nat_tests)
+raised_if false o l = refl
 
 pub IsIndexed-placed : (os : List Op) (latest new : Id → Option ℕ) (local count : ℕ) (o : Op) → IsIndexed os latest local → op_at os o.seq ≡ None
-    → ((id : Id) → new id ≡ (if is_on id o && not (is_stale os o) then Some o.seq else latest id)) → count ≡ local_count (placed os o) → IsIndexed (placed os o) new count
+    → ((id : Id) → new id ≡ (if is_on id o then raised o.seq (latest id) else latest id)) → count ≡ local_count (placed os o) → IsIndexed (placed os o) new count
 IsIndexed-placed os latest new local count o is free noted counted = record {
   ascending = IsAscending-placed os o free is.ascending;
   last = λ id.
       noted id
-      ∙ ap (λ b. if b then Some o.seq else latest id) (sym (not_stale os o id (is_on id o) refl))
-      ∙ ap (λ l. if is_on id o && not (is_newer (last_on os id) o.seq) then Some o.seq else l) (is.last id)
-      ∙ sym (number_if (is_on id o && not (is_newer (last_on os id) o.seq)) o (last_on os id))
+      ∙ ap (λ n. if is_on id o then raised o.seq n else n) (is.last id)
+      ∙ raised_if (is_on id o) o (last_on os id)
       ∙ sym (ap (option_map (λ p. p.seq)) (last_on-placed os o id free is.ascending));
   reached = counted;
 }
@@ -101,27 +72,29 @@ pub none_last : (l : Option Op) → None ≡ option_map (λ (o : Op). o.seq) l �
 none_last None is = refl
 none_last (Some q) is = cc
 
--- one id set, and the others as they were
-module _ (new old : Id → Option ℕ) (i : Id) (n : ℕ) (here : new i ≡ Some n) (others : (w : Id) → bytes_eq i w ≡ false → new w ≡ old w) where
-  by_test : (w : Id) (b : Bool) → is_id w i ≡ b → new w ≡ (if b then Some n else old w)
-  by_test w true is = subst (λ v. new v ≡ Some n) (sym (same_id w i is)) here
-  by_test w false is = others w (nat_list_eq_equiv.symm i w ∙ sym (is_eq-slice_cmp w i) ∙ is)
-
-  pub everywhere : (w : Id) → new w ≡ (if is_id w i && true then Some n else old w)
-  everywhere w = by_test w (is_id w i) refl ∙ sym (ap (λ b. if b then Some n else old w) (and_true (is_id w i)))
-    where
-      and_true : (b : Bool) → (b && true) ≡ b
-      and_true true = refl
-      and_true false = refl
-
 -- ---- one more operation behind all
-pub latest-push : (os : List Op) (o : Op) (id : Id) (l : Option ℕ) → l ≡ option_map (λ p. p.seq) (last_on os id)
-    → (if is_on id o && not false then Some o.seq else l) ≡ option_map (λ p. p.seq) (last_on (os ++ o ∷ []) id)
-latest-push os o id l is = by_on (is_on id o) ∙ sym (ap (option_map (λ p. p.seq)) (last_on-push os o id))
-  where
-    by_on : (b : Bool) → (if b && not false then Some o.seq else l) ≡ option_map (λ p. p.seq) (if b then Some o else last_on os id)
-    by_on true = refl
-    by_on false = is
+all_at : (P : Op → Type 0) (os : List Op) (i : ℕ) (d : Op) → AllByRecursion P os → i < length os → P (get_or os i d)
+all_at P [] i d all lt = absurd (omega arith)
+all_at P (o ∷ os) zero d all lt = all.0
+all_at P (o ∷ os) (suc i) d all lt = all_at P os i d all.1 (omega arith)
+
+-- those before an operation have smaller numbers
+pub below_at : (os : List Op) (i : ℕ) (d : Op) → IsAscending os → i < length os → AllByRecursion (λ p. p.seq < (get_or os i d).seq) (take i os)
+below_at [] i d up lt = absurd (omega arith)
+below_at (o ∷ os) zero d up lt = tt
+below_at (o ∷ os) (suc i) d up lt = (all_at (λ p. o.seq < p.seq) os i d up.0 (omega arith), below_at os i d up.1 (omega arith))
+
+behind : (b : Bool) (o : Op) (l : Option Op) → IfSome l (λ q. q.seq < o.seq) → (if b then raised o.seq (option_map (λ p. p.seq) l) else option_map (λ p. p.seq) l) ≡ option_map (λ p. p.seq) (if b then Some o else l)
+behind true o None lt = refl
+behind true o (Some q) lt = ap Some (omega (arith, lt))
+behind false o l lt = refl
+
+pub latest-push : (os : List Op) (o : Op) (id : Id) (n : Option ℕ) → AllByRecursion (λ p. p.seq < o.seq) os → n ≡ option_map (λ p. p.seq) (last_on os id)
+    → (if is_on id o then raised o.seq n else n) ≡ option_map (λ p. p.seq) (last_on (os ++ o ∷ []) id)
+latest-push os o id n below is =
+    ap (λ m. if is_on id o then raised o.seq m else m) is
+    ∙ behind (is_on id o) o (last_on os id) (last_has (λ p. p.seq < o.seq) os id below)
+    ∙ sym (ap (option_map (λ p. p.seq)) (last_on-push os o id))
 
 -- an operation whose number is there is not added
 pub there : (os : List Op) (o : Op) (at : ℕ) → suc at ≤ length os → slice_get os at ≡ op_at os o.seq → os ≡ add os o

@@ -1,11 +1,12 @@
 -- Operations that are found by number and by id.
-use Rattle.std.specs.Prelude.{◌≡◌, ℕ, List, [], ◌∷◌, Option, Some, option_map, if◌then◌else◌, string_bytes}
-use Rattle.std.specs.declared.string.String.{String}
+use Rattle.std.specs.Prelude.{◌≡◌, ℕ, List, [], ◌∷◌, Option, None, Some, max, option_map, if◌then◌else◌}
+use Rattle.std.specs.HashMap.{HashMap, get_by}
 use Rattle.doc.specs.Id.{Id, is_id}
 use Rattle.op.specs.declared.operation.Op.{Op}
 use Rattle.op.specs.declared.record.Record.{Record}
 use Rattle.op.specs.declared.record.Record.TheVariants.{Op as Kept, Resync, Recover}
 use Rattle.op.specs.Operations.{IsAscending, last_on, local_count}
+use Rattle.engine.specs.declared.id_key.IdKey.{IdKey}
 
 -- beside operations in order: at each id the number of the last on it, and how many are there from number 0 up without a gap
 pub record IsIndexed (os : List Op) (latest : Id → Option ℕ) (local : ℕ) : Type 0 where
@@ -20,7 +21,16 @@ operations_in (Kept g o ∷ rs) = o ∷ operations_in rs
 operations_in (Resync term g tail ∷ rs) = operations_in rs
 operations_in (Recover term all ∷ rs) = operations_in rs
 
+-- the number at an id
+abbrev pub number_at : {S : Type 0} → HashMap IdKey ℕ S → Id → Option ℕ
+number_at latest id = get_by (λ k. is_id id k.0) latest
+
+-- what is at an id where n was, after m is noted there: the greater of the two
+abbrev pub raised : ℕ → Option ℕ → Option ℕ
+raised m None = Some m
+raised m (Some n) = Some (max m n)
+
 -- the number at an id where n was, after each of these is noted at its own in turn
-abbrev pub noted : {Y : Type 0} → List (String Y × ℕ) → Id → Option ℕ → Option ℕ
+abbrev pub noted : List (Id × ℕ) → Id → Option ℕ → Option ℕ
 noted [] id n = n
-noted (p ∷ ps) id n = noted ps id (if is_id id (string_bytes p.0) then Some p.1 else n)
+noted (p ∷ ps) id n = noted ps id (if is_id id p.0 then Some p.1 else n)

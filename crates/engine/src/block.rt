@@ -8,6 +8,7 @@ ghost use Rattle.doc.specs.Id.{Id, id_cmp, is_id};
 ghost use Rattle.op.specs.Documents.{Document};
 ghost use Rattle.query.specs.View.{query_view};
 ghost use Rattle.marks.specs.Lists.{zip_with, places};
+ghost use Rattle.segment.specs.Builds.{Builds};
 ghost use Rattle.engine.specs.Answer.{is_found};
 ghost use Rattle.engine.specs.Entry.{entry_view};
 ghost use Rattle.engine.specs.Parts.{is_among};
@@ -86,16 +87,20 @@ impl Model for Block {
 
 impl Block {
     /// The documents of entries, read under the mapping.
-    pub(crate) fn of(
+    pub(crate) fn of<
+        F: Fn(Global, &Arc<Mapping, Global>, Vec<Source>) -> Result<Segment, AllocError>,
+    >(
+        builder: &F,
         alloc: Global,
         mapping: &Arc<Mapping, Global>,
         entries: &[Entry<'_>],
     ) -> Result<Block, AllocError>
-        requires { is_sorted id_cmp (map entry_view entries.now) ≡ true }
+        requires builds { Builds F.Fn builder.now }
+        requires sorted { is_sorted id_cmp (map entry_view entries.now) ≡ true }
         ensures { IfOk result (λ b. b ≡ record { mapping = arc_value mapping.now; documents = map entry_view entries.entry.now }) }
     {
         let documents = shown_of(alloc, entries)?;
-        let segment = segment_of(alloc, mapping, entries)?;
+        let segment = segment_of(builder, alloc, mapping, entries)?;
         Ok(Block { documents, segment })
     }
 
@@ -114,6 +119,13 @@ impl Block {
     {
         self.segment.mapping().is(other.segment.mapping())
             && are_same(&self.documents, &other.documents)
+    }
+
+    /// Whether its documents are those of the entries.
+    pub(crate) fn is_of(&self, entries: &[Entry<'_>]) -> bool
+        ensures { result ≡ true → self.now.documents ≡ map entry_view entries.entry.now }
+    {
+        are_of(&self.documents, entries)
     }
 
     /// Whether its documents were read under the mapping.
@@ -265,6 +277,31 @@ fn is_same(left: &Shown, right: &Shown) -> bool
         && left.source.is(&right.source)
 }
 
+/// Whether documents are those of entries.
+fn are_of(documents: &[Shown], entries: &[Entry<'_>]) -> bool
+    ensures { result ≡ true → map shown_view documents.now ≡ map entry_view entries.entry.now }
+{
+    if documents.len() != entries.len() {
+        return false;
+    }
+    for at in 0..entries.len() {
+        if !is_entry(&documents[at], &entries[at]) {
+            return false;
+        }
+    }
+    true
+}
+
+fn is_entry(document: &Shown, entry: &Entry<'_>) -> bool
+    ensures { result ≡ true → shown_view document.now ≡ entry_view entry.entry.now }
+{
+    document.seq == entry.seq
+        && document.term == entry.term
+        && document.version == entry.version
+        && document.id.is(entry.id)
+        && document.source.is(entry.source)
+}
+
 /// The place of the document with the id, or where it would go.
 fn place_of(documents: &[Shown], id: &DocId) -> Result<usize, usize>
     requires { is_sorted id_cmp (map shown_view documents.now) ≡ true }
@@ -322,18 +359,20 @@ fn shown_of(alloc: Global, entries: &[Entry<'_>]) -> Result<Vec<Shown>, AllocErr
 }
 
 /// The segment of the sources of entries. Of 2^32 or more there is none.
-fn segment_of(
+fn segment_of<F: Fn(Global, &Arc<Mapping, Global>, Vec<Source>) -> Result<Segment, AllocError>>(
+    builder: &F,
     alloc: Global,
     mapping: &Arc<Mapping, Global>,
     entries: &[Entry<'_>],
 ) -> Result<Segment, AllocError>
+    requires { Builds F.Fn builder.now }
     ensures { IfOk result (λ s. s ≡ record { mapping = arc_value mapping.now; sources = map (λ e. e.source.now) entries.entry.now }) }
 {
     let sources = sources_of(alloc, entries)?;
     if sources.len() >= MAX_DOCUMENTS {
         return Err(AllocError);
     }
-    let segment = Segment::build(alloc, mapping, sources)?;
+    let segment = builder(alloc, mapping, sources)?;
     Ok(segment)
 }
 

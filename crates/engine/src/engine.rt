@@ -9,6 +9,7 @@ ghost use Rattle.op.specs.Records.{IsRecord, operations, shown};
 ghost use Rattle.engine.specs.Applied.{applied_of, records_after, RiseFrom};
 ghost use Rattle.engine.specs.Found.{found_document};
 ghost use Rattle.engine.specs.Last.{last_of};
+ghost use Rattle.segment.specs.Builds.{Builds};
 ghost use Rattle.engine.specs.Contents.{contents_of, segments_of};
 ghost use Rattle.engine.specs.Live.{changed_live, changed_segments, is_live, live_of, small_count, woven, AreLive, FitOneMerge};
 ghost use Rattle.engine.specs.Published.{next_after, numbered, taken_of, AreBelow, AreGone, IsFronted, IsSwapped};
@@ -16,15 +17,18 @@ ghost use Rattle.engine.specs.SnapshotChange.{changed, is_written, next_segment,
 ghost use Rattle.engine.specs.Staged.{put_in, records_of, IsStagedFrom};
 
 use crate::ahead::Ahead;
+use crate::block::Block;
 use crate::documents::documents_at;
 use crate::history::{Applied, Found, History};
 use crate::listed::Listed;
+use crate::ready::MANY;
 use crate::showing::Showing;
 use crate::snapshot::Snapshot;
 use crate::staged::{SnapshotChange, Staged};
 use crate::swapping::{Merged, Merging};
-use doc::{DocId, Mapping};
+use doc::{DocId, Mapping, Source};
 use op::{Body, Op, Record};
+use segment::Segment;
 use std::alloc::{AllocError, Global};
 use std::marker::Model;
 use std::snapshot::Snapshot as Seen;
@@ -46,6 +50,8 @@ pub struct Engine {
     history: History,
     showing: Showing,
     point: usize,
+    /// What was built for the next refresh. Contracts don't see it.
+    ready: Option<Arc<Block, Global>>,
 }
 
 impl Drop for Engine {
@@ -55,6 +61,7 @@ impl Drop for Engine {
             history: _history,
             showing: _showing,
             point: _,
+            ready: _ready,
         } = self;
     }
 }
@@ -91,16 +98,40 @@ impl Engine {
           next = 1;
         }) }
     {
+        Engine::open_with(&Segment::build, alloc, mapping, records)
+    }
+
+    /// The same; the segment is built by the builder.
+    pub fn open_with<
+        F: Fn(Global, &Arc<Mapping, Global>, Vec<Source>) -> Result<Segment, AllocError>,
+    >(
+        builder: &F,
+        alloc: Global,
+        mapping: Mapping,
+        records: Vec<Record>,
+    ) -> Result<Engine, AllocError>
+        requires builds { Builds F.Fn builder.now }
+        requires records { All IsRecord records.items }
+        ensures { IfOk result (λ e. e ≡ record {
+          mapping = mapping;
+          records = records.items;
+          point = length records.items;
+          published = (record { number = 0; mapping = mapping; documents = documents (operations records.items) }) ∷ [];
+          live = documents (operations records.items) ∷ [];
+          next = 1;
+        }) }
+    {
         let mapping = Arc::new(alloc, mapping)?;
         let mut history = History::of(alloc, records)?;
         history.forget();
-        let showing = Showing::of(alloc, &mapping, 0, history.operations())?;
+        let showing = Showing::of(builder, alloc, &mapping, 0, history.operations())?;
         let point = history.len();
         Ok(Engine {
             mapping,
             history,
             showing,
             point,
+            ready: None,
         })
     }
 
@@ -198,6 +229,7 @@ impl Engine {
         let mut reopened = History::of(alloc, records)?;
         reopened.forget();
         let showing = Showing::of(
+            &Segment::build,
             alloc,
             &self.mapping,
             self.showing.next(),
@@ -223,12 +255,44 @@ impl Engine {
     {
         let Some(ids) = self.history.ids_since(alloc, self.point)? else {
             let next = self.showing.next();
-            let showing = Showing::of(alloc, &self.mapping, next, self.history.operations())?;
+            let operations = self.history.operations();
+            let showing = Showing::of(&Segment::build, alloc, &self.mapping, next, operations)?;
             return Ok(showing);
         };
         let entries = documents_at(alloc, &self.history, &ids)?;
-        let showing = self.showing.with(alloc, &ids, &entries)?;
+        let showing = self.showing.with(alloc, &self.ready, &ids, &entries)?;
         Ok(showing)
+    }
+
+    /// Has the builder build what the next refresh shows, where that is much. A refresh takes it if nothing was written since. Nothing else changes.
+    pub fn build_ahead<
+        F: Fn(Global, &Arc<Mapping, Global>, Vec<Source>) -> Result<Segment, AllocError>,
+    >(&mut self, builder: &F, alloc: Global) -> Result<(), AllocError>
+        requires { Builds F.Fn builder.now }
+        ensures { self.new ≡ self.old }
+    {
+        let ready = self.built(builder, alloc)?;
+        self.ready = ready;
+        Ok(())
+    }
+
+    /// The documents of the ids that changed, where there are many.
+    fn built<F: Fn(Global, &Arc<Mapping, Global>, Vec<Source>) -> Result<Segment, AllocError>>(
+        &self,
+        builder: &F,
+        alloc: Global,
+    ) -> Result<Option<Arc<Block, Global>>, AllocError>
+        requires { Builds F.Fn builder.now }
+    {
+        let Some(ids) = self.history.ids_since(alloc, self.point)? else {
+            return Ok(None);
+        };
+        let entries = documents_at(alloc, &self.history, &ids)?;
+        if entries.len() < MANY {
+            return Ok(None);
+        }
+        let block = Block::of(builder, alloc, &self.mapping, &entries)?;
+        Ok(Some(Arc::new(alloc, block)?))
     }
 
     /// Makes a change that is ready for this engine, as it was made ready last: no segment has come or gone since, and no record has come. It takes no memory.
@@ -250,6 +314,7 @@ impl Engine {
         self.history.forget();
         self.showing = showing;
         self.point = point;
+        self.ready = None;
     }
 
     /// Begins a merge of all segments that searches look through, or of none where there is only one, or where one bears the greatest number.

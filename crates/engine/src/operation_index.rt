@@ -1,16 +1,15 @@
 //! The operations of a copy in order of number, found by number and by id without a walk.
-ghost use Rattle.std.specs.Prelude.{◌≡◌, ◌<◌, ◌^◌, ◌&&◌, ℕ, Option, not, Bool, None, Some, [], fold, if◌then◌else◌, IfOk, OnOk, OnErr, false};
+ghost use Rattle.std.specs.Prelude.{◌≡◌, ℕ, Option, None, [], fold, if◌then◌else◌, IfOk, OnOk, OnErr};
 ghost use Rattle.std.specs.Option.{option_copied, option_map, option_or};
-ghost use Rattle.std.specs.HashMap.{get_by_text};
-ghost use Rattle.std.specs.Str.{bytes_eq};
 ghost use Rattle.doc.specs.Id.{Id, is_id};
 ghost use Rattle.op.specs.Operations.{IsAscending, add, is_newer, is_on, is_stale, last_on, local_count, next_seq, op_at};
 ghost use Rattle.op.specs.Records.{IsRecord, after_record};
 ghost use Rattle.engine.specs.Applied as spec;
 ghost use Rattle.engine.specs.Applied.{RiseFrom};
-ghost use Rattle.engine.specs.OperationIndex.{noted, operations_in};
+ghost use Rattle.engine.specs.OperationIndex.{noted, number_at, operations_in, raised};
 
 use crate::history::Applied;
+use crate::id_key::IdKey;
 use crate::operations;
 use doc::DocId;
 use op::{Body, Op, Record, checkpoint};
@@ -18,8 +17,8 @@ use std::alloc::{AllocError, Global};
 use std::collections::HashMap;
 use std::marker::Model;
 
-/// By id, the number of the last operation on it.
-type Latest = HashMap<String, u64>;
+/// By id, the number of the last operation on it. Each key shares the text of an operation's id.
+type Latest = HashMap<IdKey, u64>;
 
 /// Operations in ascending order of their numbers.
 pub(crate) struct OperationIndex {
@@ -40,15 +39,14 @@ impl Drop for OperationIndex {
 
 impl Model for OperationIndex {
     ghost use Rattle.std.specs.Prelude.{List};
-    ghost use Rattle.std.specs.HashMap.{get_by_text};
     ghost use Rattle.op.specs.declared.operation.Op.{Op};
-    ghost use Rattle.engine.specs.OperationIndex.{IsIndexed};
+    ghost use Rattle.engine.specs.OperationIndex.{IsIndexed, number_at};
 
     ghost Value = { List Op };
 
     ghost view = { λ i. i.operations.items };
 
-    ghost invariant = { λ i. IsIndexed i.operations.items (λ id. get_by_text i.latest id) i.local };
+    ghost invariant = { λ i. IsIndexed i.operations.items (λ id. number_at i.latest id) i.local };
 }
 
 impl OperationIndex {
@@ -101,12 +99,24 @@ impl OperationIndex {
         }
     }
 
+    /// The number of the last operation on the id.
+    fn number_on(&self, id: &DocId) -> Option<u64>
+        ensures number { result ≡ option_map (λ o. o.seq) (last_on self.now id.now) }
+        ensures ascending { IsAscending self.now }
+    {
+        match id.copy(*self.operations.allocator()) {
+            Ok(shared) => self.latest.get(&IdKey(shared)).copied(),
+            // The text has as many owners as can be counted.
+            Err(_) => operations::last_number_on(&self.operations, id),
+        }
+    }
+
     /// The last operation on the id.
     pub(crate) fn last_on(&self, id: &DocId) -> Option<&Op>
         ensures { option_copied result ≡ last_on self.now id.now }
     {
-        match self.latest.get(id.as_str()) {
-            Some(seq) => self.op_at(*seq),
+        match self.number_on(id) {
+            Some(seq) => self.op_at(seq),
             None => None,
         }
     }
@@ -115,8 +125,8 @@ impl OperationIndex {
     fn has_newer(&self, id: &DocId, seq: u64) -> bool
         ensures { result ≡ is_newer (last_on self.now id.now) seq }
     {
-        match self.latest.get(id.as_str()) {
-            Some(last) => seq < *last,
+        match self.number_on(id) {
+            Some(last) => seq < last,
             None => false,
         }
     }
@@ -193,11 +203,10 @@ impl OperationIndex {
         match operations::place_of(&self.operations, op.seq) {
             Ok(_) => Ok(()),
             Err(at) => {
-                let stale = self.is_stale(op);
                 let local = operations::local_count_with(&self.operations, self.local, op);
                 let copy = op.copy(alloc)?;
                 self.operations.reserve(1)?;
-                note(alloc, &mut self.latest, op, stale)?;
+                note(alloc, &mut self.latest, op)?;
                 self.operations.insert(at, copy)?;
                 self.local = local;
                 Ok(())
@@ -237,14 +246,14 @@ fn copied(alloc: Global, records: &[Record]) -> Result<Vec<Op>, AllocError>
 }
 
 /// The ids of operations, each with its number.
-fn numbers_of(alloc: Global, operations: &[Op]) -> Result<Vec<(String, u64)>, AllocError>
+fn numbers_of(alloc: Global, operations: &[Op]) -> Result<Vec<(DocId, u64)>, AllocError>
     ensures { IfOk result (λ v. (id : Id) (n : Option ℕ) → noted v.items id n ≡ option_or (option_map (λ o. o.seq) (last_on operations.now id)) n) }
 {
     let mut numbers = Vec::new(alloc);
     for op in operations {
         match &op.body {
-            Body::Index(id, _) => numbers.push((String::from_str(alloc, id.as_str())?, op.seq))?,
-            Body::Delete(id) => numbers.push((String::from_str(alloc, id.as_str())?, op.seq))?,
+            Body::Index(id, _) => numbers.push((id.copy(alloc)?, op.seq))?,
+            Body::Delete(id) => numbers.push((id.copy(alloc)?, op.seq))?,
             Body::NoOp => {}
         }
     }
@@ -252,59 +261,48 @@ fn numbers_of(alloc: Global, operations: &[Op]) -> Result<Vec<(String, u64)>, Al
 }
 
 /// Notes numbers at ids in turn, all of them or, where memory is wanting, none.
-fn note_all(latest: &mut Latest, numbers: Vec<(String, u64)>) -> Result<(), AllocError>
-    ensures ok { OnOk result ((id : Id) → get_by_text latest.new id ≡ noted numbers.items id (get_by_text latest.old id)) }
-    ensures err { OnErr result ((id : Id) → get_by_text latest.new id ≡ get_by_text latest.old id) }
+fn note_all(latest: &mut Latest, numbers: Vec<(DocId, u64)>) -> Result<(), AllocError>
+    ensures ok { OnOk result ((id : Id) → number_at latest.new id ≡ noted numbers.items id (number_at latest.old id)) }
+    ensures err { OnErr result ((id : Id) → number_at latest.new id ≡ number_at latest.old id) }
 {
     latest.reserve(numbers.len())?;
     for (id, seq) in numbers {
-        latest.insert(id, seq)?;
+        latest.insert(IdKey(id), seq)?;
     }
     Ok(())
 }
 
 /// By id, the number of the last of these operations.
 fn latest_of(alloc: Global, operations: &[Op]) -> Result<Latest, AllocError>
-    ensures { IfOk result (λ m. (id : Id) → get_by_text m id ≡ option_map (λ o. o.seq) (last_on operations.now id)) }
+    requires { IsAscending operations.now }
+    ensures { IfOk result (λ m. (id : Id) → number_at m id ≡ option_map (λ o. o.seq) (last_on operations.now id)) }
 {
     let mut latest = HashMap::new(alloc);
     for op in operations {
-        note(alloc, &mut latest, op, false)?;
+        note(alloc, &mut latest, op)?;
     }
     Ok(latest)
 }
 
-/// Notes the number of an operation at its id, unless it is stale.
-fn note(alloc: Global, latest: &mut Latest, op: &Op, stale: bool) -> Result<(), AllocError>
-    ensures ok { OnOk result ((id : Id) → get_by_text latest.new id ≡ (if is_on id op.now && not stale then Some op.now.seq else get_by_text latest.old id)) }
-    ensures err { OnErr result ((id : Id) → get_by_text latest.new id ≡ get_by_text latest.old id) }
+/// Notes the number of an operation at its id, unless a greater one is there.
+fn note(alloc: Global, latest: &mut Latest, op: &Op) -> Result<(), AllocError>
+    ensures ok { OnOk result ((id : Id) → number_at latest.new id ≡ (if is_on id op.now then raised op.now.seq (number_at latest.old id) else number_at latest.old id)) }
+    ensures err { OnErr result ((id : Id) → number_at latest.new id ≡ number_at latest.old id) }
 {
-    if stale {
-        return Ok(());
-    }
     match &op.body {
-        Body::Index(id, _) => {
-            set(alloc, latest, id.as_str(), op.seq)?;
-            Ok(())
-        }
-        Body::Delete(id) => {
-            set(alloc, latest, id.as_str(), op.seq)?;
-            Ok(())
-        }
+        Body::Index(id, _) => raise(alloc, latest, id, op.seq),
+        Body::Delete(id) => raise(alloc, latest, id, op.seq),
         Body::NoOp => Ok(()),
     }
 }
 
-/// Sets the number at an id.
-fn set(alloc: Global, latest: &mut Latest, id: &str, seq: u64) -> Result<(), AllocError>
-    ensures here { OnOk result (get_by_text latest.new id.now ≡ Some seq) }
-    ensures others { OnOk result ((w : Id) → bytes_eq id.now w ≡ false → get_by_text latest.new w ≡ get_by_text latest.old w) }
-    ensures err { OnErr result ((w : Id) → get_by_text latest.new w ≡ get_by_text latest.old w) }
+/// Raises the number at an id to this one.
+fn raise(alloc: Global, latest: &mut Latest, id: &DocId, seq: u64) -> Result<(), AllocError>
+    ensures ok { OnOk result ((w : Id) → number_at latest.new w ≡ (if is_id w id.now then raised seq (number_at latest.old w) else number_at latest.old w)) }
+    ensures err { OnErr result ((w : Id) → number_at latest.new w ≡ number_at latest.old w) }
 {
-    if let Some(last) = latest.get_mut(id) {
-        *last = seq;
-        return Ok(());
-    }
-    latest.insert(String::from_str(alloc, id)?, seq)?;
+    let key = IdKey(id.copy(alloc)?);
+    let last = latest.entry(key)?.or_insert(seq);
+    *last = seq.max(*last);
     Ok(())
 }

@@ -1,12 +1,13 @@
 //! Searches in a list of operations in ascending order of their numbers.
 ghost use Rattle.std.specs.Prelude.{◌≡◌, ◌≤◌, ◌<◌, ◌+◌, ◌^◌, ◌++◌, suc, length, drop, slice_get, None, IfOk, IfErr, OnOk, OnErr};
-ghost use Rattle.std.specs.Option.{option_copied};
+ghost use Rattle.std.specs.Option.{option_copied, option_map};
 ghost use Rattle.op.specs.Operations.{IsAscending, op_at, add, below, from_number, last_on, local_count, next_seq, reached, is_stale};
 ghost use Rattle.op.specs.Records.{after_record};
 ghost use Rattle.op.specs.Checkpoint.{checkpoint_of};
 ghost use Rattle.engine.specs.Place.{IsGap};
 ghost use Rattle.engine.specs.Applied as spec;
 
+use doc::DocId;
 use op::{Op, Operations};
 use std::alloc::{AllocError, Global};
 
@@ -18,6 +19,19 @@ pub(crate) fn place_of(operations: &[Op], seq: u64) -> Result<usize, usize>
     ensures absent { IfErr result (λ at. IsGap operations.now seq at) }
 {
     operations.binary_search_by_key(&seq, |op| op.seq)
+}
+
+/// The number of the last operation on the id.
+pub(crate) fn last_number_on(operations: &[Op], id: &DocId) -> Option<u64>
+    ensures { result ≡ option_map (λ o. o.seq) (last_on operations.now id.now) }
+{
+    let mut last = None;
+    for op in operations {
+        if op.is_on(id) {
+            last = Some(op.seq);
+        }
+    }
+    last
 }
 
 /// The first operations up to a number, and the tail of a resync.

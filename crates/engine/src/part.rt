@@ -6,6 +6,7 @@ ghost use Rattle.doc.specs.Id.{id_cmp};
 ghost use Rattle.query.specs.Query.{match_all};
 ghost use Rattle.query.specs.View.{query_view};
 ghost use Rattle.marks.specs.Lists.{zip_with, places};
+ghost use Rattle.segment.specs.Builds.{Builds};
 ghost use Rattle.engine.specs.Answer.{is_found};
 ghost use Rattle.engine.specs.Entry.{entry_view};
 ghost use Rattle.engine.specs.Shown.{seen};
@@ -13,10 +14,11 @@ ghost use Rattle.engine.specs.Parts.{published_of, without};
 
 use crate::block::{Block, Shown};
 use crate::documents::Entry;
-use doc::{DocId, Mapping};
+use doc::{DocId, Mapping, Source};
 use marks::Marks;
 use query::Query;
 use search::FoundPlaces;
+use segment::Segment;
 use std::alloc::{AllocError, Global};
 use std::marker::Model;
 use std::sync::Arc;
@@ -77,19 +79,34 @@ pub(crate) struct PartHits<'a> {
 
 impl Part {
     /// The documents of entries, all live.
-    pub(crate) fn of(
+    pub(crate) fn of<
+        F: Fn(Global, &Arc<Mapping, Global>, Vec<Source>) -> Result<Segment, AllocError>,
+    >(
+        builder: &F,
         alloc: Global,
         mapping: &Arc<Mapping, Global>,
         number: u64,
         entries: &[Entry<'_>],
     ) -> Result<Part, AllocError>
-        requires { is_sorted id_cmp (map entry_view entries.now) ≡ true }
+        requires builds { Builds F.Fn builder.now }
+        requires sorted { is_sorted id_cmp (map entry_view entries.now) ≡ true }
         ensures { IfOk result (λ p. p ≡ record { mapping = arc_value mapping.now; documents = map entry_view entries.entry.now; number = number; built = map entry_view entries.entry.now }) }
     {
-        let block = Block::of(alloc, mapping, entries)?;
+        let block = Block::of(builder, alloc, mapping, entries)?;
+        let block = Arc::new(alloc, block)?;
+        Part::over(alloc, number, block)
+    }
+
+    /// The documents of a block, all live.
+    pub(crate) fn over(
+        alloc: Global,
+        number: u64,
+        block: Arc<Block, Global>,
+    ) -> Result<Part, AllocError>
+        ensures { IfOk result (λ p. p ≡ record { mapping = (arc_value block).mapping; documents = (arc_value block).documents; number = number; built = (arc_value block).documents }) }
+    {
         let live_len = block.len();
         let live = Marks::all(alloc, live_len)?;
-        let block = Arc::new(alloc, block)?;
         let live = Arc::new(alloc, live)?;
         Ok(Part {
             number,

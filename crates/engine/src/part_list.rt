@@ -5,6 +5,7 @@ ghost use Rattle.std.specs.FinMap.Entries.{is_sorted};
 ghost use Rattle.doc.specs.Id.{Id, id_cmp};
 ghost use Rattle.query.specs.View.{query_view};
 ghost use Rattle.op.specs.Documents.{documents};
+ghost use Rattle.segment.specs.Builds.{Builds};
 ghost use Rattle.engine.specs.Answer.{is_found};
 ghost use Rattle.engine.specs.Entry.{entry_view};
 ghost use Rattle.engine.specs.Parts.{all_published, documents_of_parts, has_id, is_among, is_living, merged, without, woven, AllInOrder, AreParts};
@@ -13,16 +14,18 @@ ghost use Rattle.engine.specs.Published.{numbered, AreDistinct, AreGone, IsRepla
 ghost use Rattle.engine.specs.Before.{first_of_each};
 ghost use Rattle.engine.specs.Shown.{seen_all};
 
-use crate::block::Shown;
+use crate::block::{Block, Shown};
 use crate::choosing::{FEW_SMALL, count_small, parts_numbered, push_if, smallest_numbers};
 use crate::documents::{Entry, documents_of};
 use crate::merging::{merge, merge_owned};
 use crate::paging::{behind, find_pivot, page_behind};
 use crate::part::{Part, Share};
+use crate::ready::part_of;
 use crate::swapping::{Halves, part_showing, split};
-use doc::{DocId, Mapping};
+use doc::{DocId, Mapping, Source};
 use op::Op;
 use query::Query;
+use segment::Segment;
 use std::alloc::{AllocError, Global};
 use std::marker::Model;
 use std::sync::Arc;
@@ -75,12 +78,16 @@ impl PartList {
     ghost use Rattle.std.specs.Prelude.{◌∷◌, [], false};
 
     /// The documents that operations in ascending order make, in one part of this number.
-    pub(crate) fn of(
+    pub(crate) fn of<
+        F: Fn(Global, &Arc<Mapping, Global>, Vec<Source>) -> Result<Segment, AllocError>,
+    >(
+        builder: &F,
         alloc: Global,
         mapping: Arc<Mapping, Global>,
         number: u64,
         operations: &[Op],
     ) -> Result<PartList, AllocError>
+        requires { Builds F.Fn builder.now }
         ensures { IfOk result (λ l. l ≡ record {
           mapping = arc_value mapping;
           documents = documents operations.now;
@@ -89,7 +96,7 @@ impl PartList {
         }) }
     {
         let entries = documents_of(alloc, operations)?;
-        let part = Part::of(alloc, &mapping, number, &entries)?;
+        let part = Part::of(builder, alloc, &mapping, number, &entries)?;
         let mut parts = Vec::new(alloc);
         parts.push(part)?;
         Ok(PartList { mapping, parts })
@@ -157,6 +164,7 @@ impl PartList {
     pub(crate) fn with(
         &self,
         alloc: Global,
+        ready: &Option<Arc<Block, Global>>,
         number: u64,
         ids: &[DocId],
         entries: &[Entry<'_>],
@@ -175,7 +183,7 @@ impl PartList {
         if parts.len() >= MOST_PARTS {
             return Err(AllocError);
         }
-        let part = Part::of(alloc, &self.mapping, number, entries)?;
+        let part = part_of(alloc, &self.mapping, ready, number, entries)?;
         parts.insert(0, part)?;
         living(alloc, &self.mapping, &parts)
     }
@@ -186,7 +194,7 @@ impl PartList {
         ensures documents { IfOk result (λ p. p.documents ≡ self.now.documents) }
     {
         let entries = entries_of_parts(alloc, &self.parts)?;
-        Part::of(alloc, &self.mapping, 0, &entries)
+        Part::of(&Segment::build, alloc, &self.mapping, 0, &entries)
     }
 
     /// The same with one part of this number in place of those that were taken and are there still, unless none is. It shows what is live in them, by a

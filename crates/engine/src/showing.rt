@@ -4,19 +4,22 @@ ghost use Rattle.std.specs.Arc.{arc_value};
 ghost use Rattle.std.specs.FinMap.Entries.{is_sorted};
 ghost use Rattle.doc.specs.Id.{Id, id_cmp};
 ghost use Rattle.op.specs.Documents.{documents};
+ghost use Rattle.segment.specs.Builds.{Builds};
 ghost use Rattle.engine.specs.Contents.{segments_shown};
 ghost use Rattle.engine.specs.Entry.{entry_view};
 ghost use Rattle.engine.specs.Parts.{has_id, is_among, merged, shown_through, without, IsMade};
 ghost use Rattle.engine.specs.Live.{changed_live, changed_segments, is_live, live_of, small_count, woven, FitOneMerge};
 ghost use Rattle.engine.specs.Published.{are_taken, next_after, numbered, taken_of, AreBelow, AreDistinct, AreGone, IsSwapped};
 
+use crate::block::Block;
 use crate::documents::Entry;
 use crate::part::Part;
 use crate::part_list::PartList;
 use crate::snapshot::Snapshot;
 use crate::swapping::{Merged, Merging};
-use doc::{DocId, Mapping};
+use doc::{DocId, Mapping, Source};
 use op::Op;
+use segment::Segment;
 use std::alloc::{AllocError, Global};
 use std::marker::Model;
 use std::sync::Arc;
@@ -52,12 +55,16 @@ impl Model for Showing {
 
 impl Showing {
     /// The documents that operations in ascending order make, in one part of this number.
-    pub(crate) fn of(
+    pub(crate) fn of<
+        F: Fn(Global, &Arc<Mapping, Global>, Vec<Source>) -> Result<Segment, AllocError>,
+    >(
+        builder: &F,
         alloc: Global,
         mapping: &Arc<Mapping, Global>,
         number: u64,
         operations: &[Op],
     ) -> Result<Showing, AllocError>
+        requires { Builds F.Fn builder.now }
         ensures { IfOk result (λ s. s ≡ record {
           snapshot = record { mapping = arc_value mapping.now; documents = documents operations.now };
           published = (record { number = number; mapping = arc_value mapping.now; documents = documents operations.now }) ∷ [];
@@ -66,7 +73,7 @@ impl Showing {
         }) }
     {
         let mapping = Arc::try_clone(mapping)?;
-        let parts = PartList::of(alloc, mapping, number, operations)?;
+        let parts = PartList::of(builder, alloc, mapping, number, operations)?;
         shown(alloc, parts, number.saturating_add(1))
     }
 
@@ -101,6 +108,7 @@ impl Showing {
     pub(crate) fn with(
         &self,
         alloc: Global,
+        ready: &Option<Arc<Block, Global>>,
         ids: &[DocId],
         entries: &[Entry<'_>],
     ) -> Result<Showing, AllocError>
@@ -111,7 +119,7 @@ impl Showing {
         ensures live { IfOk result (λ s. s.live ≡ filter is_live (changed_live (is_among ids.now) (record { number = self.now.next; mapping = self.now.snapshot.mapping; documents = map entry_view entries.entry.now }) self.now.live)) }
         ensures rises { IfOk result (λ s. self.now.next ≤ s.next) }
     {
-        let parts = self.parts.with(alloc, self.next, ids, entries)?;
+        let parts = self.parts.with(alloc, ready, self.next, ids, entries)?;
         shown(alloc, parts, self.next.saturating_add(1))
     }
 

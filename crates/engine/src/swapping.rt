@@ -10,6 +10,7 @@ use crate::documents::Entry;
 use crate::part::Part;
 use crate::part_list::{PartList, entries_of_parts};
 use doc::{DocId, Mapping};
+use segment::Segment;
 use std::alloc::{AllocError, Global};
 use std::marker::Model;
 use std::sync::Arc;
@@ -146,7 +147,7 @@ pub(crate) fn part_showing(
             return Ok(part.numbered(number));
         }
     }
-    let part = Part::of(alloc, mapping, number, &live)?;
+    let part = Part::of(&Segment::build, alloc, mapping, number, &live)?;
     Ok(part)
 }
 

@@ -1,18 +1,21 @@
 //! The folder that an index is kept in: its mapping, the log of its master, and those of its copies.
 ghost use Rattle.std.specs.Prelude.{All, IfOk};
 ghost use Rattle.op.specs.Records.{IsRecord};
+ghost use Rattle.segment.specs.Builds.{Builds};
 
 use crate::data_fault::{DataFault, Difference};
 use crate::mapping_file::MappingFile;
-use doc::{DocFault, Mapping};
+use doc::{DocFault, Mapping, Source};
 use master::Master;
 use op::Record;
 use replica::{Birth, Copy, CopyFault};
+use segment::Segment;
 use std::alloc::{AllocError, Global};
 use std::fs;
 use std::fs::{File, OpenFile, OpenOptions, TryLockError};
 use std::io::{Read, Write};
 use std::rt::Files;
+use std::sync::Arc;
 use translog::{FileDevice, LogFault, MemDevice, Translog};
 
 /// The file that is locked while the folder is served.
@@ -41,17 +44,19 @@ pub struct KeptCopy {
     pub lock: File,
 }
 
-/// Opens the index of a folder, and begins one where there is none. With no mapping handed in it is the one that is kept, or an empty one.
-pub fn open_copy<R: Files<File = File> + AllocGlobal>(
-    rt: &R,
-    path: &str,
-    given: Option<&MappingFile>,
-) -> Result<KeptCopy, DataFault> {
+/// Opens the index of a folder, and begins one where there is none. With no mapping handed in it is the one that is kept, or an empty one. The segment that
+/// searches look through is built by the builder.
+pub fn open_copy<
+    R: Files<File = File> + AllocGlobal,
+    F: Fn(Global, &Arc<Mapping, Global>, Vec<Source>) -> Result<Segment, AllocError>,
+>(rt: &R, builder: &F, path: &str, given: Option<&MappingFile>) -> Result<KeptCopy, DataFault>
+    requires { Builds F.Fn builder.now }
+{
     let folder = Folder { rt, path };
     folder.make()?;
     let lock = folder.lock()?;
     let mapping = folder.mapping(given)?;
-    folder.copy(mapping, lock)
+    folder.copy(builder, mapping, lock)
 }
 
 /// A folder whose copies are to be opened: the mapping of its index. No other process serves it while this is held.
@@ -363,7 +368,14 @@ impl<'a, R: Files<File = File> + AllocGlobal> Folder<'a, R> {
     }
 
     /// The copy of the folder, and its master.
-    fn copy(&self, mapping: Mapping, lock: File) -> Result<KeptCopy, DataFault> {
+    fn copy<F: Fn(Global, &Arc<Mapping, Global>, Vec<Source>) -> Result<Segment, AllocError>>(
+        &self,
+        builder: &F,
+        mapping: Mapping,
+        lock: File,
+    ) -> Result<KeptCopy, DataFault>
+        requires { Builds F.Fn builder.now }
+    {
         let alloc = self.rt.alloc();
         if self.has_several()? {
             return Err(DataFault::SeveralCopies);
@@ -374,9 +386,9 @@ impl<'a, R: Files<File = File> + AllocGlobal> Folder<'a, R> {
             Err(refused) => return Err(DataFault::Master(refused.into_fault())),
         };
         let opened = if master.state().term == 1 {
-            self.begun_or_opened(mapping, copy)
+            self.begun_or_opened(builder, mapping, copy)
         } else {
-            opened(alloc, mapping, copy)
+            opened(builder, alloc, mapping, copy)
         };
         match opened {
             Ok(copy) => Ok(KeptCopy { master, copy, lock }),
@@ -385,16 +397,21 @@ impl<'a, R: Files<File = File> + AllocGlobal> Folder<'a, R> {
     }
 
     /// The copy of an index in its first term: a new one where its log has no record.
-    fn begun_or_opened(
+    fn begun_or_opened<
+        F: Fn(Global, &Arc<Mapping, Global>, Vec<Source>) -> Result<Segment, AllocError>,
+    >(
         &self,
+        builder: &F,
         mapping: Mapping,
         device: FileDevice<File>,
-    ) -> Result<Copy<FileDevice<File>>, DataFault> {
+    ) -> Result<Copy<FileDevice<File>>, DataFault>
+        requires { Builds F.Fn builder.now }
+    {
         let alloc = self.rt.alloc();
         if device.len() <= HEADER {
             return begun(alloc, mapping, device);
         }
-        let copy = opened(alloc, mapping.copy(alloc)?, device)?;
+        let copy = opened(builder, alloc, mapping.copy(alloc)?, device)?;
         if copy.point() > 0 {
             return Ok(copy);
         }
@@ -417,12 +434,16 @@ fn begun(
     }
 }
 
-fn opened(
+/// The copy of a log.
+fn opened<F: Fn(Global, &Arc<Mapping, Global>, Vec<Source>) -> Result<Segment, AllocError>>(
+    builder: &F,
     alloc: Global,
     mapping: Mapping,
     device: FileDevice<File>,
-) -> Result<Copy<FileDevice<File>>, DataFault> {
-    match Copy::open(alloc, 1, Birth::First, mapping, device) {
+) -> Result<Copy<FileDevice<File>>, DataFault>
+    requires { Builds F.Fn builder.now }
+{
+    match Copy::open_with(builder, alloc, 1, Birth::First, mapping, device) {
         Ok(copy) => Ok(copy),
         Err(refused) => Err(DataFault::Copy(1, refused.into_fault())),
     }

@@ -70,3 +70,9 @@ pub record IsSwapOf (m : MergeData) (old new : Searched) (is_there : Bool) : Typ
   pub swapped : is_there ≡ true → (m.taken ≡ [] → ⊥) → IsSwapped m.taken old.segments new.segments
   pub none : m.taken ≡ [] → new.segments ≡ old.segments
   pub stays : is_there ≡ false → new.segments ≡ old.segments
+
+-- a merge of many small segments was made and put in place
+pub record HasMergedNext (old new : Searched) : Type 0 where
+  pub merge : MergeData
+  pub is_next : IsNextMerge old.segments merge
+  pub swap : IsSwapOf merge old new true

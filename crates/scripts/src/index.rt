@@ -102,7 +102,8 @@ impl Index {
     pub(crate) fn merge_next(&mut self, alloc: Global, copy: u32) -> Result<(), AllocError>
         ensures { self.new ≡ self.old }
     {
-        self.world.merge_next(alloc, copy)
+        let _is_merged = self.world.merge_next(alloc, copy)?;
+        Ok(())
     }
 
     pub(crate) fn mapping(&self) -> &Mapping

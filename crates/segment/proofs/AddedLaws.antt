@@ -16,11 +16,12 @@ use Rattle.terms.specs.Terms.{terms_by}
 use Rattle.marks.specs.Lists.{marked}
 use Rattle.segment.specs.Added.{making_at, IsAdded, IsAddedOr, AreAdded, IsLong, AreLong, HaveFewPlaces, AreFinished, IsFinishedOr}
 use Rattle.segment.specs.Indexed.{has_term, has_value, column_at, IsColumnOr}
+use Rattle.segment.specs.Joined.{AreMakings, IsColumnOf, IsMakingOr}
 use Rattle.segment.specs.Places.{places_at_long}
 use Rattle.segment.specs.Posted.{IsPosted, IsRoomFor, IsEmptyMaking, set_if}
 use Rattle.segment.specs.declared.column.Column.{Column}
 use Rattle.segment.specs.declared.making.Making.{Making}
-use Rattle.segment.proofs.BuiltLaws.{IsColumnOf, IsColumnOf-all, IsColumnOf-empty, document-more, length-has, length-yes, length-no, number-places}
+use Rattle.segment.proofs.BuiltLaws.{IsColumnOf-all, IsColumnOf-empty, document-more, length-has, length-yes, length-no, number-places}
 use Rattle.segment.proofs.Columns.{no_terms, none_text, none_value, places-none}
 use Rattle.segment.proofs.PostedLaws.{IsPosted-none, IsPosted-trans, length-set_if, set_if-twice, terms_by-append, values_at-append}
 
@@ -122,14 +123,6 @@ pub long-there : (n : ℕ) (ms : Makings) (name : List ℕ) (m : Box Making Glob
 long-there n ms name m marks there = subst (λ (o : Option (Box Making Global)). IfSome (option_map (λ b. b.value) o) (IsLong n)) there (marks name)
 
 -- ---- the documents so far
-
--- a field without a column has no value in any of the documents
-abbrev pub IsMakingOr : Fields → List Values → ℕ → List ℕ → Option Making → Type 0
-IsMakingOr fields docs n name None = All (λ d. values_at name d ≡ []) docs
-IsMakingOr fields docs n name (Some m) = IsColumnOf fields docs name n m
-
-abbrev pub AreMakings : Fields → List Values → ℕ → Makings → Type 0
-AreMakings fields docs n ms = (name : List ℕ) → IsMakingOr fields docs n name (making_at ms name)
 
 -- a column that is begun after documents without a value
 late : (fields : Fields) (docs : List Values) (n : ℕ) (name : List ℕ) (m : Making) → All (λ d. values_at name d ≡ []) docs → IsEmptyMaking n m → IsColumnOf fields docs name n m

@@ -11,6 +11,7 @@ use Rattle.terms.specs.Terms.{terms_at}
 use Rattle.marks.specs.Lists.{marked, places, zip_with}
 use Rattle.segment.specs.Blocks.{AreBlocks}
 use Rattle.segment.specs.Indexed.{has_term, has_value, IsColumn}
+use Rattle.segment.specs.Joined.{IsColumnOf}
 use Rattle.segment.specs.Places.{as_list, places_at_long, one_if}
 use Rattle.segment.specs.Posted.{IsPosted, IsEmptyMaking, IsFinished, places_so_far, with_if, set_if}
 use Rattle.segment.specs.declared.column.Column.{Column}
@@ -19,14 +20,6 @@ use Rattle.segment.proofs.Ahead.{with_if-below}
 use Rattle.segment.proofs.Blocked.{length-marked, marked-append}
 use Rattle.segment.proofs.Steps.{places-push, places-below}
 use Rattle.segment.proofs.Zips.{marked-zip}
-
--- a column in the making that has the documents so far, of n in all
-pub record IsColumnOf (fields : Fields) (docs : List Values) (name : List ℕ) (n : ℕ) (c : Making) : Type 0 where
-  pub has : c.has ≡ marked (replicate n false) (places (has_value name) docs)
-  pub texts : (w : List ℕ) → places_so_far c.texts w ≡ places (has_term fields name (text w)) docs
-  pub longs : (z : ℤ) → places_at_long c.longs z ≡ places (has_term fields name (long z)) docs
-  pub yes : c.yes ≡ marked (replicate n false) (places (has_term fields name (flag true)) docs)
-  pub no : c.no ≡ marked (replicate n false) (places (has_term fields name (flag false)) docs)
 
 pub IsColumnOf-empty : (fields : Fields) (name : List ℕ) (n : ℕ) (c : Making) → IsEmptyMaking n c → IsColumnOf fields [] name n c
 IsColumnOf-empty fields name n c is = record {

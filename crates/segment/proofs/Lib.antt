@@ -18,3 +18,5 @@ pub mod MergedLaws
 pub mod InOrder
 pub mod AddedLaws
 pub mod FinishLaws
+pub mod JoinedLaws
+pub mod PieceLaws

@@ -1,5 +1,7 @@
 pub mod Places
 pub mod Indexed
+pub mod Joined
+pub mod Builds
 pub mod Term
 pub mod Posted
 pub mod Spans

@@ -5,16 +5,15 @@ ghost use Rattle.terms.specs.Terms.{terms_by};
 ghost use Rattle.segment.specs.Added.{AreAdded, AreLong, IsAdded};
 ghost use Rattle.segment.specs.Posted.{IsPosted, IsRoomFor};
 
-use crate::making::Making;
+use crate::making::{Making, Makings};
 use crate::posting::post_values;
 use doc::{FieldValues, Kind, Mapping, Scalar};
 use std::alloc::{AllocError, Global};
-use std::collections::BTreeMap;
 
 /// Adds the document at this place, of so many in all, to the columns of its fields.
 pub(crate) fn add_document(
     alloc: Global,
-    makings: &mut BTreeMap<String, Box<Making>>,
+    makings: &mut Makings,
     mapping: &Mapping,
     fields: &[FieldValues],
     at: u32,
@@ -33,7 +32,7 @@ pub(crate) fn add_document(
 /// Adds the values of one field.
 fn add_field(
     alloc: Global,
-    makings: &mut BTreeMap<String, Box<Making>>,
+    makings: &mut Makings,
     mapping: &Mapping,
     field: &FieldValues,
     at: u32,

@@ -2,18 +2,19 @@
 ghost use Rattle.std.specs.Prelude.{◌<◌, ℕ, ℤ, List, All, IfOk, IfSome, OnOk};
 ghost use Rattle.segment.specs.Added.{making_at, AreFinished, HaveFewPlaces};
 ghost use Rattle.segment.specs.Indexed.{column_at};
+ghost use Rattle.segment.specs.Joined.{ArePut};
 ghost use Rattle.segment.specs.Places.{places_at_long};
 ghost use Rattle.segment.specs.Posted.{IsFinished};
 
 use crate::column::Column;
-use crate::making::Making;
+use crate::making::{Making, Makings};
 use std::alloc::{AllocError, Global};
 use std::collections::BTreeMap;
 
 /// The columns of so many documents.
 pub(crate) fn finish_all(
     alloc: Global,
-    makings: BTreeMap<String, Box<Making>>,
+    makings: Makings,
     len: usize,
 ) -> Result<BTreeMap<String, Box<Column>>, AllocError>
     requires { HaveFewPlaces len makings }
@@ -26,6 +27,21 @@ pub(crate) fn finish_all(
         columns.insert(name, column)?;
     }
     Ok(columns)
+}
+
+/// The same columns with their texts in order.
+pub(crate) fn put_in_order(alloc: Global, makings: Makings) -> Result<Makings, AllocError>
+    ensures { IfOk result (ArePut makings) }
+{
+    let mut left = makings;
+    let mut ordered = BTreeMap::new(alloc);
+    while let Some((name, making)) = left.pop_first() {
+        let mut making = Box::into_inner(making);
+        making.put_in_order(alloc)?;
+        let boxed = Box::new(alloc, making)?;
+        ordered.insert(name, boxed)?;
+    }
+    Ok(ordered)
 }
 
 /// One column.

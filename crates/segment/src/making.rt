@@ -1,15 +1,20 @@
 //! Columns in the making.
-ghost use Rattle.std.specs.Prelude.{◌<◌, ℤ, All, IfOk};
+ghost use Rattle.std.specs.Prelude.{◌≡◌, ◌<◌, ℤ, All, IfOk, OnOk, length};
+ghost use Rattle.segment.specs.Joined.{IsJoined, IsPut};
 ghost use Rattle.segment.specs.Places.{places_at_long};
 ghost use Rattle.segment.specs.Posted.{IsEmptyMaking, IsFinished};
 
 use crate::blocks::blocks_of;
 use crate::column::Column;
-use crate::places::Places;
+use crate::places::{Places, join_longs};
 use crate::texts::Texts;
 use marks::Marks;
 use std::alloc::{AllocError, Global};
 use std::collections::BTreeMap;
+use std::mem;
+
+/// By field, its column in the making.
+pub type Makings = BTreeMap<String, Box<Making>>;
 
 /// The terms of a field in the documents so far.
 #[derive(Drop)]
@@ -36,6 +41,37 @@ impl Making {
             no: Marks::none(alloc, len)?,
             word: String::new(alloc),
         })
+    }
+
+    /// Puts the texts in order.
+    pub(crate) fn put_in_order(&mut self, alloc: Global) -> Result<(), AllocError>
+        ensures { OnOk result (IsPut self.old self.new) }
+    {
+        let texts = mem::replace(&mut self.texts, Texts::Ordered(BTreeMap::new(alloc)));
+        self.texts = Texts::Ordered(texts.in_order(alloc)?);
+        Ok(())
+    }
+
+    /// Adds what later documents have.
+    pub(crate) fn join(&mut self, alloc: Global, later: Making) -> Result<(), AllocError>
+        requires has { length later.has ≡ length self.old.has }
+        requires yes { length later.yes ≡ length self.old.yes }
+        requires no { length later.no ≡ length self.old.no }
+        ensures { OnOk result (IsJoined self.old later self.new) }
+    {
+        let Making {
+            has,
+            texts,
+            longs,
+            yes,
+            no,
+            word: _,
+        } = later;
+        self.has.unite(&has);
+        self.yes.unite(&yes);
+        self.no.unite(&no);
+        join_longs(alloc, &mut self.longs, longs)?;
+        self.texts.join(alloc, texts)
     }
 
     /// The column that it is, of so many documents.

@@ -16,13 +16,14 @@ use crate::blocks::mark_block;
 use crate::column::Column;
 use crate::limits::Limits;
 use crate::term::Term;
-use crate::{building, spans, term};
+use crate::{building, pieces, spans, term};
 use doc::{Mapping, Scalar, Source};
 use marks::Marks;
 use std::alloc::{AllocError, Global};
 use std::collections::BTreeMap;
 use std::marker::Model;
 use std::sync::Arc;
+use std::thread::Threads;
 use terms::Bounds;
 
 /// Going to the list of a number takes about as long as marking so many places.
@@ -70,6 +71,25 @@ impl Segment {
         ensures { IfOk result (λ s. s ≡ record { mapping = arc_value mapping.now; sources = sources.items }) }
     {
         let columns = building::columns_of(alloc, mapping, &sources)?;
+        let mapping = Arc::try_clone(mapping)?;
+        Ok(Segment {
+            mapping,
+            sources,
+            columns,
+        })
+    }
+
+    /// The same, built on threads beside one another where there are many documents.
+    pub fn build_on<R: Threads + Sync>(
+        rt: &R,
+        alloc: Global,
+        mapping: &Arc<Mapping, Global>,
+        sources: Vec<Source>,
+    ) -> Result<Segment, AllocError>
+        requires { length sources.items < 2 ^ 32 }
+        ensures { IfOk result (λ s. s ≡ record { mapping = arc_value mapping.now; sources = sources.items }) }
+    {
+        let columns = pieces::columns_of(rt, alloc, mapping, &sources)?;
         let mapping = Arc::try_clone(mapping)?;
         Ok(Segment {
             mapping,

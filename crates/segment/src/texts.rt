@@ -1,5 +1,5 @@
 //! The texts of a column in the making.
-ghost use Rattle.std.specs.Prelude.{◌≡◌, [], ℕ, List, false, IfOk, OnOk};
+ghost use Rattle.std.specs.Prelude.{◌≡◌, ◌++◌, [], ℕ, List, false, string_bytes, IfOk, OnOk};
 ghost use Rattle.std.specs.Str.{bytes_eq};
 ghost use Rattle.segment.specs.Places.{added, as_list, ends_at, places_at, places_in};
 ghost use Rattle.segment.specs.Posted.{places_so_far};
@@ -7,6 +7,7 @@ ghost use Rattle.segment.specs.Posted.{places_so_far};
 use crate::places::Places;
 use std::alloc::{AllocError, Global};
 use std::collections::{BTreeMap, HashMap};
+use std::mem;
 
 /// The texts of so many documents are found sooner in a table, even if they are put in order after that.
 const LEAST_DOCUMENTS: usize = 64;
@@ -39,6 +40,17 @@ impl Texts {
             Texts::Ordered(texts) => post_in_order(alloc, texts, word, at),
             Texts::Table(texts) => post_in_table(alloc, texts, word, at),
         }
+    }
+
+    /// Adds the later places of each text.
+    pub(crate) fn join(&mut self, alloc: Global, later: Texts) -> Result<(), AllocError>
+        ensures { OnOk result ((w : List ℕ) → places_so_far self.new w ≡ places_so_far self.old w ++ places_so_far later w) }
+    {
+        let before = mem::replace(self, Texts::Ordered(BTreeMap::new(alloc)));
+        let mut texts = before.in_order(alloc)?;
+        join_in_order(alloc, &mut texts, later.in_order(alloc)?)?;
+        *self = Texts::Ordered(texts);
+        Ok(())
     }
 
     /// The same places, in order of the texts.
@@ -90,6 +102,38 @@ fn put_in_order(
 {
     let _unique = texts.len();
     BTreeMap::from_iter(alloc, texts)
+}
+
+/// Adds the later places of each text.
+fn join_in_order(
+    alloc: Global,
+    texts: &mut BTreeMap<String, Places>,
+    later: BTreeMap<String, Places>,
+) -> Result<(), AllocError>
+    ensures { OnOk result ((w : List ℕ) → places_at texts.new w ≡ places_at texts.old w ++ places_at later w) }
+{
+    let mut left = later;
+    while let Some((word, places)) = left.pop_first() {
+        append_at(alloc, texts, word, places)?;
+    }
+    Ok(())
+}
+
+/// Adds the later places of a text.
+fn append_at(
+    alloc: Global,
+    texts: &mut BTreeMap<String, Places>,
+    word: String,
+    later: Places,
+) -> Result<(), AllocError>
+    ensures here { OnOk result (places_at texts.new (string_bytes word) ≡ places_at texts.old (string_bytes word) ++ as_list later) }
+    ensures others { OnOk result ((w : List ℕ) → bytes_eq (string_bytes word) w ≡ false → places_at texts.new w ≡ places_at texts.old w) }
+{
+    if let Some(places) = texts.get_mut(word.as_str()) {
+        return places.append(alloc, later.as_slice());
+    }
+    texts.insert(word, later)?;
+    Ok(())
 }
 
 /// Adds a place, where it isn't the last.

@@ -1,12 +1,17 @@
 //! Connections to an index, many at once.
+ghost use Rattle.std.specs.Prelude.{◌≡◌, ◌<◌, ◌^◌, IfOk, length};
+ghost use Rattle.std.specs.Arc.{arc_value};
 
 use cell::{IndexLabel, IndexName};
 use clients::{Clients, Watcher};
 use cluster::Client;
+use doc::{Mapping, Source};
+use front::{Command, Reply, Service};
 use group::{Chair, Group, Known};
+use segment::Segment;
 use shard::{Desk, HistoryName, Reached, SharedShard};
-use std::alloc::Global;
-use std::sync::Wait;
+use std::alloc::{AllocError, Global};
+use std::sync::{Arc, Wait};
 use std::thread::{Threads, join};
 use std::time::Clock;
 use std::{io, thread};
@@ -63,13 +68,32 @@ where
                 shard,
                 known: shard.begun(),
             };
-            clients.run(rt, lane, desk)
+            clients.run(rt, lane, desk, &|| refresh_one(rt, shard))
         },
     )?;
     for end in ends {
         end?;
     }
     Ok(())
+}
+
+/// Refreshes an index of one copy, and tells whether that was done. A large segment is built on threads.
+fn refresh_one<R, D, N>(rt: &R, shard: &SharedShard<D, N>) -> bool
+where
+    R: Threads + Wait + Sync,
+    D: LogDevice,
+    N: HistoryName,
+{
+    let builder = |alloc: Global, mapping: &Arc<Mapping, Global>, sources: Vec<Source>| -> Result<
+        Segment,
+        AllocError,
+    >
+        requires { length sources.items < 2 ^ 32 }
+        ensures { IfOk result (λ s. s ≡ record { mapping = arc_value mapping.now; sources = sources.items }) }
+    { Segment::build_on(rt, alloc, mapping, sources) };
+    let known = shard.begun();
+    let (reply, _known) = shard.refresh(rt, &builder, &known);
+    !matches!(reply, Reply::Refused(_))
 }
 
 /// An index of several copies: its name and its mapping, and what asks the copies.
@@ -122,13 +146,48 @@ where
                 chair: &chairs[lane % CHAIRS],
                 known: Known::nothing(),
             };
-            clients.run(rt, lane, group)
+            clients.run(
+                rt,
+                lane,
+                group,
+                &|| refresh_all(rt, alloc, index, &chairs[lane % CHAIRS]),
+            )
         },
     )?;
     for end in ends {
         end?;
     }
     Ok(())
+}
+
+/// Copies as one thread has them who knows nothing of their history.
+fn group_of<'a, R: Wait, D: LogDevice, J: IndexName>(
+    rt: &'a R,
+    alloc: Global,
+    index: &Index<'a, D, J>,
+    chair: &'a Chair<J>,
+) -> Group<'a, R, D, J> {
+    Group {
+        rt,
+        alloc,
+        label: index.label,
+        client: index.client,
+        chair,
+        known: Known::nothing(),
+    }
+}
+
+/// Refreshes all copies, and tells whether that was done.
+fn refresh_all<R: Wait, D: LogDevice, J: IndexName>(
+    rt: &R,
+    alloc: Global,
+    index: &Index<'_, D, J>,
+    chair: &Chair<J>,
+) -> bool {
+    let mut group = group_of(rt, alloc, index, chair);
+    let reply = group.call(Command::Refresh);
+    drop(group);
+    !matches!(reply, Reply::Refused(_))
 }
 
 fn chairs_of<R: Wait, D: LogDevice, J: IndexName>(rt: &R, client: &Client<D, J>) -> [Chair<J>; 8] {

@@ -1,18 +1,22 @@
 //! An index of one copy in a folder.
+ghost use Rattle.std.specs.Prelude.{◌≡◌, ◌<◌, ◌^◌, IfOk, length};
+ghost use Rattle.std.specs.Arc.{arc_value};
 
 use crate::fault::ServeFault;
 use crate::listening::listen;
 use crate::opening::OpeningLine;
 use crate::settings::Settings;
+use doc::{Mapping, Source};
 use folder::{DataFault, KeptCopy, MappingFile, open_copy};
 use master::Master;
+use segment::Segment;
 use shard::Shard;
-use std::alloc::Global;
+use std::alloc::{AllocError, Global};
 use std::fs::File;
 use std::io::Write;
 use std::net::{Net, TcpListener, TcpStream};
 use std::rt::Files;
-use std::sync::Wait;
+use std::sync::{Arc, Wait};
 use std::thread::Threads;
 use std::time::Clock;
 use translog::FileDevice;
@@ -44,14 +48,21 @@ where
     )
 }
 
-/// Opens the index of a folder, whose copy then leads, and begins one where there is none.
-fn open_index<R: Files<File = File> + AllocGlobal>(
+/// Opens the index of a folder, whose copy then leads, and begins one where there is none. What searches look through is built on threads.
+fn open_index<R: Files<File = File> + AllocGlobal + Threads + Sync>(
     rt: &R,
     path: &str,
     name: &str,
     given: Option<&MappingFile>,
 ) -> Result<KeptIndex, DataFault> {
-    match open_copy(rt, path, given) {
+    let builder = |alloc: Global, mapping: &Arc<Mapping, Global>, sources: Vec<Source>| -> Result<
+        Segment,
+        AllocError,
+    >
+        requires { length sources.items < 2 ^ 32 }
+        ensures { IfOk result (λ s. s ≡ record { mapping = arc_value mapping.now; sources = sources.items }) }
+    { Segment::build_on(rt, alloc, mapping, sources) };
+    match open_copy(rt, &builder, path, given) {
         Ok(KeptCopy { master, copy, lock }) => match led(rt.alloc(), name, master, copy) {
             Ok(shard) => Ok(KeptIndex { shard, lock }),
             Err(fault) => {

@@ -1,6 +1,8 @@
 //! An index of one copy that several connections share.
 ghost use Rattle.std.specs.Prelude.{◌≡◌, IfOk, IfSome, IsErr, IsTrue};
 ghost use Rattle.std.specs.Arc.{arc_value};
+ghost use Rattle.segment.specs.Builds.{Builds};
+ghost use Rattle.front.specs.Command.{refresh};
 ghost use Rattle.front.specs.CommandView.{command_view};
 ghost use Rattle.front.specs.Reply.{refused};
 ghost use Rattle.front.specs.ReplyView.{reply_view};
@@ -10,11 +12,12 @@ ghost use Rattle.shard.specs.History.{EndsIn, IsDone, IsLooked, IsReplyAt, IsSee
 use crate::answering::{count_of, search_of};
 use crate::history::{Begun, HistoryName, Kept, Label, Reached};
 use crossbeam_channel::{Receiver, Sender, unbounded};
-use doc::Mapping;
+use doc::{Mapping, Source};
 use engine::{Merged, Merging, Snapshot};
 use front::command::Command;
 use front::reply::{Refusal, Reply};
 use front::{Resumable, Service};
+use segment::Segment;
 use std::alloc::{AllocError, Global};
 use std::marker::Model;
 use std::sync::{Arc, Mutex, Wait};
@@ -263,6 +266,23 @@ impl<D: LogDevice, N: HistoryName> SharedShard<D, N> {
         if refreshes {
             self.begin_merge(rt, &*held);
         }
+        told
+    }
+
+    /// Has searches see all that was written, for one who knows so much of the history. A large segment is built by the builder, and all of it while the index is locked.
+    pub fn refresh<
+        R: Wait,
+        F: Fn(Global, &Arc<Mapping, Global>, Vec<Source>) -> Result<Segment, AllocError>,
+    >(&self, rt: &R, builder: &F, known: &Reached<D, N>) -> (Reply, Reached<D, N>)
+        requires { Builds F.Fn builder.now }
+        ensures { IsDone known.now refresh (reply_view result.0) result.1 }
+    {
+        let mut held = self.shard.lock(rt);
+        // Without memory for it now the refresh builds the segment.
+        let _ = held.build_ahead(builder);
+        let told = held.call(known, Command::Refresh);
+        self.show(rt, &*held);
+        self.begin_merge(rt, &*held);
         told
     }
 

@@ -2,15 +2,19 @@
 ghost use Rattle.std.specs.Prelude.{◌≡◌, ◌≤◌, IfOk, IsTrue, IfSome, length, map, string_bytes};
 ghost use Rattle.std.specs.Arc.{arc_value};
 ghost use mathlib.Core.List.{IsPrefix};
+ghost use Rattle.segment.specs.Builds.{Builds};
 ghost use Rattle.front.specs.CommandView.{command_view};
 ghost use Rattle.front.specs.ReplyView.{reply_view};
+ghost use Rattle.replica.specs.Logged.{searched};
+ghost use Rattle.replica.specs.Searched.{IsSwapOf};
 ghost use Rattle.shard.specs.History.{AreUnder, EndsIn, IsDone, IsHistory, DiffersInSegments, IsNext, IsSeenOf};
 
 use crate::shard::Shard;
 use chronicle::{Chronicle, Mark, Writer};
-use doc::Mapping;
+use doc::{Mapping, Source};
 use engine::{Merged, Merging, Snapshot};
 use front::{Command, Reply, Service};
+use segment::Segment;
 use std::alloc::{AllocError, Global};
 use std::marker::{Brand, Model, PhantomData};
 use std::sync::Arc;
@@ -284,11 +288,22 @@ impl<D: LogDevice, N: HistoryName> Kept<D, N> {
     /// Puts a merged segment in place of those that it is made of and that are still there, and tells whether one is. What the index has and shows stays.
     #[tactic(auto, using(crate::proofs::Histories::merged_by, crate::proofs::Histories::unmerged))]
     pub(crate) fn swap_merged(&mut self, merged: Merged) -> Result<bool, AllocError>
-        ensures { DiffersInSegments self.old self.new }
+        ensures differs { DiffersInSegments self.old self.new }
+        ensures swapped { IfOk result (IsSwapOf merged (searched self.old.copy) (searched self.new.copy)) }
     {
         let is_there = self.shard.swap_merged(merged)?;
         let mark = self.writer.append(&self.chronicle, &self.shard);
         self.last = self.last.behind(mark);
         Ok(is_there)
+    }
+
+    /// Has the builder build the segment that the next refresh shows, where that is large. The index stays as it is.
+    pub(crate) fn build_ahead<
+        F: Fn(Global, &Arc<Mapping, Global>, Vec<Source>) -> Result<Segment, AllocError>,
+    >(&mut self, builder: &F) -> Result<(), AllocError>
+        requires { Builds F.Fn builder.now }
+        ensures { self.new ≡ self.old }
+    {
+        self.shard.build_ahead(builder)
     }
 }

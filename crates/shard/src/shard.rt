@@ -4,20 +4,23 @@ ghost use Rattle.std.specs.Arc.{arc_value};
 ghost use Rattle.serde_json.specs.View.{view};
 ghost use Rattle.doc.specs.Fault.{fault_of};
 ghost use Rattle.doc.specs.Outcome.{Gives};
+ghost use Rattle.segment.specs.Builds.{Builds};
 ghost use Rattle.shard.specs.Answering.{begun_under};
 ghost use Rattle.shard.specs.Ready as spec;
 ghost use Rattle.shard.specs.Ready.{IsReady, IsUnready};
-ghost use Rattle.replica.specs.Logged.{IsLogged};
+ghost use Rattle.replica.specs.Logged.{searched, IsLogged};
+ghost use Rattle.replica.specs.Searched.{IsSwapOf};
 ghost use Rattle.shard.specs.History.{seen_of};
 
 use crate::answering::reply_to;
 use crate::ready::{is_primary, is_write, make_ready};
-use doc::{DocFault, Mapping};
+use doc::{DocFault, Mapping, Source};
 use engine::{Merged, Merging, Snapshot};
 use front::reply::Refusal;
 use front::{Command, Reply, Service};
 use master::Master;
 use replica::Copy;
+use segment::Segment;
 use serde_json::Value;
 use std::alloc::{AllocError, Global};
 use std::sync::Arc;
@@ -103,11 +106,22 @@ impl<D: LogDevice> Shard<D> {
 
     /// Puts a merged segment in place of those that it is made of and that are still there, and tells whether one is. What the index has and shows stays.
     pub(crate) fn swap_merged(&mut self, merged: Merged) -> Result<bool, AllocError>
+        ensures swapped { IfOk result (IsSwapOf merged (searched self.old.copy) (searched self.new.copy)) }
         ensures copy { self.new.copy ≡ record self.old.copy { segments = self.new.copy.segments } }
         ensures master { self.new.master ≡ self.old.master }
         ensures err { OnErr result (self.new.copy ≡ self.old.copy) }
     {
         self.copy.swap_merged(self.alloc, merged)
+    }
+
+    /// Has the builder build the segment that the next refresh shows, where that is large. Nothing else changes.
+    pub(crate) fn build_ahead<
+        F: Fn(Global, &Arc<Mapping, Global>, Vec<Source>) -> Result<Segment, AllocError>,
+    >(&mut self, builder: &F) -> Result<(), AllocError>
+        requires { Builds F.Fn builder.now }
+        ensures { self.new ≡ self.old }
+    {
+        self.copy.build_ahead(builder, self.alloc)
     }
 
     /// What searches see; nothing while the copy is closed.

@@ -1,14 +1,15 @@
 -- The nodes of a world, with their logs.
-use Rattle.std.specs.Prelude.{◌≡◌, ◌==◌, if◌then◌else◌, ℕ, Bool, false, List, [], ◌∷◌, ◌++◌, map, Option, Some, None, Result, Ok, Err}
+use Rattle.std.specs.Prelude.{◌≡◌, ◌==◌, ◌≤◌, IfSome, if◌then◌else◌, ℕ, Bool, false, List, [], ◌∷◌, ◌++◌, map, Option, Some, None, Result, Ok, Err}
 use Rattle.std.specs.List.{AllByRecursion}
 use Rattle.op.specs.declared.operation.Op.{Op}
 use Rattle.op.specs.declared.message.Msg.{Msg}
 use Rattle.op.specs.Documents.{documents}
 use Rattle.op.specs.Records.{shown}
 use Rattle.replica.specs.Copy.{Copy}
+use Rattle.engine.specs.Live.{small_count}
 use Rattle.engine.specs.Published.{MergeData, taken_of}
 use Rattle.replica.specs.Logged.{Logged, searched}
-use Rattle.replica.specs.Searched.{Searched, IsSwapOf}
+use Rattle.replica.specs.Searched.{Searched, HasMergedNext, IsSwapOf}
 use Rattle.replica.specs.Step.{Step}
 use Rattle.world.specs.World.{World}
 use Rattle.master.specs.declared.fault.MasterFault.{MasterFault}
@@ -50,6 +51,18 @@ pub record IsSwapAt (id : ℕ) (m : MergeData) (old new : List Searched) (is_the
   pub found : node_in old id ≡ Some at
   pub swapped : IsSwapOf m at after is_there
   pub left : new ≡ with_node old after
+
+-- a merge of many small segments was made and put in place at the copy with an id; the others are as they were
+pub record HasMergedAt (id : ℕ) (old new : List Searched) : Type 0 where
+  pub at : Searched
+  pub after : Searched
+  pub found : node_in old id ≡ Some at
+  pub merged : HasMergedNext at after
+  pub left : new ≡ with_node old after
+
+-- where there is a copy with an id, few of its segments are small
+abbrev pub HasFewSmall : ℕ → List Searched → Type 0
+HasFewSmall id ss = IfSome (node_in ss id) (λ s. small_count s.segments.published s.segments.live ≤ 16)
 
 -- no log has failed
 abbrev pub AreOpen : List Logged → Type 0

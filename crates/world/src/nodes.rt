@@ -1,12 +1,12 @@
 //! The nodes of a world, and the messages between them.
-ghost use Rattle.std.specs.Prelude.{◌≡◌, ◌<◌, ◌≤◌, false, vec_len, vec_capacity, None, IfOk, IfErr, IfNone, IfSome, OnOk, OnErr};
+ghost use Rattle.std.specs.Prelude.{◌≡◌, ◌<◌, ◌≤◌, true, false, vec_len, vec_capacity, None, IfOk, IfErr, IfNone, IfSome, OnOk, OnErr};
 ghost use Rattle.std.specs.Option.{option_map};
 ghost use Rattle.doc.specs.Outcome.{Gives};
 ghost use Rattle.master.specs.Decide.{master_step};
 ghost use Rattle.master.specs.Fault.{fault_of, is_log};
 ghost use Rattle.world.specs.declared.event.EventAnswer.TheVariants.{RefusedByMaster};
 ghost use Rattle.replica.specs.Logged.{searched};
-ghost use Rattle.world.specs.Nodes.{merge_of, node_in, IsFollowed, IsSwapAt};
+ghost use Rattle.world.specs.Nodes.{merge_of, node_in, HasFewSmall, HasMergedAt, IsFollowed, IsSwapAt};
 ghost use Rattle.world.specs.World.{answering, at_copy, at_master, copy_in, decided, decided_in, deliver, deliver_torn, message_at, new_world, request_of, torn_at, world_step, after_decision};
 
 mod copies;
@@ -205,16 +205,21 @@ impl Nodes {
         }
     }
 
-    /// Merges at once what goes well into one, at a copy whose searches look through many segments. Nothing where the copy isn't there.
-    pub(crate) fn merge_next(&mut self, alloc: Global, id: u32) -> Result<(), AllocError>
-        ensures { self.new.world ≡ self.old.world }
+    /// Merges at once what goes well into one, at a copy whose searches look through many segments, and tells whether it did. `false` where the copy isn't
+    /// there.
+    pub(crate) fn merge_next(&mut self, alloc: Global, id: u32) -> Result<bool, AllocError>
+        ensures world { self.new.world ≡ self.old.world }
+        ensures merged { IfOk result (λ b. b ≡ true → HasMergedAt id self.old.nodes self.new.nodes) }
+        ensures few { IfOk result (λ b. b ≡ false → HasFewSmall id self.old.nodes) }
+        ensures none { IfOk result (λ b. b ≡ false → self.new.nodes ≡ self.old.nodes) }
+        ensures err { OnErr result (self.new.nodes ≡ self.old.nodes) }
     {
         match place_of(&self.copies, id) {
             Some(place) => {
-                let _is_merged = self.copies[place].merge_next(alloc)?;
-                Ok(())
+                let is_merged = self.copies[place].merge_next(alloc)?;
+                Ok(is_merged)
             }
-            None => Ok(()),
+            None => Ok(false),
         }
     }
 

@@ -1,11 +1,11 @@
 //! A world: what events make of a new index of some copies.
-ghost use Rattle.std.specs.Prelude.{◌≡◌, ◌≤◌, false, length, None, IfOk, IfErr, IfNone, IfSome, OnOk, OnErr};
+ghost use Rattle.std.specs.Prelude.{◌≡◌, ◌≤◌, true, false, length, None, IfOk, IfErr, IfNone, IfSome, OnOk, OnErr};
 ghost use Rattle.std.specs.Option.{option_map};
 ghost use Rattle.query.specs.View.{query_view};
 ghost use Rattle.engine.specs.Shown.{hits_view};
 ghost use Rattle.replica.specs.Logged.{searched};
 ghost use Rattle.world.specs.Held.{HasInSyncCopies, Held};
-ghost use Rattle.world.specs.Nodes.{merge_of, node_in, IsSwapAt};
+ghost use Rattle.world.specs.Nodes.{merge_of, node_in, HasFewSmall, HasMergedAt, IsSwapAt};
 ghost use Rattle.world.specs.Reached.{IsRefusedRun};
 ghost use Rattle.world.specs.Search.{search_in};
 ghost use Rattle.world.specs.World.{answering, copy_in, new_world, world_of, world_step};
@@ -90,9 +90,14 @@ impl World {
         self.nodes.swap_merged(alloc, copy, merged)
     }
 
-    /// Merges at once what goes well into one, at a copy whose searches look through many segments. Nothing where the copy isn't there.
-    pub fn merge_next(&mut self, alloc: Global, copy: u32) -> Result<(), AllocError>
-        ensures { self.new.world ≡ self.old.world }
+    /// Merges at once what goes well into one, at a copy whose searches look through many segments, and tells whether it did. `false` where the copy isn't
+    /// there.
+    pub fn merge_next(&mut self, alloc: Global, copy: u32) -> Result<bool, AllocError>
+        ensures world { self.new.world ≡ self.old.world }
+        ensures merged { IfOk result (λ b. b ≡ true → HasMergedAt copy self.old.nodes self.new.nodes) }
+        ensures few { IfOk result (λ b. b ≡ false → HasFewSmall copy self.old.nodes) }
+        ensures none { IfOk result (λ b. b ≡ false → self.new.nodes ≡ self.old.nodes) }
+        ensures err { OnErr result (self.new.nodes ≡ self.old.nodes) }
     {
         self.nodes.merge_next(alloc, copy)
     }

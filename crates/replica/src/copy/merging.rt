@@ -1,15 +1,19 @@
-//! Merges of what searches look through. They are no steps.
-ghost use Rattle.std.specs.Prelude.{◌≡◌, ◌≤◌, false, None, IfOk, IfSome, OnErr};
+//! Merges of what searches look through, and what is built before a refresh. They are no steps.
+ghost use Rattle.std.specs.Prelude.{◌≡◌, ◌≤◌, false, true, None, IfOk, IfSome, OnErr};
 ghost use Rattle.engine.specs.Live.{small_count};
 ghost use Rattle.engine.specs.Published.{taken_of};
 ghost use Rattle.op.specs.Documents.{documents};
 ghost use Rattle.op.specs.Records.{shown};
+ghost use Rattle.segment.specs.Builds.{Builds};
 ghost use Rattle.replica.specs.Logged.{searched};
-ghost use Rattle.replica.specs.Searched.{IsNextMerge, IsSwapOf};
+ghost use Rattle.replica.specs.Searched.{HasMergedNext, IsNextMerge, IsSwapOf};
 
 use crate::copy::Copy;
+use doc::{Mapping, Source};
 use engine::{Merged, Merging};
+use segment::Segment;
 use std::alloc::{AllocError, Global};
+use std::sync::Arc;
 use translog::LogDevice;
 
 impl<D: LogDevice> Copy<D> {
@@ -34,7 +38,9 @@ impl<D: LogDevice> Copy<D> {
     /// Makes such a merge at once, where there is one, and tells whether it was put in place. What the copy keeps and shows stays.
     pub fn merge_next(&mut self, alloc: Global) -> Result<bool, AllocError>
         ensures rest { self.new ≡ record self.old { segments = self.new.segments } }
+        ensures merged { IfOk result (λ b. b ≡ true → HasMergedNext (searched self.old) (searched self.new)) }
         ensures none { IfOk result (λ b. b ≡ false → self.new ≡ self.old) }
+        ensures few { IfOk result (λ b. b ≡ false → small_count self.old.segments.published self.old.segments.live ≤ 16) }
         ensures err { OnErr result (self.new ≡ self.old) }
     {
         match self.state.begin_next_merge(alloc)? {
@@ -55,5 +61,16 @@ impl<D: LogDevice> Copy<D> {
         ensures err { OnErr result (self.new ≡ self.old) }
     {
         self.state.swap_merged(alloc, merged)
+    }
+
+    /// Has the builder build the segment that the next refresh shows, where that is large; the refresh takes it if nothing was written since. Nothing else
+    /// changes, and it is no step.
+    pub fn build_ahead<
+        F: Fn(Global, &Arc<Mapping, Global>, Vec<Source>) -> Result<Segment, AllocError>,
+    >(&mut self, builder: &F, alloc: Global) -> Result<(), AllocError>
+        requires { Builds F.Fn builder.now }
+        ensures { self.new ≡ self.old }
+    {
+        self.state.build_ahead(builder, alloc)
     }
 }

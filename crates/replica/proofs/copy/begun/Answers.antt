@@ -4,7 +4,7 @@ use Rattle.op.specs.declared.record.Record.{Record}
 use Rattle.translog.specs.Kept.{IsTranslog}
 use Rattle.translog.proofs.KeptLaws.{left_by}
 use Rattle.translog.proofs.PieceReading.{reopened}
-use Rattle.replica.proofs.LogLaws.{no_records, unread}
+use Rattle.replica.proofs.LogLaws.{failed_as, no_records, unread}
 use Rattle.replica.proofs.copy.begun.Goals as goal
 
 pub returns-in-Err-clause-unread : goal.returns-in-Err-clause-unread
@@ -18,3 +18,7 @@ returns-in-Ok-mend-clause-whole g c =
 
 pub returns-in-Ok-mend-clause-left : goal.returns-in-Ok-mend-clause-left
 returns-in-Ok-mend-clause-left g c = left_by _ _ _ _ c.in-Ok.torn _ c.in-Ok.ensures.held c.in-Ok.ensures.torn c.in-Ok-mend.ensures.ok
+
+-- the log could not be mended
+pub returns-in-Err-mend-clause-refused : goal.returns-in-Err-mend-clause-refused
+returns-in-Err-mend-clause-refused g c = rw (c.from.ensures, failed_as c.in-Err-mend.fault) (rw (c.in-Ok.ensures.held, c.in-Ok.ensures.counts) at c.in-Err-mend.ensures.refused)

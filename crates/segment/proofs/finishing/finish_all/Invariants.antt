@@ -1,12 +1,13 @@
 use Rattle.std.proofs.Common.{length}
 use Rattle.segment.specs.Added.{HaveFewPlaces}
+use Rattle.segment.specs.Posted.{IsFinished}
 use Rattle.segment.proofs.FinishLaws.{AreEither}
 use Rattle.segment.proofs.finishing.finish_all.Given as goal
 
 -- each column waits or is finished
 abbrev pub invariant-loop-name : goal.invariant-loop-name
 invariant-loop-name l = record {
-  either : AreEither l.len l.fn.makings l.left l.columns;
+  either : AreEither (IsFinished l.len) l.fn.makings l.left l.columns;
   few : HaveFewPlaces l.len l.left;
 }
 

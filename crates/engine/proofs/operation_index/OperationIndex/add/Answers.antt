@@ -11,9 +11,8 @@ invariant_of-self-in-Err c =
     let o = c.args.op.now in
     let gap = rw c.deref.ensures.value at c.in-Err.ensures.absent in
     let counted = rw c.deref-in-Err.ensures.value at c.local_count_with-local.ensures in
-    let noted = rw (c.is_stale-stale.ensures, ← c.self.view_is) at c.in_ok-note-in-Err.ensures.ok in
     rw (c.in_ok-insert-in-Err.ensures.items, c.in_ok-reserve-in-Err.ensures.items, c.in_ok-copy-in-Err.ensures, gap.place o refl)
-    (IsIndexed-placed os _ _ _ _ o c.self.invariant gap.free noted (counted ∙ ap local_count (add-free os o gap.free)))
+    (IsIndexed-placed os _ _ _ _ o c.self.invariant gap.free c.in_ok-note-in-Err.ensures.ok (counted ∙ ap local_count (add-free os o gap.free)))
 
 -- its number is there
 pub returns-in-Ok-clause-ok : goal.returns-in-Ok-clause-ok

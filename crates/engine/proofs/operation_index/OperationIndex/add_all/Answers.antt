@@ -1,8 +1,8 @@
 use Rattle.std.proofs.Common.{◌∙◌, ◌++◌, sym, ap, subst, drop, arith}
-use Rattle.std.specs.HashMap.{get_by_text}
 use Rattle.std.proofs.lemmas.List.{length-append}
 use Rattle.op.specs.Operations.{IsAscending, reached}
 use Rattle.op.proofs.LocalLaws.{reached-length}
+use Rattle.engine.specs.OperationIndex.{number_at}
 use Rattle.engine.proofs.RiseLaws.{IsAscending-rise, IsIndexed-append, fold-rise}
 use Rattle.engine.proofs.operation_index.OperationIndex.add_all.Goals as goal
 
@@ -23,9 +23,9 @@ invariant_of-self-2 c =
     let all = c.in_ok-append.ensures.items ∙ ap (λ xs. xs ++ ps) c.in_ok-reserve.ensures.items in
     let noted = rw c.deref.ensures.value at c.in_ok-numbers.ensures in
     rw all
-    (IsIndexed-append os ps (λ id. get_by_text c.self.inside.latest id) (λ id. get_by_text c.note_all.new.latest id) c.self.inside.local _ c.self.invariant
+    (IsIndexed-append os ps (λ id. number_at c.self.inside.latest id) (λ id. number_at c.note_all.new.latest id) c.self.inside.local _ c.self.invariant
     (subst IsAscending added (IsAscending-rise _ os rs c.self.invariant.ascending rise))
-    (λ id. c.in_ok-note_all.ensures.ok id ∙ noted id (get_by_text c.self.inside.latest id))
+    (λ id. c.in_ok-note_all.ensures.ok id ∙ noted id (number_at c.self.inside.latest id))
     (c.local_count_on-self-inside.ensures ∙ ap (λ xs. reached c.self.inside.local (drop c.self.inside.local xs)) (c.deref-2.ensures.value ∙ all)))
 
 pub returns-clause-ok : goal.returns-clause-ok

@@ -10,13 +10,13 @@ use Rattle.engine.proofs.SnapshotLaws.{one-part}
 use Rattle.engine.proofs.part_list.PartList.of.Goals as goal
 
 -- documents of operations are in order
-pub of-requires : goal.of-requires
-of-requires c =
+pub of-requires-clause-sorted : goal.of-requires-clause-sorted
+of-requires-clause-sorted g c =
     subst (λ (ds : Documents). is_sorted id_cmp ds ≡ true) (sym (ap (map entry_view) c.deref.ensures.value ∙ c.in_ok-entries.ensures)) (is_sorted-documents c.args.operations.now)
 
 -- one part alone
 pub invariant_of-result : goal.invariant_of-result
-invariant_of-result c =
+invariant_of-result g c =
     let all = ap (map entry_view) c.deref.ensures.value ∙ c.in_ok-entries.ensures in
     let documents = ap (λ (p : PartData). p.documents) c.in_ok-part.ensures ∙ all in
     rw (c.in_ok-push.ensures.items, c.new-parts.ensures.items)

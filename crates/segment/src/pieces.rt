@@ -1,0 +1,68 @@
+//! The columns of documents, piece by piece on all processors.
+ghost use Rattle.std.specs.Prelude.{◌≡◌, ◌<◌, ◌≤◌, ◌+◌, ◌^◌, ℕ, List, length, map, IfOk};
+ghost use Rattle.doc.specs.Document.{all_values};
+ghost use Rattle.segment.specs.Indexed.{column_at, IsColumnOr};
+ghost use Rattle.segment.specs.Joined.{behind, AreMakings};
+
+use crate::building::makings_of;
+use crate::column::Column;
+use crate::finishing::{finish_all, put_in_order};
+use crate::joining::join;
+use crate::making::Makings;
+use doc::{Mapping, Source};
+use std::alloc::{AllocError, Global};
+use std::collections::BTreeMap;
+use std::thread;
+use std::thread::Threads;
+
+/// So many pieces keep the processors of most machines at work.
+const MOST_PIECES: usize = 8;
+
+/// A piece of fewer documents isn't worth a thread.
+const LEAST_PIECE: usize = 512;
+
+/// The columns of the fields that some documents have.
+pub(crate) fn columns_of<R: Threads + Sync>(
+    rt: &R,
+    alloc: Global,
+    mapping: &Mapping,
+    sources: &[Source],
+) -> Result<BTreeMap<String, Box<Column>>, AllocError>
+    requires { length sources.now < 2 ^ 32 }
+    ensures { IfOk result (λ m. (name : List ℕ) → IsColumnOr mapping.now.fields (map (all_values mapping.now) sources.now) name (column_at m name)) }
+{
+    let len = sources.len();
+    let size = (len / MOST_PIECES + 1).max(LEAST_PIECE);
+    let pieces = thread::map_chunks(
+        rt,
+        alloc,
+        sources,
+        size,
+        &|begin: usize, piece: &[Source]| -> Result<Makings, AllocError>
+            requires few { len < 2 ^ 32 }
+            requires within { begin + length piece.now ≤ len }
+            ensures { IfOk result (AreMakings mapping.entry.now.fields (behind begin (map (all_values mapping.entry.now) piece.now)) len) }
+        { piece_of(alloc, mapping, piece, begin, len) },
+    )?;
+    let mut makings = BTreeMap::new(alloc);
+    for piece in pieces {
+        join(alloc, &mut makings, piece?, len)?;
+    }
+    finish_all(alloc, makings, len)
+}
+
+/// The columns of a piece, with their texts in order.
+fn piece_of(
+    alloc: Global,
+    mapping: &Mapping,
+    piece: &[Source],
+    begin: usize,
+    len: usize,
+) -> Result<Makings, AllocError>
+    requires few { len < 2 ^ 32 }
+    requires within { begin + length piece.now ≤ len }
+    ensures { IfOk result (AreMakings mapping.now.fields (behind begin (map (all_values mapping.now) piece.now)) len) }
+{
+    let makings = makings_of(alloc, mapping, piece, begin, len)?;
+    put_in_order(alloc, makings)
+}
