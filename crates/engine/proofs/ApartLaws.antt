@@ -140,7 +140,7 @@ module _ (ids : List Id) where
   none_left [] q is = refl
   none_left (p ∷ ps) q is = ap (λ o. cond (is_some o) 1 0 + times q (map (without ids) ps)) (find-without p q ∙ ap (λ b. cond (not b) (document_at p q) None) is) ∙ omega (arith, none_left ps q is)
 
-  all_without : (ps : List Documents) → AllInOrder ps → AllInOrder (map (without ids) ps)
+  pub all_without : (ps : List Documents) → AllInOrder ps → AllInOrder (map (without ids) ps)
   all_without [] all = tt
   all_without (p ∷ ps) all = (T_true _ (is_sorted-where_key id_cmp (λ i. not (is_among ids i)) p (true_T _ all.0)), all_without ps all.1)
 

@@ -104,7 +104,7 @@ borne-take n k ps =
 once-take : (k : ℕ) (ps : List PartData) → AreDistinct (all_published ps) → Once (take k ps)
 once-take k ps distinct n lt = omega (arith, borne-take n k ps, borne-published n ps, distinct n lt)
 
-bears : (p : PartData) → is_chosen (p.number ∷ []) p ≡ true
+pub bears : (p : PartData) → is_chosen (p.number ∷ []) p ≡ true
 bears p = ap (λ b. b || false) same
   where
     same : (p.number == p.number) ≡ true

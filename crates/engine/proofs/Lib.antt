@@ -1,6 +1,7 @@
 pub mod PlaceLaws
 pub mod KeptLaws
 pub mod NotedLaws
+pub mod IdFilterLaws
 pub mod IndexLaws
 pub mod DocumentMap
 pub mod FoundLaws
@@ -17,3 +18,4 @@ pub mod PublishedLaws
 pub mod AheadLaws
 pub mod LivingLaws
 pub mod ChoosingLaws
+pub mod LeftLaws

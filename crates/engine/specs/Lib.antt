@@ -13,5 +13,6 @@ pub mod Contents
 pub mod Staged
 pub mod SnapshotChange
 pub mod Last
+pub mod IdFilter
 pub mod OperationIndex
 pub mod Before

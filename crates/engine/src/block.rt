@@ -11,10 +11,13 @@ ghost use Rattle.marks.specs.Lists.{zip_with, places};
 ghost use Rattle.segment.specs.Builds.{Builds};
 ghost use Rattle.engine.specs.Answer.{is_found};
 ghost use Rattle.engine.specs.Entry.{entry_view};
+ghost use Rattle.engine.specs.IdFilter.{has_bit};
 ghost use Rattle.engine.specs.Parts.{is_among};
 ghost use Rattle.engine.specs.Shown.{shown_view};
 
 use crate::documents::Entry;
+use crate::id_filter::IdFilter;
+use crate::strands::places_among;
 use doc::{DocId, Mapping, Source};
 use marks::Marks;
 use query::Query;
@@ -56,12 +59,21 @@ impl Shown {
     {
         &self.id
     }
+
+    /// Its sequence number.
+    pub(crate) fn seq(&self) -> u64
+        ensures { result ≡ self.now.seq }
+    {
+        self.seq
+    }
 }
 
 /// Documents in byte order of their ids, and the segment of their sources. It never changes.
 pub(crate) struct Block {
     documents: Vec<Shown>,
     segment: Segment,
+    /// Most ids that no document has are told by it alone.
+    ids: IdFilter,
 }
 
 impl Drop for Block {
@@ -69,6 +81,7 @@ impl Drop for Block {
         let Block {
             documents: _documents,
             segment: _segment,
+            ids: _ids,
         } = self;
     }
 }
@@ -82,7 +95,7 @@ impl Model for Block {
 
     ghost view = { λ b. record { mapping = b.segment.mapping; documents = map shown_view b.documents.items } };
 
-    ghost invariant = { λ b. IsBlock b.documents.items b.segment.sources };
+    ghost invariant = { λ b. IsBlock b.documents.items b.segment.sources b.ids };
 }
 
 impl Block {
@@ -101,7 +114,12 @@ impl Block {
     {
         let documents = shown_of(alloc, entries)?;
         let segment = segment_of(builder, alloc, mapping, entries)?;
-        Ok(Block { documents, segment })
+        let ids = filter_of(alloc, &documents)?;
+        Ok(Block {
+            documents,
+            segment,
+            ids,
+        })
     }
 
     /// How many documents there are.
@@ -111,6 +129,33 @@ impl Block {
         ensures sorted { is_sorted id_cmp self.now.documents ≡ true }
     {
         self.segment.len()
+    }
+
+    /// The segment of the documents' sources.
+    pub(crate) fn segment(&self) -> &Segment
+        ensures { result.now.mapping ≡ self.now.mapping }
+    {
+        &self.segment
+    }
+
+    /// Where its documents stand among entries; none for one that isn't there.
+    pub(crate) fn places_among(
+        &self,
+        alloc: Global,
+        entries: &[Entry<'_>],
+    ) -> Result<Vec<Option<u32>>, AllocError> {
+        let all = Marks::all(alloc, self.len())?;
+        places_among(alloc, &self.documents, &all, entries)
+    }
+
+    /// The same of the live ones alone.
+    pub(crate) fn live_places_among(
+        &self,
+        alloc: Global,
+        live: &Marks,
+        entries: &[Entry<'_>],
+    ) -> Result<Vec<Option<u32>>, AllocError> {
+        places_among(alloc, &self.documents, live, entries)
     }
 
     /// Whether the other has the same documents, read under the same mapping.
@@ -224,6 +269,9 @@ impl Block {
     fn has(&self, id: &DocId) -> bool
         ensures { result ≡ false → (t : Id × Document → Bool) → map t self.now.documents ≡ map (λ d. t d || is_id d.0 id.now) self.now.documents }
     {
+        if !self.ids.may_have(id) {
+            return false;
+        }
         match place_of(&self.documents, id) {
             Ok(_) => true,
             Err(_) => false,
@@ -246,10 +294,24 @@ impl Block {
         ensures { (t : Id × Document → Bool) → marks.old ≡ map t self.now.documents → marks.new ≡ map (λ d. t d || is_id d.0 id.now) self.now.documents }
     {
         let _few = self.len();
+        if !self.ids.may_have(id) {
+            return;
+        }
         if let Ok(at) = place_of(&self.documents, id) {
             marks.set(at as u32);
         }
     }
+}
+
+/// The filter of the ids of documents.
+fn filter_of(alloc: Global, documents: &[Shown]) -> Result<IdFilter, AllocError>
+    ensures { IfOk result (λ f. AllByRecursion (λ d. has_bit f d.id ≡ true) documents.now) }
+{
+    let mut ids = IdFilter::none(alloc, documents.len())?;
+    for document in documents {
+        ids.add(&document.id);
+    }
+    Ok(ids)
 }
 
 /// Whether two lists have the same documents.
@@ -329,6 +391,20 @@ pub(crate) fn entry_of(shown: &Shown) -> Entry<'_>
     }
 }
 
+/// Documents where they stand, as entries.
+pub(crate) fn entries_in<'a>(
+    alloc: Global,
+    documents: &'a [Shown],
+) -> Result<Vec<Entry<'a>>, AllocError>
+    ensures { IfOk result (λ v. map entry_view v.items ≡ map shown_view documents.now) }
+{
+    let mut entries = Vec::with_capacity(alloc, documents.len())?;
+    for document in documents {
+        entries.push(entry_of(document))?;
+    }
+    Ok(entries)
+}
+
 /// Documents where they stand.
 fn shown_in<'a>(alloc: Global, documents: &'a [Shown]) -> Result<Vec<&'a Shown>, AllocError>
     ensures { IfOk result (λ v. map (λ r. shown_view r.now) v.items ≡ map shown_view documents.now) }
@@ -341,7 +417,7 @@ fn shown_in<'a>(alloc: Global, documents: &'a [Shown]) -> Result<Vec<&'a Shown>,
 }
 
 /// The documents of entries.
-fn shown_of(alloc: Global, entries: &[Entry<'_>]) -> Result<Vec<Shown>, AllocError>
+pub(crate) fn shown_of(alloc: Global, entries: &[Entry<'_>]) -> Result<Vec<Shown>, AllocError>
     ensures documents { IfOk result (λ v. map shown_view v.items ≡ map entry_view entries.entry.now) }
     ensures sources { IfOk result (λ v. map (λ s. s.source) v.items ≡ map (λ e. e.source.now) entries.entry.now) }
 {

@@ -21,7 +21,7 @@ use crate::block::Block;
 use crate::documents::documents_at;
 use crate::history::{Applied, Found, History};
 use crate::listed::Listed;
-use crate::ready::MANY;
+use crate::ready::{MANY, Prebuilt, Unshown};
 use crate::showing::Showing;
 use crate::snapshot::Snapshot;
 use crate::staged::{SnapshotChange, Staged};
@@ -264,25 +264,9 @@ impl Engine {
         Ok(showing)
     }
 
-    /// Has the builder build what the next refresh shows, where that is much. A refresh takes it if nothing was written since. Nothing else changes.
-    pub fn build_ahead<
-        F: Fn(Global, &Arc<Mapping, Global>, Vec<Source>) -> Result<Segment, AllocError>,
-    >(&mut self, builder: &F, alloc: Global) -> Result<(), AllocError>
-        requires { Builds F.Fn builder.now }
-        ensures { self.new ≡ self.old }
-    {
-        let ready = self.built(builder, alloc)?;
-        self.ready = ready;
-        Ok(())
-    }
-
-    /// The documents of the ids that changed, where there are many.
-    fn built<F: Fn(Global, &Arc<Mapping, Global>, Vec<Source>) -> Result<Segment, AllocError>>(
-        &self,
-        builder: &F,
-        alloc: Global,
-    ) -> Result<Option<Arc<Block, Global>>, AllocError>
-        requires { Builds F.Fn builder.now }
+    /// The documents that a refresh would show now and searches don't, where there are many.
+    pub fn unshown(&self, alloc: Global) -> Result<Option<Unshown>, AllocError>
+        ensures { IfOk result (λ o. IfSome o (λ u. u.mapping ≡ self.now.mapping)) }
     {
         let Some(ids) = self.history.ids_since(alloc, self.point)? else {
             return Ok(None);
@@ -291,8 +275,16 @@ impl Engine {
         if entries.len() < MANY {
             return Ok(None);
         }
-        let block = Block::of(builder, alloc, &self.mapping, &entries)?;
-        Ok(Some(Arc::new(alloc, block)?))
+        let unshown = Unshown::of(alloc, &self.mapping, &entries)?;
+        Ok(Some(unshown))
+    }
+
+    /// Keeps what was built for the next refresh, which then builds what came since alone. Nothing else changes.
+    pub fn keep_prebuilt(&mut self, prebuilt: Prebuilt)
+        ensures { self.new ≡ self.old }
+    {
+        let Prebuilt { block } = prebuilt;
+        self.ready = Some(block);
     }
 
     /// Makes a change that is ready for this engine, as it was made ready last: no segment has come or gone since, and no record has come. It takes no memory.

@@ -1,5 +1,5 @@
 //! A part of what searches show.
-ghost use Rattle.std.specs.Prelude.{◌≡◌, ◌↔◌, ◌<◌, IsTrue, ◌+◌, ◌^◌, ◌&&◌, true, map, take, drop, length, filter, replicate, IfOk};
+ghost use Rattle.std.specs.Prelude.{◌≡◌, ◌↔◌, ◌<◌, All, IsTrue, ◌+◌, ◌^◌, ◌&&◌, true, map, take, drop, length, filter, replicate, IfOk};
 ghost use Rattle.std.specs.Arc.{arc_value};
 ghost use Rattle.std.specs.FinMap.Entries.{is_sorted};
 ghost use Rattle.doc.specs.Id.{id_cmp};
@@ -18,7 +18,7 @@ use doc::{DocId, Mapping, Source};
 use marks::Marks;
 use query::Query;
 use search::FoundPlaces;
-use segment::Segment;
+use segment::{Segment, Strand};
 use std::alloc::{AllocError, Global};
 use std::marker::Model;
 use std::sync::Arc;
@@ -199,6 +199,56 @@ impl Part {
         Ok(entries)
     }
 
+    /// Its segment, and where its live documents stand among entries.
+    pub(crate) fn strand<'a>(
+        &'a self,
+        alloc: Global,
+        entries: &[Entry<'_>],
+    ) -> Result<Strand<'a>, AllocError> {
+        let places = self.block.live_places_among(alloc, &self.live, entries)?;
+        Ok(Strand {
+            segment: self.block.segment(),
+            places,
+        })
+    }
+
+    /// Adds the ids of the documents that aren't live in the other part of the same segment, where there is one, and are in this one.
+    pub(crate) fn push_dead(
+        &self,
+        alloc: Global,
+        other: Option<&Part>,
+        dead: &mut Vec<DocId>,
+    ) -> Result<(), AllocError> {
+        let places = self.places_beside(alloc, other)?;
+        let entries = self.block.entries_at(alloc, &places)?;
+        for entry in entries {
+            dead.push(entry.id.copy(alloc)?)?;
+        }
+        Ok(())
+    }
+
+    /// The places of the documents that are live in this part, and in the other, where there is one of as many documents, aren't.
+    fn places_beside(&self, alloc: Global, other: Option<&Part>) -> Result<Vec<u32>, AllocError>
+        ensures { IfOk result (λ v. All (λ p. p < length self.now.built) v.items) }
+    {
+        let _few = self.block.len();
+        let mut beside = Marks::none(alloc, self.live.len())?;
+        beside.unite(&self.live);
+        if let Some(other) = other {
+            subtract_fitting(&mut beside, &other.live);
+        }
+        let places = beside.places(alloc)?;
+        Ok(places)
+    }
+
+    /// Whether the same documents are live in the other part, where both are of one segment.
+    pub(crate) fn is_live_as(&self, other: &Part) -> bool
+        ensures { result ≡ true → self.now.built ≡ other.now.built → self.now.documents ≡ other.now.documents }
+    {
+        let _few = self.block.len();
+        are_same(&self.live, &other.live)
+    }
+
     /// What it has for a query: how many documents, and as many of them as the size says behind the first so many, for which no entry is made.
     pub(crate) fn find(
         &self,
@@ -298,6 +348,31 @@ impl Part {
             all_live,
         })
     }
+}
+
+/// Takes away the marks of others, if there are as many.
+fn subtract_fitting(marks: &mut Marks, others: &Marks)
+    ensures { length marks.new ≡ length marks.old }
+{
+    if marks.len() == others.len() {
+        marks.subtract(others);
+    }
+}
+
+/// Whether two lists of marks are the same.
+fn are_same(left: &Marks, right: &Marks) -> bool
+    requires { length left.now < 2 ^ 32 }
+    ensures { result ≡ true → left.now ≡ right.now }
+{
+    if left.len() != right.len() {
+        return false;
+    }
+    for at in 0..left.len() {
+        if left.get(at as u32) != right.get(at as u32) {
+            return false;
+        }
+    }
+    true
 }
 
 /// How many documents a block has, and the first of them, no more than wanted.

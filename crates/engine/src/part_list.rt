@@ -21,6 +21,7 @@ use crate::merging::{merge, merge_owned};
 use crate::paging::{behind, find_pivot, page_behind};
 use crate::part::{Part, Share};
 use crate::ready::part_of;
+use crate::strands::strands_of;
 use crate::swapping::{Halves, part_showing, split};
 use doc::{DocId, Mapping, Source};
 use op::Op;
@@ -103,7 +104,9 @@ impl PartList {
     }
 
     pub(crate) fn parts(&self) -> &[Part]
-        ensures { all_published result.now ≡ self.now.published }
+        ensures published { all_published result.now ≡ self.now.published }
+        ensures documents { woven (documents_of_parts result.now) ≡ self.now.documents }
+        ensures order { AllInOrder (documents_of_parts result.now) }
     {
         &self.parts
     }
@@ -188,13 +191,20 @@ impl PartList {
         living(alloc, &self.mapping, &parts)
     }
 
-    /// The documents of all parts in one.
+    /// The documents of all parts in one. Their texts aren't read again.
     pub(crate) fn joined(&self, alloc: Global) -> Result<Part, AllocError>
         ensures mapping { IfOk result (λ p. p.mapping ≡ self.now.mapping) }
         ensures documents { IfOk result (λ p. p.documents ≡ self.now.documents) }
     {
         let entries = entries_of_parts(alloc, &self.parts)?;
-        Part::of(&Segment::build, alloc, &self.mapping, 0, &entries)
+        let strands = strands_of(alloc, &self.parts, &entries)?;
+        let weaver = |alloc: Global, mapping: &Arc<Mapping, Global>, sources: Vec<
+            Source,
+        >| -> Result<Segment, AllocError>
+            requires { length sources.items < 2 ^ 32 }
+            ensures { IfOk result (λ s. s ≡ record { mapping = arc_value mapping.now; sources = sources.items }) }
+        { Segment::weave(alloc, mapping, sources, &strands) };
+        Part::of(&weaver, alloc, &self.mapping, 0, &entries)
     }
 
     /// The same with one part of this number in place of those that were taken and are there still, unless none is. It shows what is live in them, by a
@@ -206,6 +216,8 @@ impl PartList {
         taken: &[Part],
         made: &Part,
     ) -> Result<Option<PartList>, AllocError>
+        requires order { AllInOrder (documents_of_parts taken.now) }
+        requires made { made.now.documents ≡ woven (documents_of_parts taken.now) }
         ensures mapping { IfOk result (λ o. IfSome o (λ l. l.mapping ≡ self.now.mapping)) }
         ensures documents { IfOk result (λ o. IfSome o (λ l. l.documents ≡ self.now.documents)) }
         ensures there { IfOk result (λ o. IfSome o (λ l. AreGone self.now.published (all_published taken.now) → ⊥)) }
@@ -220,7 +232,7 @@ impl PartList {
         if stay.len() >= MOST_PARTS {
             return Err(AllocError);
         }
-        let part = part_showing(alloc, &self.mapping, number, made, &go)?;
+        let part = part_showing(alloc, &self.mapping, number, taken, made, &go)?;
         stay.push(part)?;
         let mapping = Arc::try_clone(&self.mapping)?;
         Ok(Some(PartList {
@@ -332,7 +344,11 @@ fn find<'a>(
 }
 
 /// The parts without the documents that have one of the ids.
-fn parts_without(alloc: Global, parts: &[Part], ids: &[DocId]) -> Result<Vec<Part>, AllocError>
+pub(crate) fn parts_without(
+    alloc: Global,
+    parts: &[Part],
+    ids: &[DocId],
+) -> Result<Vec<Part>, AllocError>
     ensures mappings { IfOk result (λ v. map (λ p. p.mapping) v.items ≡ map (λ p. p.mapping) parts.now) }
     ensures documents { IfOk result (λ v. documents_of_parts v.items ≡ map (without ids.now) (documents_of_parts parts.now)) }
     ensures published { IfOk result (λ v. all_published v.items ≡ all_published parts.now) }
@@ -365,7 +381,7 @@ fn living(
 }
 
 /// The parts in which a document is live.
-fn living_parts(alloc: Global, parts: &[Part]) -> Result<Vec<Part>, AllocError>
+pub(crate) fn living_parts(alloc: Global, parts: &[Part]) -> Result<Vec<Part>, AllocError>
     ensures { IfOk result (λ v. v.items ≡ filter is_living parts.now) }
 {
     let mut left = Vec::new(alloc);

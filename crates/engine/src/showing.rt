@@ -193,7 +193,8 @@ impl Showing {
         taken: &PartList,
         made: &Part,
     ) -> Result<Option<Showing>, AllocError>
-        requires { are_taken taken.now.published ≡ true }
+        requires are { are_taken taken.now.published ≡ true }
+        requires made { made.now.documents ≡ taken.now.documents }
         ensures snapshot { IfOk result (λ o. IfSome o (λ s. s.snapshot ≡ self.now.snapshot)) }
         ensures there { IfOk result (λ o. IfSome o (λ s. AreGone self.now.published taken.now.published → ⊥)) }
         ensures swapped { IfOk result (λ o. IfSome o (λ s. IsSwapped taken.now.published (segments_shown self.now) (segments_shown s))) }

@@ -1,14 +1,13 @@
 //! Merges of parts beside searches.
 ghost use Rattle.std.specs.Prelude.{◌≡◌, ◌<◌, true, false, All, Contains, map, length, nat_lt, IfOk, IfSome};
 ghost use Rattle.std.specs.Arc.{arc_value};
-ghost use Rattle.engine.specs.Entry.{entry_view};
 ghost use Rattle.engine.specs.Parts.{all_published, documents_of_parts, merge_of, published_of, woven, AllInOrder, IsMade, IsSplit};
 ghost use Rattle.engine.specs.Published.{are_taken, greatest};
 ghost use Rattle.std.specs.List.{list_all};
 
-use crate::documents::Entry;
+use crate::choosing::parts_numbered;
 use crate::part::Part;
-use crate::part_list::{PartList, entries_of_parts};
+use crate::part_list::{PartList, entries_of_parts, living_parts, parts_without};
 use doc::{DocId, Mapping};
 use segment::Segment;
 use std::alloc::{AllocError, Global};
@@ -128,93 +127,107 @@ pub(crate) fn split(alloc: Global, parts: &[Part], taken: &[Part]) -> Result<Hal
     Ok(Halves { stay, go })
 }
 
-/// A part of this number that shows what some parts show: one that was made, without what isn't live any more, where that can be, else a new one.
+/// A part of this number that shows what some parts show, each of which was taken: the part that was made of all that were taken, without what died in them
+/// since, where that is it, else a new one.
 pub(crate) fn part_showing(
     alloc: Global,
     mapping: &Arc<Mapping, Global>,
     number: u64,
+    taken: &[Part],
     made: &Part,
     parts: &[Part],
 ) -> Result<Part, AllocError>
-    requires { AllInOrder (documents_of_parts parts.now) }
+    requires order { AllInOrder (documents_of_parts parts.now) }
+    requires taken { AllInOrder (documents_of_parts taken.now) }
+    requires made { made.now.documents ≡ woven (documents_of_parts taken.now) }
+    requires among { All (λ p. Contains (all_published taken.now) (published_of p)) parts.now }
     ensures mapping { IfOk result (λ p. p.mapping ≡ arc_value mapping.now) }
     ensures documents { IfOk result (λ p. p.documents ≡ woven (documents_of_parts parts.now)) }
     ensures number { IfOk result (λ p. p.number ≡ number) }
 {
-    let live = entries_of_parts(alloc, parts)?;
     if made.is_under(mapping) {
-        if let Some(part) = showing(alloc, made, &live)? {
+        if let Some(part) = left_of(alloc, taken, made, parts)? {
             return Ok(part.numbered(number));
         }
     }
+    let live = entries_of_parts(alloc, parts)?;
     let part = Part::of(&Segment::build, alloc, mapping, number, &live)?;
     Ok(part)
 }
 
-/// The part without the documents that aren't among the live ones, if it then has just these. Mostly none died beside a merge.
-fn showing(alloc: Global, part: &Part, live: &[Entry<'_>]) -> Result<Option<Part>, AllocError>
-    ensures { IfOk result (λ o. IfSome o (λ p. p ≡ record part.now { documents = map entry_view live.entry.now })) }
+/// The part that was made of those that were taken, without what died in them since, if it then shows what these parts show. No document is looked at but
+/// those that died.
+fn left_of(
+    alloc: Global,
+    taken: &[Part],
+    made: &Part,
+    parts: &[Part],
+) -> Result<Option<Part>, AllocError>
+    requires taken { AllInOrder (documents_of_parts taken.now) }
+    requires made { made.now.documents ≡ woven (documents_of_parts taken.now) }
+    requires among { All (λ p. Contains (all_published taken.now) (published_of p)) parts.now }
+    ensures { IfOk result (λ o. IfSome o (λ p. p ≡ record made.now { documents = woven (documents_of_parts parts.now) })) }
 {
-    let all = part.entries(alloc)?;
-    if are_same(&all, live) {
-        return Ok(Some(part.copy()?));
+    let dead = ids_of_dead(alloc, taken, parts)?;
+    let without = parts_without(alloc, taken, &dead)?;
+    let left = living_parts(alloc, &without)?;
+    if !are_left(alloc, taken, &left, parts)? {
+        return Ok(None);
     }
-    let dead = ids_beside(alloc, &all, live)?;
-    let left = part.without(alloc, &dead)?;
-    if shows(alloc, &left, live)? {
-        Ok(Some(left))
-    } else {
-        Ok(None)
-    }
+    let part = made.without(alloc, &dead)?;
+    Ok(Some(part))
 }
 
-/// The ids of the documents that aren't among some of them, both in byte order of their ids.
-fn ids_beside(
-    alloc: Global,
-    all: &[Entry<'_>],
-    some: &[Entry<'_>],
-) -> Result<Vec<DocId>, AllocError> {
-    let mut beside = Vec::new(alloc);
-    let mut next = 0;
-    for entry in all {
-        if next < some.len() && entry.id.is(some[next].id) {
-            next += 1;
-        } else {
-            beside.push(entry.id.copy(alloc)?)?;
+/// The ids of the documents that were live in parts that were taken, and aren't in those that are left of them.
+fn ids_of_dead(alloc: Global, taken: &[Part], parts: &[Part]) -> Result<Vec<DocId>, AllocError> {
+    let mut dead = Vec::new(alloc);
+    for part in taken {
+        part.push_dead(alloc, numbered(parts, part.number()), &mut dead)?;
+    }
+    Ok(dead)
+}
+
+/// The part of this number.
+fn numbered(parts: &[Part], number: u64) -> Option<&Part> {
+    for part in parts {
+        if part.number() == number {
+            return Some(part);
         }
     }
-    Ok(beside)
+    None
 }
 
-/// Whether a part has just these documents.
-fn shows(alloc: Global, part: &Part, entries: &[Entry<'_>]) -> Result<bool, AllocError>
-    ensures { IfOk result (λ b. b ≡ true → part.now.documents ≡ map entry_view entries.entry.now) }
+/// Whether parts show what others show, all of which were taken: in turn the same segments, with the same live documents.
+fn are_left(
+    alloc: Global,
+    taken: &[Part],
+    left: &[Part],
+    parts: &[Part],
+) -> Result<bool, AllocError>
+    requires left { All (λ p. Contains (all_published taken.now) (published_of p)) left.now }
+    requires parts { All (λ p. Contains (all_published taken.now) (published_of p)) parts.now }
+    ensures { IfOk result (λ b. b ≡ true → documents_of_parts left.now ≡ documents_of_parts parts.now) }
 {
-    let left = part.entries(alloc)?;
-    Ok(are_same(&left, entries))
-}
-
-/// Whether two lists have the same documents.
-fn are_same(left: &[Entry<'_>], right: &[Entry<'_>]) -> bool
-    ensures { result ≡ true → map entry_view left.entry.now ≡ map entry_view right.entry.now }
-{
-    if left.len() != right.len() {
-        return false;
+    if left.len() != parts.len() {
+        return Ok(false);
     }
     for at in 0..left.len() {
-        if !is_same(&left[at], &right[at]) {
-            return false;
+        if !is_left(alloc, taken, &left[at], &parts[at])? {
+            return Ok(false);
         }
     }
-    true
+    Ok(true)
 }
 
-fn is_same(left: &Entry<'_>, right: &Entry<'_>) -> bool
-    ensures { result ≡ true → entry_view left.entry.now ≡ entry_view right.entry.now }
+/// Whether two parts that were taken are one segment with the same live documents. One segment alone bears the number, so no documents are compared.
+fn is_left(alloc: Global, taken: &[Part], left: &Part, part: &Part) -> Result<bool, AllocError>
+    requires left { Contains (all_published taken.now) (published_of left.now) }
+    requires part { Contains (all_published taken.now) (published_of part.now) }
+    ensures { IfOk result (λ b. b ≡ true → left.now.documents ≡ part.now.documents) }
 {
-    left.seq == right.seq
-        && left.term == right.term
-        && left.version == right.version
-        && left.id.is(right.id)
-        && left.source.is(right.source)
+    if left.number() != part.number() {
+        return Ok(false);
+    }
+    let bearers = parts_numbered(alloc, taken, &[part.number()])?;
+    Ok(bearers.len() < 2 && left.is_live_as(part))
 }

@@ -125,7 +125,7 @@ long-there n ms name m marks there = subst (λ (o : Option (Box Making Global)).
 -- ---- the documents so far
 
 -- a column that is begun after documents without a value
-late : (fields : Fields) (docs : List Values) (n : ℕ) (name : List ℕ) (m : Making) → All (λ d. values_at name d ≡ []) docs → IsEmptyMaking n m → IsColumnOf fields docs name n m
+pub late : (fields : Fields) (docs : List Values) (n : ℕ) (name : List ℕ) (m : Making) → All (λ d. values_at name d ≡ []) docs → IsEmptyMaking n m → IsColumnOf fields docs name n m
 late fields docs n name m none empty =
     let first = IsColumnOf-empty fields name n m empty in
     let no_text = λ (t : Scalar). places-none (has_term fields name t) 0 docs (λ k d lt. none_text fields name t _ (none k d lt)) in

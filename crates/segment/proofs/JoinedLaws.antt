@@ -134,7 +134,7 @@ module _ (fields : Fields) (name : List ℕ) (xs ys : List Values) (n : ℕ) whe
   later-only test none all = places-joined test (none [] refl) xs ys ∙ ap (λ ps. ps ++ places test (behind (length xs) ys)) (places-none test 0 xs (λ k d lt. none _ (all k d lt)))
 
   -- the same column of more documents
-  same-column : (docs all : List Values) (m : Making) → ((test : Values → Bool) → ((d : Values) → values_at name d ≡ [] → test d ≡ false) → places test all ≡ places test docs) → IsColumnOf fields docs name n m → IsColumnOf fields all name n m
+  pub same-column : (docs all : List Values) (m : Making) → ((test : Values → Bool) → ((d : Values) → values_at name d ≡ [] → test d ≡ false) → places test all ≡ places test docs) → IsColumnOf fields docs name n m → IsColumnOf fields all name n m
   same-column docs all m same is =
       let value = same (has_value name) (none_value name) in
       let term = λ (t : Scalar). same (has_term fields name t) (none_text fields name t) in

@@ -20,3 +20,8 @@ pub mod AddedLaws
 pub mod FinishLaws
 pub mod JoinedLaws
 pub mod PieceLaws
+pub mod MovingLaws
+pub mod PlacedLaws
+pub mod TurnLaws
+pub mod WovenLaws
+pub mod WeavingLaws

@@ -9,3 +9,5 @@ pub mod Limits
 pub mod Blocks
 pub mod Merged
 pub mod Added
+pub mod Woven
+pub mod WovenColumns

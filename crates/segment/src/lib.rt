@@ -10,6 +10,7 @@ mod joining;
 mod limits;
 mod making;
 pub mod merging;
+mod moving;
 mod pieces;
 pub mod places;
 mod posting;
@@ -17,7 +18,9 @@ pub mod segment;
 mod spans;
 mod term;
 mod texts;
+pub mod weaving;
 
 pub use column::Column;
 pub use merging::{LiveSegment, merge, read_kept};
 pub use segment::Segment;
+pub use weaving::Strand;

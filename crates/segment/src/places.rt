@@ -1,8 +1,10 @@
 //! The places of the documents that have a term.
-ghost use Rattle.std.specs.Prelude.{◌≡◌, ◌∷◌, ◌++◌, ℤ, [], false, OnOk};
+ghost use Rattle.std.specs.Prelude.{◌≡◌, ◌∷◌, ◌++◌, ℤ, [], false, IfOk, OnOk};
 ghost use Rattle.std.specs.Ordering.{int_eq};
 ghost use Rattle.segment.specs.Places.{as_list, places_at_long};
+ghost use Rattle.segment.specs.Woven.{risen};
 
+use crate::moving::risen;
 use std::alloc::{AllocError, Global};
 use std::collections::BTreeMap;
 use std::slice;
@@ -18,6 +20,16 @@ pub enum Places {
 }
 
 impl Places {
+    /// These places.
+    pub(crate) fn of(alloc: Global, places: &[u32]) -> Result<Places, AllocError>
+        ensures { IfOk result (λ p. as_list p ≡ places.now) }
+    {
+        if places.len() == 1 {
+            return Ok(Places::One(places[0]));
+        }
+        Ok(Places::Many(Vec::from_slice(alloc, places)?))
+    }
+
     /// The places one after another.
     pub(crate) fn as_slice(&self) -> &[u32]
         ensures { result.now ≡ as_list self.now }
@@ -57,6 +69,15 @@ impl Places {
                 places.extend_from_slice(later)?;
             }
         }
+        Ok(())
+    }
+
+    /// Adds places that come among those that are there.
+    pub(crate) fn merge(&mut self, alloc: Global, later: &[u32]) -> Result<(), AllocError>
+        ensures { OnOk result (as_list self.new ≡ risen (as_list self.old) later.now) }
+    {
+        let all = risen(alloc, self.as_slice(), later)?;
+        *self = Places::Many(all);
         Ok(())
     }
 }
@@ -102,5 +123,26 @@ fn append_at(
         return Ok(());
     }
     longs.insert(number, later)?;
+    Ok(())
+}
+
+/// Adds places of a number that come among those that it has.
+pub(crate) fn merge_longs_at(
+    alloc: Global,
+    longs: &mut BTreeMap<i64, Places>,
+    number: i64,
+    later: &[u32],
+) -> Result<(), AllocError>
+    ensures here { OnOk result (places_at_long longs.new number ≡ risen (places_at_long longs.old number) later.now) }
+    ensures others { OnOk result ((z : ℤ) → int_eq number z ≡ false → places_at_long longs.new z ≡ places_at_long longs.old z) }
+{
+    if later.is_empty() {
+        return Ok(());
+    }
+    if let Some(places) = longs.get_mut(&number) {
+        places.merge(alloc, later)?;
+        return Ok(());
+    }
+    longs.insert(number, Places::of(alloc, later)?)?;
     Ok(())
 }

@@ -10,13 +10,14 @@ ghost use Rattle.terms.specs.BoundsView.{bounds_view};
 ghost use Rattle.marks.specs.Lists.{zip_with, marked, places};
 ghost use Rattle.segment.specs.Term.{is_text, is_long, is_truth};
 ghost use Rattle.segment.specs.Limits.{limits_view};
-ghost use Rattle.segment.specs.Indexed.{has_term, has_value, IsColumn, IsColumnOr};
+ghost use Rattle.segment.specs.Indexed.{has_term, has_value, IsColumn, IsColumnOr, IsIndexed};
 
 use crate::blocks::mark_block;
 use crate::column::Column;
 use crate::limits::Limits;
 use crate::term::Term;
-use crate::{building, pieces, spans, term};
+use crate::weaving::Strand;
+use crate::{building, pieces, spans, term, weaving};
 use doc::{Mapping, Scalar, Source};
 use marks::Marks;
 use std::alloc::{AllocError, Global};
@@ -98,6 +99,26 @@ impl Segment {
         })
     }
 
+    /// The segment of these texts, as `build` makes it. Where the strands' segments were read under the mapping and their documents are the texts at the places that they are given,
+    /// each place once and rising in each strand, their columns are put together and no text is read again; else all are read.
+    pub fn weave(
+        alloc: Global,
+        mapping: &Arc<Mapping, Global>,
+        sources: Vec<Source>,
+        strands: &[Strand<'_>],
+    ) -> Result<Segment, AllocError>
+        requires { length sources.items < 2 ^ 32 }
+        ensures { IfOk result (λ s. s ≡ record { mapping = arc_value mapping.now; sources = sources.items }) }
+    {
+        let columns = weaving::columns_of(alloc, mapping, &sources, strands)?;
+        let mapping = Arc::try_clone(mapping)?;
+        Ok(Segment {
+            mapping,
+            sources,
+            columns,
+        })
+    }
+
     /// How many documents there are.
     pub fn len(&self) -> usize
         ensures is { result ≡ length self.now.sources }
@@ -118,6 +139,13 @@ impl Segment {
         ensures { result.now ≡ self.now.sources }
     {
         &self.sources
+    }
+
+    /// The columns of its fields.
+    pub(crate) fn columns(&self) -> &BTreeMap<String, Box<Column>>
+        ensures { IsIndexed self.now.mapping self.now.sources result.now }
+    {
+        &self.columns
     }
 
     /// The column of a field.

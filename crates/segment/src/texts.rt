@@ -3,6 +3,7 @@ ghost use Rattle.std.specs.Prelude.{◌≡◌, ◌++◌, [], ℕ, List, false, s
 ghost use Rattle.std.specs.Str.{bytes_eq};
 ghost use Rattle.segment.specs.Places.{added, as_list, ends_at, places_at, places_in};
 ghost use Rattle.segment.specs.Posted.{places_so_far};
+ghost use Rattle.segment.specs.Woven.{risen};
 
 use crate::places::Places;
 use std::alloc::{AllocError, Global};
@@ -51,6 +52,25 @@ impl Texts {
         join_in_order(alloc, &mut texts, later.in_order(alloc)?)?;
         *self = Texts::Ordered(texts);
         Ok(())
+    }
+
+    /// Adds places of a text that come among those that it has.
+    pub(crate) fn merge(
+        &mut self,
+        alloc: Global,
+        word: &str,
+        later: &[u32],
+    ) -> Result<(), AllocError>
+        ensures here { OnOk result (places_so_far self.new word.now ≡ risen (places_so_far self.old word.now) later.now) }
+        ensures others { OnOk result ((w : List ℕ) → bytes_eq word.now w ≡ false → places_so_far self.new w ≡ places_so_far self.old w) }
+    {
+        if later.is_empty() {
+            return Ok(());
+        }
+        match self {
+            Texts::Ordered(texts) => merge_in_order(alloc, texts, word, later),
+            Texts::Table(texts) => merge_in_table(alloc, texts, word, later),
+        }
     }
 
     /// The same places, in order of the texts.
@@ -133,6 +153,38 @@ fn append_at(
         return places.append(alloc, later.as_slice());
     }
     texts.insert(word, later)?;
+    Ok(())
+}
+
+fn merge_in_order(
+    alloc: Global,
+    texts: &mut BTreeMap<String, Places>,
+    word: &str,
+    later: &[u32],
+) -> Result<(), AllocError>
+    ensures here { OnOk result (places_at texts.new word.now ≡ risen (places_at texts.old word.now) later.now) }
+    ensures others { OnOk result ((w : List ℕ) → bytes_eq word.now w ≡ false → places_at texts.new w ≡ places_at texts.old w) }
+{
+    if let Some(places) = texts.get_mut(word) {
+        return places.merge(alloc, later);
+    }
+    texts.insert(String::from_str(alloc, word)?, Places::of(alloc, later)?)?;
+    Ok(())
+}
+
+fn merge_in_table(
+    alloc: Global,
+    texts: &mut HashMap<String, Places>,
+    word: &str,
+    later: &[u32],
+) -> Result<(), AllocError>
+    ensures here { OnOk result (places_in texts.new word.now ≡ risen (places_in texts.old word.now) later.now) }
+    ensures others { OnOk result ((w : List ℕ) → bytes_eq word.now w ≡ false → places_in texts.new w ≡ places_in texts.old w) }
+{
+    if let Some(places) = texts.get_mut(word) {
+        return places.merge(alloc, later);
+    }
+    texts.insert(String::from_str(alloc, word)?, Places::of(alloc, later)?)?;
     Ok(())
 }
 

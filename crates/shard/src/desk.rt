@@ -13,7 +13,7 @@ use crate::answering::{count_of, search_of};
 use crate::history::{Begun, HistoryName, Kept, Label, Reached};
 use crossbeam_channel::{Receiver, Sender, unbounded};
 use doc::{Mapping, Source};
-use engine::{Merged, Merging, Snapshot};
+use engine::{Merged, Merging, Prebuilt, Snapshot, Unshown};
 use front::command::Command;
 use front::reply::{Refusal, Reply};
 use front::{Resumable, Service};
@@ -262,14 +262,15 @@ impl<D: LogDevice, N: HistoryName> SharedShard<D, N> {
         let refreshes = is_refresh(&command);
         let mut held = self.shard.lock(rt);
         let told = held.call(known, command);
-        self.show(rt, &*held);
+        drop(self.show(rt, &*held));
         if refreshes {
             self.begin_merge(rt, &*held);
         }
         told
     }
 
-    /// Has searches see all that was written, for one who knows so much of the history. A large segment is built by the builder, and all of it while the index is locked.
+    /// Has searches see all that was written, for one who knows so much of the history. A large segment is built by the builder while commands go on; what
+    /// they write meanwhile is added to it at the end.
     pub fn refresh<
         R: Wait,
         F: Fn(Global, &Arc<Mapping, Global>, Vec<Source>) -> Result<Segment, AllocError>,
@@ -277,19 +278,41 @@ impl<D: LogDevice, N: HistoryName> SharedShard<D, N> {
         requires { Builds F.Fn builder.now }
         ensures { IsDone known.now refresh (reply_view result.0) result.1 }
     {
+        let prebuilt = self.prebuild(rt, builder);
         let mut held = self.shard.lock(rt);
-        // Without memory for it now the refresh builds the segment.
-        let _ = held.build_ahead(builder);
+        if let Some(prebuilt) = prebuilt {
+            held.keep_prebuilt(prebuilt);
+        }
         let told = held.call(known, Command::Refresh);
-        self.show(rt, &*held);
+        drop(self.show(rt, &*held));
         self.begin_merge(rt, &*held);
         told
     }
 
-    /// Has searches see what the index shows now.
-    fn show<R: Wait>(&self, rt: &R, kept: &Kept<D, N>) {
+    /// Has the builder build what a refresh would show now, where that is much. Without memory for it now the refresh builds it.
+    fn prebuild<
+        R: Wait,
+        F: Fn(Global, &Arc<Mapping, Global>, Vec<Source>) -> Result<Segment, AllocError>,
+    >(&self, rt: &R, builder: &F) -> Option<Prebuilt>
+        requires { Builds F.Fn builder.now }
+    {
+        let unshown = self.unshown(rt)?;
+        unshown.build(builder).ok()
+    }
+
+    /// What a refresh would show now, where that is much.
+    fn unshown<R: Wait>(&self, rt: &R) -> Option<Unshown> {
+        let held = self.shard.lock(rt);
+        match held.unshown() {
+            Ok(unshown) => unshown,
+            Err(_) => None,
+        }
+    }
+
+    /// Has searches see what the index shows now, and gives back what they saw.
+    fn show<R: Wait>(&self, rt: &R, kept: &Kept<D, N>) -> Option<Seen<D, N>> {
         let next = Seen::of(kept);
-        drop(self.replace(rt, next));
+        self.replace(rt, next)
     }
 
     /// Has searches see this, and gives back what they saw.
@@ -330,15 +353,21 @@ impl<D: LogDevice, N: HistoryName> SharedShard<D, N> {
 
     /// Puts a merge in place that was built, and begins the next one. One whose segments are gone is let go.
     fn put_merged<R: Wait>(&self, rt: &R, merged: Option<Merged>) {
+        // The segments that it replaced are let go of while commands go on.
+        drop(self.swap_merged(rt, merged));
+    }
+
+    /// The same, and gives back what searches saw.
+    fn swap_merged<R: Wait>(&self, rt: &R, merged: Option<Merged>) -> Option<Seen<D, N>> {
         let mut held = self.shard.lock(rt);
         self.note_built(rt);
-        let Some(merged) = merged else {
-            return;
-        };
-        if held.swap_merged(merged).is_ok() {
-            self.show(rt, &*held);
-            self.begin_merge(rt, &*held);
+        let merged = merged?;
+        if held.swap_merged(merged).is_err() {
+            return None;
         }
+        let before = self.show(rt, &*held);
+        self.begin_merge(rt, &*held);
+        before
     }
 
     /// No merge is being built any more.

@@ -2,7 +2,6 @@
 ghost use Rattle.std.specs.Prelude.{◌≡◌, ◌≤◌, IfOk, IsTrue, IfSome, length, map, string_bytes};
 ghost use Rattle.std.specs.Arc.{arc_value};
 ghost use mathlib.Core.List.{IsPrefix};
-ghost use Rattle.segment.specs.Builds.{Builds};
 ghost use Rattle.front.specs.CommandView.{command_view};
 ghost use Rattle.front.specs.ReplyView.{reply_view};
 ghost use Rattle.replica.specs.Logged.{searched};
@@ -11,10 +10,9 @@ ghost use Rattle.shard.specs.History.{AreUnder, EndsIn, IsDone, IsHistory, Diffe
 
 use crate::shard::Shard;
 use chronicle::{Chronicle, Mark, Writer};
-use doc::{Mapping, Source};
-use engine::{Merged, Merging, Snapshot};
+use doc::Mapping;
+use engine::{Merged, Merging, Prebuilt, Snapshot, Unshown};
 use front::{Command, Reply, Service};
-use segment::Segment;
 use std::alloc::{AllocError, Global};
 use std::marker::{Brand, Model, PhantomData};
 use std::sync::Arc;
@@ -297,13 +295,15 @@ impl<D: LogDevice, N: HistoryName> Kept<D, N> {
         Ok(is_there)
     }
 
-    /// Has the builder build the segment that the next refresh shows, where that is large. The index stays as it is.
-    pub(crate) fn build_ahead<
-        F: Fn(Global, &Arc<Mapping, Global>, Vec<Source>) -> Result<Segment, AllocError>,
-    >(&mut self, builder: &F) -> Result<(), AllocError>
-        requires { Builds F.Fn builder.now }
+    /// The documents that a refresh would show now and searches don't, where there are many. The index stays as it is.
+    pub(crate) fn unshown(&self) -> Result<Option<Unshown>, AllocError> {
+        self.shard.unshown()
+    }
+
+    /// Keeps what was built for the next refresh. The index stays as it is.
+    pub(crate) fn keep_prebuilt(&mut self, prebuilt: Prebuilt)
         ensures { self.new ≡ self.old }
     {
-        self.shard.build_ahead(builder)
+        self.shard.keep_prebuilt(prebuilt);
     }
 }

@@ -4,7 +4,6 @@ ghost use Rattle.std.specs.Arc.{arc_value};
 ghost use Rattle.serde_json.specs.View.{view};
 ghost use Rattle.doc.specs.Fault.{fault_of};
 ghost use Rattle.doc.specs.Outcome.{Gives};
-ghost use Rattle.segment.specs.Builds.{Builds};
 ghost use Rattle.shard.specs.Answering.{begun_under};
 ghost use Rattle.shard.specs.Ready as spec;
 ghost use Rattle.shard.specs.Ready.{IsReady, IsUnready};
@@ -14,13 +13,12 @@ ghost use Rattle.shard.specs.History.{seen_of};
 
 use crate::answering::reply_to;
 use crate::ready::{is_primary, is_write, make_ready};
-use doc::{DocFault, Mapping, Source};
-use engine::{Merged, Merging, Snapshot};
+use doc::{DocFault, Mapping};
+use engine::{Merged, Merging, Prebuilt, Snapshot, Unshown};
 use front::reply::Refusal;
 use front::{Command, Reply, Service};
 use master::Master;
 use replica::Copy;
-use segment::Segment;
 use serde_json::Value;
 use std::alloc::{AllocError, Global};
 use std::sync::Arc;
@@ -114,14 +112,16 @@ impl<D: LogDevice> Shard<D> {
         self.copy.swap_merged(self.alloc, merged)
     }
 
-    /// Has the builder build the segment that the next refresh shows, where that is large. Nothing else changes.
-    pub(crate) fn build_ahead<
-        F: Fn(Global, &Arc<Mapping, Global>, Vec<Source>) -> Result<Segment, AllocError>,
-    >(&mut self, builder: &F) -> Result<(), AllocError>
-        requires { Builds F.Fn builder.now }
+    /// The documents that a refresh would show now and searches don't, where there are many. The index stays as it is.
+    pub(crate) fn unshown(&self) -> Result<Option<Unshown>, AllocError> {
+        self.copy.unshown(self.alloc)
+    }
+
+    /// Keeps what was built for the next refresh. Nothing else changes.
+    pub(crate) fn keep_prebuilt(&mut self, prebuilt: Prebuilt)
         ensures { self.new ≡ self.old }
     {
-        self.copy.build_ahead(builder, self.alloc)
+        self.copy.keep_prebuilt(prebuilt);
     }
 
     /// What searches see; nothing while the copy is closed.

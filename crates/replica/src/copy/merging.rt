@@ -4,16 +4,12 @@ ghost use Rattle.engine.specs.Live.{small_count};
 ghost use Rattle.engine.specs.Published.{taken_of};
 ghost use Rattle.op.specs.Documents.{documents};
 ghost use Rattle.op.specs.Records.{shown};
-ghost use Rattle.segment.specs.Builds.{Builds};
 ghost use Rattle.replica.specs.Logged.{searched};
 ghost use Rattle.replica.specs.Searched.{HasMergedNext, IsNextMerge, IsSwapOf};
 
 use crate::copy::Copy;
-use doc::{Mapping, Source};
-use engine::{Merged, Merging};
-use segment::Segment;
+use engine::{Merged, Merging, Prebuilt, Unshown};
 use std::alloc::{AllocError, Global};
-use std::sync::Arc;
 use translog::LogDevice;
 
 impl<D: LogDevice> Copy<D> {
@@ -63,14 +59,17 @@ impl<D: LogDevice> Copy<D> {
         self.state.swap_merged(alloc, merged)
     }
 
-    /// Has the builder build the segment that the next refresh shows, where that is large; the refresh takes it if nothing was written since. Nothing else
-    /// changes, and it is no step.
-    pub fn build_ahead<
-        F: Fn(Global, &Arc<Mapping, Global>, Vec<Source>) -> Result<Segment, AllocError>,
-    >(&mut self, builder: &F, alloc: Global) -> Result<(), AllocError>
-        requires { Builds F.Fn builder.now }
+    /// The documents that a refresh would show now and searches don't, where there are many: their segment may be built beside the copy.
+    pub fn unshown(&self, alloc: Global) -> Result<Option<Unshown>, AllocError>
+        ensures { IfOk result (λ o. IfSome o (λ u. u.mapping ≡ self.now.copy.mapping)) }
+    {
+        self.state.unshown(alloc)
+    }
+
+    /// Keeps what was built for the next refresh, which then builds what came since alone. Nothing else changes, and it is no step.
+    pub fn keep_prebuilt(&mut self, prebuilt: Prebuilt)
         ensures { self.new ≡ self.old }
     {
-        self.state.build_ahead(builder, alloc)
+        self.state.keep_prebuilt(prebuilt);
     }
 }

@@ -10,4 +10,4 @@ use Rattle.engine.proofs.swapping.part_showing.Goals as goal
 
 pub of-requires-clause-sorted : goal.of-requires-clause-sorted
 of-requires-clause-sorted c =
-    subst (λ (ds : Documents). is_sorted id_cmp ds ≡ true) (sym (ap (map entry_view) c.deref-2.ensures.value ∙ c.in_ok-live.ensures)) (T_true _ (in_order-woven (documents_of_parts c.args.parts.now) c.requires))
+    subst (λ (ds : Documents). is_sorted id_cmp ds ≡ true) (sym (ap (map entry_view) c.deref-2.ensures.value ∙ c.in_ok-live.ensures)) (T_true _ (in_order-woven (documents_of_parts c.args.parts.now) c.requires.order))

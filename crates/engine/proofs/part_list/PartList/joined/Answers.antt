@@ -11,5 +11,5 @@ use Rattle.engine.proofs.part_list.PartList.joined.Goals as goal
 pub of-requires-clause-sorted : goal.of-requires-clause-sorted
 of-requires-clause-sorted c =
     let ps = c.self.inside.parts.items in
-    let all = ap (map entry_view) c.deref-2.ensures.value ∙ c.in_ok-entries.ensures ∙ ap (λ (qs : List PartData). woven (documents_of_parts qs)) c.deref.ensures.value in
+    let all = ap (map entry_view) c.deref-4.ensures.value ∙ c.in_ok-entries.ensures ∙ ap (λ (qs : List PartData). woven (documents_of_parts qs)) c.deref.ensures.value in
     subst (λ (ds : Documents). is_sorted id_cmp ds ≡ true) (sym all) (T_true _ (in_order-woven (documents_of_parts ps) c.self.invariant.apart.sorted))

@@ -5,17 +5,25 @@ use Rattle.std.proofs.Common.{◌<◌, ◌≤◌, ◌∙◌, ◌++◌, ◌∷◌
 use Rattle.std.specs.Arc.{arc_value}
 use Rattle.engine.specs.Parts.{PartListData, all_published}
 use Rattle.engine.specs.Published.{AreGone, IsReplaced}
+use Rattle.engine.proofs.LeftLaws.{split-among}
 use Rattle.engine.proofs.SwapLaws.{split-none, split-order, split-some, replaced-parts, replaced-woven, replaced}
 use Rattle.engine.proofs.part_list.PartList.swapped.Goals as goal
 
 -- the parts that go into the merged one are in order
-pub part_showing-requires : goal.part_showing-requires
-part_showing-requires c =
+pub part_showing-requires-clause-order : goal.part_showing-requires-clause-order
+part_showing-requires-clause-order c =
     let ps = c.self.inside.parts.items in
     let stay = c.in_ok-halves.halves.stay.items in
     let go = c.in_ok-halves.halves.go.items in
     let split = rw c.deref.ensures.value at c.in_ok-halves.ensures in
     rw c.deref-2.ensures.value (split-order (all_published c.args.taken.now) ps stay go split c.self.invariant.apart.sorted).1
+
+-- and were taken
+pub part_showing-requires-clause-among : goal.part_showing-requires-clause-among
+part_showing-requires-clause-among c =
+    let taken = all_published c.args.taken.now in
+    let split = rw c.deref.ensures.value at c.in_ok-halves.ensures in
+    rw c.deref-2.ensures.value (split-among taken c.self.inside.parts.items c.in_ok-halves.halves.stay.items c.in_ok-halves.halves.go.items split)
 
 -- the merged part stands behind the others
 pub invariant_of-result : goal.invariant_of-result

@@ -1,0 +1,83 @@
+//! Which ids may be among some, told by a bit for each.
+ghost use Rattle.std.specs.Prelude.{◌≡◌, ◌<◌, ◌^◌, true, length, slice_set, IfOk};
+ghost use Rattle.engine.specs.IdFilter.{has_bit, hash_from, place_in};
+
+use doc::DocId;
+use marks::Marks;
+use std::alloc::{AllocError, Global};
+use std::marker::Model;
+
+/// So many bits an id: one of sixteen ids that aren't there is looked for.
+const BITS: usize = 16;
+
+const LEAST_BITS: usize = 64;
+
+const MOST_BITS: usize = 4_294_967_295;
+
+/// The greatest prime number below 2^32.
+const PRIME: u64 = 4_294_967_291;
+
+/// A bit for each place that an id of some may have.
+pub(crate) struct IdFilter {
+    bits: Marks,
+}
+
+impl Drop for IdFilter {
+    fn drop(self) {
+        let IdFilter { bits: _bits } = self;
+    }
+}
+
+impl Model for IdFilter {
+    ghost use Rattle.std.specs.Prelude.{◌<◌, ◌^◌, Bool, List, length};
+
+    ghost Value = { List Bool };
+
+    ghost view = { λ f. f.bits };
+
+    ghost invariant = { λ f. (0 < length f.bits) × (length f.bits < 2 ^ 32) };
+}
+
+impl IdFilter {
+    /// The filter of no id, where so many are to come.
+    pub(crate) fn none(alloc: Global, ids: usize) -> Result<IdFilter, AllocError> {
+        let len = ids.saturating_mul(BITS).max(LEAST_BITS).min(MOST_BITS);
+        let bits = Marks::none(alloc, len)?;
+        Ok(IdFilter { bits })
+    }
+
+    /// Sets the bit of an id.
+    pub(crate) fn add(&mut self, id: &DocId)
+        ensures set { self.new ≡ slice_set self.old (place_in (length self.old) id.now) true }
+        ensures within { place_in (length self.old) id.now < length self.old }
+    {
+        let at = place_of(id, self.bits.len());
+        self.bits.set(at);
+    }
+
+    /// Whether the bit of an id is set.
+    pub(crate) fn may_have(&self, id: &DocId) -> bool
+        ensures { result ≡ has_bit self.now id.now }
+    {
+        self.bits.get(place_of(id, self.bits.len()))
+    }
+}
+
+fn place_of(id: &DocId, len: usize) -> u32
+    requires some { 0 < len }
+    requires few { len < 2 ^ 32 }
+    ensures is { result ≡ place_in len id.now }
+    ensures within { result < len }
+{
+    (hash_of(id.as_str().as_bytes()) % len as u64) as u32
+}
+
+fn hash_of(bytes: &[u8]) -> u64
+    ensures { result ≡ hash_from 0 bytes.now }
+{
+    let mut hash = 0u64;
+    for byte in bytes {
+        hash = (hash + *byte as u64 + 1) * 16_777_619 % PRIME;
+    }
+    hash
+}
