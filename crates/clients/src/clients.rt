@@ -96,18 +96,20 @@ impl<'w, W: Watcher, K: Drop> Clients<'w, W, K> {
     }
 
     /// Serves connections in this lane with this service, until the last that is wanted has ended; in the last lane it refreshes the index again and again,
-    /// by a call that tells whether that was done.
-    pub fn run<R: Wait + Clock, S: Resumable<Known = K> + Drop, B: Fn() -> bool>(
+    /// by a call that prepares that, while commands go on, and one that tells whether it was done.
+    pub fn run<R: Wait + Clock, S: Resumable<Known = K> + Drop, P: Fn(), B: Fn() -> bool>(
         &self,
         rt: &R,
         lane: usize,
         service: S,
+        prepare: &P,
         refresh: &B,
     ) -> io::Result<()>
-        requires { B.Fn.pre refresh.now tt }
+        requires prepare { P.Fn.pre prepare.now tt }
+        requires refresh { B.Fn.pre refresh.now tt }
     {
         if lane >= self.limits.working() {
-            self.refresh_in_turn(rt, refresh);
+            self.refresh_in_turn(rt, prepare, refresh);
             return Ok(());
         }
         let mut service = Noting {
@@ -365,8 +367,14 @@ impl<'w, W: Watcher, K: Drop> Clients<'w, W, K> {
     }
 
     /// Refreshes the index again and again until the last connection has ended: each time that its time is over, or many writes came.
-    fn refresh_in_turn<C: Clock, B: Fn() -> bool>(&self, clock: &C, refresh: &B)
-        requires { B.Fn.pre refresh.now tt }
+    fn refresh_in_turn<C: Clock, P: Fn(), B: Fn() -> bool>(
+        &self,
+        clock: &C,
+        prepare: &P,
+        refresh: &B,
+    )
+        requires prepare { P.Fn.pre prepare.now tt }
+        requires refresh { B.Fn.pre refresh.now tt }
     {
         if self.limits.refresh == 0 {
             return;
@@ -380,19 +388,22 @@ impl<'w, W: Watcher, K: Drop> Clients<'w, W, K> {
             thread::sleep(clock, Duration::from_millis(tick));
             left -= tick;
             if left == 0 || self.notes.written.load(Ordering::SeqCst) >= MANY {
-                self.refresh_once(refresh);
+                self.refresh_once(prepare, refresh);
                 left = self.limits.refresh;
             }
         }
     }
 
     /// Refreshes the index where something was written. What is refused is tried again when its time is over.
-    fn refresh_once<B: Fn() -> bool>(&self, refresh: &B)
-        requires { B.Fn.pre refresh.now tt }
+    fn refresh_once<P: Fn(), B: Fn() -> bool>(&self, prepare: &P, refresh: &B)
+        requires prepare { P.Fn.pre prepare.now tt }
+        requires refresh { B.Fn.pre refresh.now tt }
     {
-        if self.notes.written.swap(0, Ordering::SeqCst) == 0 {
+        if self.notes.written.load(Ordering::SeqCst) == 0 {
             return;
         }
+        prepare();
+        self.notes.written.store(0, Ordering::SeqCst);
         self.notes.refreshing.store(true, Ordering::SeqCst);
         let done = refresh();
         self.notes.refreshing.store(false, Ordering::SeqCst);

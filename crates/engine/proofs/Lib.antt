@@ -18,4 +18,5 @@ pub mod PublishedLaws
 pub mod AheadLaws
 pub mod LivingLaws
 pub mod ChoosingLaws
+pub mod LatestLaws
 pub mod LeftLaws

@@ -36,7 +36,7 @@ less Less p = refl
 less Equal p = absurd p
 less Greater p = absurd p
 
-is_less : (o : Ordering) → o ≡ Less → T (is_lt o)
+pub is_less : (o : Ordering) → o ≡ Less → T (is_lt o)
 is_less o is = subst (λ r. T (is_lt r)) (sym is) tt
 
 pub true_T : (b : Bool) → b ≡ true → T b

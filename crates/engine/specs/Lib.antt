@@ -16,3 +16,4 @@ pub mod Last
 pub mod IdFilter
 pub mod OperationIndex
 pub mod Before
+pub mod Latest

@@ -217,7 +217,7 @@ impl Block {
         requires { All (λ p. p < length self.now.documents) found.now }
         ensures { IfOk result (λ v. map (λ e. Some (entry_view e)) v.items ≡ map (λ p. slice_get self.now.documents p) found.now) }
     {
-        let mut entries = Vec::new(alloc);
+        let mut entries = Vec::with_capacity(alloc, found.len())?;
         for place in found {
             let shown = &self.documents[*place as usize];
             entries.push(entry_of(shown))?;

@@ -18,10 +18,10 @@ const SMALL: usize = 32_768;
 /// No more segments go into one at once.
 const MOST_AT_ONCE: usize = 10;
 
-/// They have no more live documents: writes wait while a merge passes over these, at its end.
+/// They have no more live documents: until these are put together no other merge begins.
 const MOST_LIVE: usize = 65_536;
 
-/// No more documents were put into them: writes wait while these are compared, too.
+/// No more documents were put into them: writes wait while these are compared, at its end.
 const MOST_PUT: usize = 262_144;
 
 /// No more of one segment count. So any two small ones go into one, and a segment whose documents are mostly dead goes, too, however large it was.

@@ -1,11 +1,13 @@
 //! The documents that operations make, as a list in byte order of their ids.
-ghost use Rattle.std.specs.Prelude.{◌≡◌, true, None, if◌then◌else◌, map, All, IfOk, OnOk};
+ghost use Rattle.std.specs.Prelude.{◌≡◌, ◌∷◌, [], true, None, Some, if◌then◌else◌, map, All, IfOk, IfSome, OnOk};
 ghost use Rattle.std.specs.BTreeMap.{values};
 ghost use Rattle.std.specs.FinMap.Entries.{is_sorted};
 ghost use Rattle.doc.specs.Id.{Id, id_cmp};
-ghost use Rattle.op.specs.Documents.{applied, document_at, documents};
+ghost use Rattle.op.specs.Documents.{document_at, documents};
+ghost use Rattle.op.specs.Operations.{is_on};
 ghost use Rattle.op.specs.Records.{operations};
 ghost use Rattle.engine.specs.Entry.{entry_view, documents_in, put_if, IsByIds};
+ghost use Rattle.engine.specs.Latest.{last_in, left_all, left_of, AreOn, IsLatest, Key};
 ghost use Rattle.engine.specs.Parts.{is_among};
 
 use crate::history::History;
@@ -31,12 +33,84 @@ pub(crate) fn documents_of<'a>(
 ) -> Result<Vec<Entry<'a>>, AllocError>
     ensures { IfOk result (λ v. map entry_view v.items ≡ documents operations.now) }
 {
-    let mut found = BTreeMap::new(alloc);
-    for op in operations {
-        apply(&mut found, op)?;
-    }
-    let entries = entries_of(alloc, &found)?;
+    let latest = latest_of(alloc, operations)?;
+    let last = in_order(alloc, &latest)?;
+    let entries = entries_left(alloc, &last)?;
     Ok(entries)
+}
+
+/// The last operation on each id. Sorted at once: by far less is compared than where each goes to its place.
+fn latest_of<'a>(
+    alloc: Global,
+    operations: &'a [Op],
+) -> Result<BTreeMap<&'a str, &'a Op>, AllocError>
+    ensures { IfOk result (IsLatest operations.now) }
+{
+    let mut pairs = Vec::with_capacity(alloc, operations.len())?;
+    for op in operations {
+        note_last(&mut pairs, op)?;
+    }
+    BTreeMap::from_iter(alloc, pairs)
+}
+
+/// The operations of a map, in byte order of the ids.
+fn in_order<'a>(
+    alloc: Global,
+    latest: &BTreeMap<&'a str, &'a Op>,
+) -> Result<Vec<&'a Op>, AllocError>
+    ensures { IfOk result (λ v. v.items ≡ values latest.entry.now) }
+{
+    latest.values().copied().collect(alloc)
+}
+
+/// Notes an operation at its id, where it has one.
+fn note_last<'a>(pairs: &mut Vec<(&'a str, &'a Op)>, op: &'a Op) -> Result<(), AllocError>
+    requires { AreOn pairs.old.items }
+    ensures on { OnOk result (AreOn pairs.new.items) }
+    ensures last { OnOk result ((q : Key) → last_in pairs.new.items q ≡ (if is_on q.now op.now then Some op.now else last_in pairs.old.items q)) }
+{
+    match &op.body {
+        Body::Index(id, _) => {
+            pairs.push((id.as_str(), op))?;
+            Ok(())
+        }
+        Body::Delete(id) => {
+            pairs.push((id.as_str(), op))?;
+            Ok(())
+        }
+        Body::NoOp => Ok(()),
+    }
+}
+
+/// The documents that operations on different ids leave.
+fn entries_left<'a>(alloc: Global, operations: &[&'a Op]) -> Result<Vec<Entry<'a>>, AllocError>
+    ensures { IfOk result (λ v. map entry_view v.items ≡ left_all operations.now) }
+{
+    let mut entries = Vec::with_capacity(alloc, operations.len())?;
+    for op in operations {
+        if let Some(entry) = entry_left(op) {
+            entries.push(entry)?;
+        }
+    }
+    Ok(entries)
+}
+
+/// The document that an operation leaves.
+fn entry_left(op: &Op) -> Option<Entry<'_>>
+    ensures some { IfSome result (λ e. left_of op.now op.now.body ≡ entry_view e ∷ []) }
+    ensures none { result ≡ None → left_of op.now op.now.body ≡ [] }
+{
+    match &op.body {
+        Body::Index(id, source) => Some(Entry {
+            id,
+            seq: op.seq,
+            term: op.term,
+            version: op.version,
+            source,
+        }),
+        Body::Delete(_) => None,
+        Body::NoOp => None,
+    }
 }
 
 /// The documents that are at some ids, in byte order.
@@ -87,31 +161,4 @@ fn entries_of<'a>(
     ensures { IfOk result (λ v. v.items ≡ values found.entry.now) }
 {
     found.values().copied().collect(alloc)
-}
-
-/// The documents after one more operation.
-fn apply<'a>(found: &mut BTreeMap<&'a str, Entry<'a>>, op: &'a Op) -> Result<(), AllocError>
-    requires { IsByIds found.old }
-    ensures by_ids { OnOk result (IsByIds found.new) }
-    ensures documents { OnOk result (documents_in found.new ≡ applied (documents_in found.old) op.entry.now) }
-{
-    match &op.body {
-        Body::Index(id, source) => {
-            let entry = Entry {
-                id,
-                seq: op.seq,
-                term: op.term,
-                version: op.version,
-                source,
-            };
-            found.insert(id.as_str(), entry)?;
-            Ok(())
-        }
-        Body::Delete(id) => {
-            let _ordered = found.len();
-            let _before = found.remove(id.as_str());
-            Ok(())
-        }
-        Body::NoOp => Ok(()),
-    }
 }

@@ -264,7 +264,7 @@ impl Engine {
         Ok(showing)
     }
 
-    /// The documents that a refresh would show now and searches don't, where there are many.
+    /// The documents that a refresh would show now and searches don't, where many of them aren't built.
     pub fn unshown(&self, alloc: Global) -> Result<Option<Unshown>, AllocError>
         ensures { IfOk result (λ o. IfSome o (λ u. u.mapping ≡ self.now.mapping)) }
     {
@@ -272,11 +272,19 @@ impl Engine {
             return Ok(None);
         };
         let entries = documents_at(alloc, &self.history, &ids)?;
-        if entries.len() < MANY {
+        if entries.len().saturating_sub(self.built()) < MANY {
             return Ok(None);
         }
-        let unshown = Unshown::of(alloc, &self.mapping, &entries)?;
+        let unshown = Unshown::of(alloc, &self.mapping, &self.ready, &entries)?;
         Ok(Some(unshown))
+    }
+
+    /// How many documents are built for the next refresh.
+    fn built(&self) -> usize {
+        match &self.ready {
+            Some(block) => block.len(),
+            None => 0,
+        }
     }
 
     /// Keeps what was built for the next refresh, which then builds what came since alone. Nothing else changes.

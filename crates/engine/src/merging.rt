@@ -19,7 +19,7 @@ pub(crate) fn merge<'a>(
     requires right { is_sorted id_cmp (map entry_view right.now) ≡ true }
     ensures { IfOk result (λ v. map entry_view v.items ≡ merged (map entry_view left.entry.now) (map entry_view right.entry.now)) }
 {
-    let mut all = Vec::new(alloc);
+    let mut all = Vec::with_capacity(alloc, left.len().saturating_add(right.len()))?;
     let mut from_left = 0;
     let mut from_right = 0;
     while let Some(next) = first_of(&left[from_left..], &right[from_right..]) {

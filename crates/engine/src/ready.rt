@@ -17,13 +17,15 @@ use std::marker::Model;
 use std::sync::Arc;
 
 /// Fewer documents are built by the refresh itself.
-pub(crate) const MANY: usize = 1_024;
+pub(crate) const MANY: usize = 256;
 
 /// Documents that searches don't show yet, with what they are read under. It needs no engine.
 #[derive(Drop)]
 pub struct Unshown {
     alloc: Global,
     mapping: Arc<Mapping, Global>,
+    /// What was built before of some of them.
+    ready: Option<Arc<Block, Global>>,
     documents: Vec<Shown>,
 }
 
@@ -47,6 +49,7 @@ impl Unshown {
     pub(crate) fn of(
         alloc: Global,
         mapping: &Arc<Mapping, Global>,
+        ready: &Option<Arc<Block, Global>>,
         entries: &[Entry<'_>],
     ) -> Result<Unshown, AllocError>
         requires { is_sorted id_cmp (map entry_view entries.now) ≡ true }
@@ -54,14 +57,16 @@ impl Unshown {
     {
         let documents = shown_of(alloc, entries)?;
         let mapping = Arc::try_clone(mapping)?;
+        let ready = again(ready)?;
         Ok(Unshown {
             alloc,
             mapping,
+            ready,
             documents,
         })
     }
 
-    /// Has the builder build their segment.
+    /// The segment of all of them; those that weren't built before are built by the builder.
     pub fn build<F: Fn(Global, &Arc<Mapping, Global>, Vec<Source>) -> Result<Segment, AllocError>>(
         &self,
         builder: &F,
@@ -70,8 +75,7 @@ impl Unshown {
         ensures { IfOk result (λ b. b ≡ self.now) }
     {
         let entries = entries_in(self.alloc, &self.documents)?;
-        let block = Block::of(builder, self.alloc, &self.mapping, &entries)?;
-        let block = Arc::new(self.alloc, block)?;
+        let block = block_of(builder, self.alloc, &self.mapping, &self.ready, &entries)?;
         Ok(Prebuilt { block })
     }
 }
@@ -91,7 +95,15 @@ impl Model for Prebuilt {
     ghost view = { λ b. arc_value b.block };
 }
 
-/// The part of entries, all live: what was built before, where that is of these, or with what came since, where it is of some of them, else a new segment.
+/// The same once more.
+fn again(ready: &Option<Arc<Block, Global>>) -> Result<Option<Arc<Block, Global>>, AllocError> {
+    match ready {
+        Some(block) => Ok(Some(Arc::try_clone(block)?)),
+        None => Ok(None),
+    }
+}
+
+/// The part of entries, all live. What was built before of them isn't built again.
 pub(crate) fn part_of(
     alloc: Global,
     mapping: &Arc<Mapping, Global>,
@@ -102,29 +114,47 @@ pub(crate) fn part_of(
     requires { is_sorted id_cmp (map entry_view entries.now) ≡ true }
     ensures { IfOk result (λ p. p ≡ record { mapping = arc_value mapping.now; documents = map entry_view entries.entry.now; number = number; built = map entry_view entries.entry.now }) }
 {
-    let Some(block) = ready else {
-        return Part::of(&Segment::build, alloc, mapping, number, entries);
-    };
-    if block.is_under(mapping) && block.is_of(entries) {
-        let block = Arc::try_clone(block)?;
-        return Part::over(alloc, number, block);
-    }
-    part_around(alloc, mapping, block, number, entries)
+    let block = block_of(&Segment::build, alloc, mapping, ready, entries)?;
+    Part::over(alloc, number, block)
 }
 
-/// The part of entries, all live: the texts that a block has aren't read again.
-fn part_around(
+/// The documents of entries: what was built before, where that is of these, else with what came since, which the builder builds.
+fn block_of<F: Fn(Global, &Arc<Mapping, Global>, Vec<Source>) -> Result<Segment, AllocError>>(
+    builder: &F,
+    alloc: Global,
+    mapping: &Arc<Mapping, Global>,
+    ready: &Option<Arc<Block, Global>>,
+    entries: &[Entry<'_>],
+) -> Result<Arc<Block, Global>, AllocError>
+    requires builds { Builds F.Fn builder.now }
+    requires sorted { is_sorted id_cmp (map entry_view entries.now) ≡ true }
+    ensures { IfOk result (λ b. arc_value b ≡ record { mapping = arc_value mapping.now; documents = map entry_view entries.entry.now }) }
+{
+    let Some(block) = ready else {
+        let block = Block::of(builder, alloc, mapping, entries)?;
+        return Ok(Arc::new(alloc, block)?);
+    };
+    if block.is_under(mapping) && block.is_of(entries) {
+        return Ok(Arc::try_clone(block)?);
+    }
+    let block = block_around(builder, alloc, mapping, block, entries)?;
+    Ok(Arc::new(alloc, block)?)
+}
+
+/// The documents of entries: the texts that a block has aren't read again.
+fn block_around<F: Fn(Global, &Arc<Mapping, Global>, Vec<Source>) -> Result<Segment, AllocError>>(
+    builder: &F,
     alloc: Global,
     mapping: &Arc<Mapping, Global>,
     block: &Block,
-    number: u64,
     entries: &[Entry<'_>],
-) -> Result<Part, AllocError>
-    requires { is_sorted id_cmp (map entry_view entries.now) ≡ true }
-    ensures { IfOk result (λ p. p ≡ record { mapping = arc_value mapping.now; documents = map entry_view entries.entry.now; number = number; built = map entry_view entries.entry.now }) }
+) -> Result<Block, AllocError>
+    requires builds { Builds F.Fn builder.now }
+    requires sorted { is_sorted id_cmp (map entry_view entries.now) ≡ true }
+    ensures { IfOk result (λ b. b ≡ record { mapping = arc_value mapping.now; documents = map entry_view entries.entry.now }) }
 {
     let places = block.places_among(alloc, entries)?;
-    let others = others_of(alloc, mapping, &places, entries)?;
+    let others = others_of(builder, alloc, mapping, &places, entries)?;
     let Others {
         segment,
         places: places_of_others,
@@ -137,5 +167,5 @@ fn part_around(
         requires { length sources.items < 2 ^ 32 }
         ensures { IfOk result (λ s. s ≡ record { mapping = arc_value mapping.now; sources = sources.items }) }
     { Segment::weave(alloc, mapping, sources, &strands) };
-    Part::of(&weaver, alloc, mapping, number, entries)
+    Block::of(&weaver, alloc, mapping, entries)
 }

@@ -1,4 +1,6 @@
 //! Where documents that have a segment stand among all.
+ghost use Rattle.segment.specs.Builds.{Builds};
+
 use crate::block::Shown;
 use crate::documents::Entry;
 use crate::part::Part;
@@ -80,13 +82,18 @@ pub(crate) struct Others {
     pub(crate) places: Vec<Option<u32>>,
 }
 
-/// The segment of the entries that stand at none of some places.
-pub(crate) fn others_of(
+/// The segment, by the builder, of the entries that stand at none of some places.
+pub(crate) fn others_of<
+    F: Fn(Global, &Arc<Mapping, Global>, Vec<Source>) -> Result<Segment, AllocError>,
+>(
+    builder: &F,
     alloc: Global,
     mapping: &Arc<Mapping, Global>,
     places: &[Option<u32>],
     entries: &[Entry<'_>],
-) -> Result<Others, AllocError> {
+) -> Result<Others, AllocError>
+    requires { Builds F.Fn builder.now }
+{
     let covered = covered(alloc, places, entries.len())?;
     let mut sources = Vec::new(alloc);
     let mut others = Vec::new(alloc);
@@ -99,7 +106,7 @@ pub(crate) fn others_of(
     if sources.len() >= MAX_DOCUMENTS {
         return Err(AllocError);
     }
-    let segment = Segment::build(alloc, mapping, sources)?;
+    let segment = builder(alloc, mapping, sources)?;
     Ok(Others {
         segment,
         places: others,

@@ -3,11 +3,12 @@ use Rattle.std.proofs.Common.{◌≡◌, ◌≤◌, ℕ, List, [], ◌∷◌, �
 use Rattle.std.proofs.lemmas.List.{drop_all}
 use Rattle.segment.specs.Woven.{risen}
 
-risen-nil : (ps : List ℕ) → risen ps [] ≡ ps
+-- nothing comes
+pub risen-nil : (ps : List ℕ) → risen ps [] ≡ ps
 risen-nil [] = refl
 risen-nil (p ∷ ps) = ap (λ qs. p ∷ qs) (risen-nil ps)
 
--- no place comes
+-- the same of a list without places
 pub risen-none : (ps qs : List ℕ) → length qs ≡ 0 → ps ≡ risen ps qs
 risen-none ps [] none = sym (risen-nil ps)
 risen-none ps (q ∷ qs) none = absurd (omega (arith, none))

@@ -2,7 +2,7 @@
 use Rattle.std.proofs.Common.{◌≡◌, ◌<◌, ◌≤◌, ◌+◌, ◌-◌, ℕ, zero, suc, Bool, true, false, List, [], ◌∷◌, length, drop, get_or, replicate, refl, sym, ap, ◌∙◌, subst, arith, Option, Some, None, slice_set}
 use Rattle.std.proofs.lemmas.List.{drop_more, drop-set, drop-set-lt, get_or-replicate, get_or-set_other, length-set, length-replicate}
 use Rattle.std.proofs.Math.Seq.{drop-length}
-use Rattle.segment.specs.Woven.{IsAt, IsPlaced, Stands, nothing, dead, other, here}
+use Rattle.segment.specs.Woven.{IsPlaced, Stands, nothing, dead, other, here}
 
 -- ---- documents that are placed
 

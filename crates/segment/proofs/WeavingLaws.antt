@@ -1,14 +1,13 @@
 -- Columns in the making with what the documents of other columns have.
-use Rattle.std.proofs.Common.{◌≡◌, ◌<◌, ◌≤◌, ◌+◌, ℕ, zero, suc, ℤ, Bool, true, false, ◌||◌, List, [], ◌∷◌, All, length, map, replicate, get_or, refl, sym, ap, ◌∙◌, subst, arith, Option, Some, None, option_map, String, Box, Global, BTreeMap}
+use Rattle.std.proofs.Common.{◌≡◌, ◌<◌, ◌≤◌, ◌+◌, ℕ, zero, suc, Bool, true, false, ◌||◌, List, [], ◌∷◌, All, length, map, replicate, get_or, refl, sym, ap, ◌∙◌, subst, arith, Option, Some, None, option_map, String, Box, Global, BTreeMap}
 use Rattle.std.specs.Prelude.{IfSome}
-use Rattle.std.specs.List.{flat_map}
 use Rattle.doc.specs.Fields.{Fields}
 use Rattle.doc.specs.Scalar.{Scalar, text, long, flag}
 use Rattle.std.specs.BTreeMap as tree
 use Rattle.doc.specs.Mapping.{MappingData}
 use Rattle.doc.specs.Document.{Values, all_values, values_at}
-use Rattle.marks.specs.Lists.{marked, places, places_from, zip_with}
-use Rattle.segment.specs.Added.{making_at, IsLong, AreLong}
+use Rattle.marks.specs.Lists.{places, places_from, zip_with}
+use Rattle.segment.specs.Added.{making_at, IsLong}
 use Rattle.segment.specs.Indexed.{has_term, has_value, column_at, IsColumn, IsColumnOr, IsIndexed}
 use Rattle.segment.specs.Joined.{AreMakings, IsColumnOf, IsMakingOr}
 use Rattle.segment.specs.Woven.{listed_if, masked, moved_by, risen, IsPlaced}
@@ -19,8 +18,9 @@ use Rattle.segment.proofs.AddedLaws.{Makings, late}
 use Rattle.segment.proofs.Blocked.{length-marked}
 use Rattle.segment.proofs.Columns.{none_text, none_value, places-none}
 use Rattle.segment.proofs.JoinedLaws.{same-column}
+use Rattle.segment.proofs.MovingLaws.{risen-nil}
 use Rattle.segment.proofs.Steps.{places-below}
-use Rattle.segment.proofs.WovenLaws.{all_cons, all-either, all-moved, either, length-either, length-masked, placed-all, placed-long, risen-none, risen-places, woven-marks, woven-places}
+use Rattle.segment.proofs.WovenLaws.{all_cons, all-either, all-moved, either, length-either, placed-all, placed-long, risen-places, woven-marks, woven-places}
 use Rattle.std.proofs.lemmas.List.{length-map}
 use Rattle.std.proofs.lemmas.List.Elements.{All-append}
 use Rattle.std.specs.Option.{option_map_or}
@@ -54,7 +54,7 @@ module _ (fields : Fields) (g : List ℕ → Values) (zs : List (List ℕ)) (ts 
       let nothing_later = all-moved g (λ d. values_at name d ≡ []) refl zs ts ms ds to are empty in
       sym (risen-places test (none [] refl) g zs ts ms ds to are)
       ∙ ap (risen (places test before)) (places-none test 0 (masked ms (map g zs)) (λ k d lt. none _ (nothing_later k d lt)))
-      ∙ risen-none (places test before)
+      ∙ risen-nil (places test before)
 
   woven-making : (c : Option Column) (old new : Option Making) → IsColumnOr fields (map g ds) name c → IsMakingOr fields before n name old → IsWovenOr n to c old new → IsMakingOr fields after n name new
   woven-making None None new column was is =
@@ -121,7 +121,7 @@ abbrev pub IsMerged : List (Option ℕ) → Option Places → List ℕ → List 
 IsMerged to found old new = new ≡ risen old (moved_by to (option_map_or as_list found []))
 
 pub none-merged : (to : List (Option ℕ)) (old new : List ℕ) → new ≡ old → IsMerged to None old new
-none-merged to old new same = same ∙ sym (risen-none old)
+none-merged to old new same = same ∙ sym (risen-nil old)
 
 -- the places of a key with what comes
 pub merged-here : {K : Type 0} (to : List (Option ℕ)) (ps : Places) (now now' : K → List ℕ) (k v : K) (come : List ℕ) → v ≡ k → come ≡ moved_by to (as_list ps) → now' v ≡ risen (now v) come → (w : K) → w ≡ k → IsMerged to (Some ps) (now w) (now' w)

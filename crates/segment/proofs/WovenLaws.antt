@@ -32,10 +32,6 @@ risen-right : (b : ℕ) (ps qs : List ℕ) → IsBehind b ps → risen ps (b ∷
 risen-right b [] qs lt = refl
 risen-right b (p ∷ ps) qs lt = ap (λ t. if t then p ∷ risen ps (b ∷ qs) else b ∷ put_place p (risen ps) qs) (above_false p b lt)
 
-pub risen-none : (ps : List ℕ) → risen ps [] ≡ ps
-risen-none [] = refl
-risen-none (p ∷ ps) = ap (λ qs. p ∷ qs) (risen-none ps)
-
 or_false : (a : Bool) → (a || false) ≡ a
 or_false true = refl
 or_false false = refl

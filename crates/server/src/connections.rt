@@ -68,7 +68,13 @@ where
                 shard,
                 known: shard.begun(),
             };
-            clients.run(rt, lane, desk, &|| refresh_one(rt, shard))
+            clients.run(
+                rt,
+                lane,
+                desk,
+                &|| prepare_one(rt, shard),
+                &|| refresh_one(rt, shard),
+            )
         },
     )?;
     for end in ends {
@@ -77,7 +83,24 @@ where
     Ok(())
 }
 
-/// Refreshes an index of one copy, and tells whether that was done. A large segment is built on threads.
+/// Has what a refresh of an index of one copy would show built on threads, where that is much.
+fn prepare_one<R, D, N>(rt: &R, shard: &SharedShard<D, N>)
+where
+    R: Threads + Wait + Sync,
+    D: LogDevice,
+    N: HistoryName,
+{
+    let builder = |alloc: Global, mapping: &Arc<Mapping, Global>, sources: Vec<Source>| -> Result<
+        Segment,
+        AllocError,
+    >
+        requires { length sources.items < 2 ^ 32 }
+        ensures { IfOk result (λ s. s ≡ record { mapping = arc_value mapping.now; sources = sources.items }) }
+    { Segment::build_on(rt, alloc, mapping, sources) };
+    shard.prepare_refresh(rt, &builder);
+}
+
+/// Refreshes an index of one copy, and tells whether that was done. What isn't built yet is built on threads, where that is much.
 fn refresh_one<R, D, N>(rt: &R, shard: &SharedShard<D, N>) -> bool
 where
     R: Threads + Wait + Sync,
@@ -150,6 +173,7 @@ where
                 rt,
                 lane,
                 group,
+                &|| (),
                 &|| refresh_all(rt, alloc, index, &chairs[lane % CHAIRS]),
             )
         },

@@ -145,6 +145,25 @@ fn or_refused(reply: Result<Reply, AllocError>) -> Reply
     }
 }
 
+/// Has the builder build what isn't built yet of what a refresh shows, where that is much. The index stays as it is.
+fn build_rest<
+    D: LogDevice,
+    N: HistoryName,
+    F: Fn(Global, &Arc<Mapping, Global>, Vec<Source>) -> Result<Segment, AllocError>,
+>(kept: &mut Kept<D, N>, builder: &F)
+    requires { Builds F.Fn builder.now }
+    ensures { kept.new ≡ kept.old }
+{
+    let Ok(Some(unshown)) = kept.unshown() else {
+        return;
+    };
+    let built = unshown.build(builder);
+    drop(unshown);
+    if let Ok(prebuilt) = built {
+        kept.keep_prebuilt(prebuilt);
+    }
+}
+
 /// What the thread that builds merges is sent.
 #[derive(Drop)]
 enum Order {
@@ -269,8 +288,26 @@ impl<D: LogDevice, N: HistoryName> SharedShard<D, N> {
         told
     }
 
-    /// Has searches see all that was written, for one who knows so much of the history. A large segment is built by the builder while commands go on; what
-    /// they write meanwhile is added to it at the end.
+    /// Has the builder build what a refresh would show, where that is much, while commands go on; then the next refresh builds what came since alone. Without
+    /// memory for it now the refresh builds it.
+    pub fn prepare_refresh<
+        R: Wait,
+        F: Fn(Global, &Arc<Mapping, Global>, Vec<Source>) -> Result<Segment, AllocError>,
+    >(&self, rt: &R, builder: &F)
+        requires { Builds F.Fn builder.now }
+    {
+        let Some(unshown) = self.unshown(rt) else {
+            return;
+        };
+        let built = unshown.build(builder);
+        drop(unshown);
+        if let Ok(prebuilt) = built {
+            let mut held = self.shard.lock(rt);
+            held.keep_prebuilt(prebuilt);
+        }
+    }
+
+    /// Has searches see all that was written, for one who knows so much of the history. What came since the builder built is built by it, too, where that is much.
     pub fn refresh<
         R: Wait,
         F: Fn(Global, &Arc<Mapping, Global>, Vec<Source>) -> Result<Segment, AllocError>,
@@ -278,26 +315,12 @@ impl<D: LogDevice, N: HistoryName> SharedShard<D, N> {
         requires { Builds F.Fn builder.now }
         ensures { IsDone known.now refresh (reply_view result.0) result.1 }
     {
-        let prebuilt = self.prebuild(rt, builder);
         let mut held = self.shard.lock(rt);
-        if let Some(prebuilt) = prebuilt {
-            held.keep_prebuilt(prebuilt);
-        }
+        build_rest(&mut *held, builder);
         let told = held.call(known, Command::Refresh);
         drop(self.show(rt, &*held));
         self.begin_merge(rt, &*held);
         told
-    }
-
-    /// Has the builder build what a refresh would show now, where that is much. Without memory for it now the refresh builds it.
-    fn prebuild<
-        R: Wait,
-        F: Fn(Global, &Arc<Mapping, Global>, Vec<Source>) -> Result<Segment, AllocError>,
-    >(&self, rt: &R, builder: &F) -> Option<Prebuilt>
-        requires { Builds F.Fn builder.now }
-    {
-        let unshown = self.unshown(rt)?;
-        unshown.build(builder).ok()
     }
 
     /// What a refresh would show now, where that is much.

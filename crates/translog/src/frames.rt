@@ -283,7 +283,9 @@ fn scanned<D: LogDevice>(
     ensures in_memory { D.in_memory ≡ true → IfErr result (λ e. is_device e ≡ false) }
 {
     let bytes = read(alloc, device)?;
-    found(alloc, header, bytes.as_slice())
+    let (contents, torn) = found(alloc, header, bytes.as_slice())?;
+    let copies = copied(alloc, contents.as_slice())?;
+    Ok((copies, torn))
 }
 
 /// All the bytes of a device.
@@ -300,15 +302,15 @@ pub(crate) fn read<D: LogDevice>(alloc: Global, device: &mut D) -> Result<Vec<u8
     }
 }
 
-/// The contents that some bytes hold, and what is torn beside them.
-pub(crate) fn found(
+/// The contents that some bytes hold, where they stand, and what is torn beside them.
+pub(crate) fn found<'a>(
     alloc: Global,
     header: &[u8; 4],
-    held: &[u8],
-) -> Result<(Vec<Vec<u8>>, Torn), LogFault>
-    ensures found { Gives fault_of (λ x. map (λ c. c.items) x.0.items) result (contents_in header.now held.now) }
-    ensures torn { IfOk result (λ x. IsTorn header.now held.now (map (λ c. c.items) x.0.items) x.1) }
-    ensures offsets { IfOk result (λ x. 4 + length (flat_map framed (map (λ c. c.items) x.0.items)) < 2 ^ 64) }
+    held: &'a [u8],
+) -> Result<(Vec<&'a [u8]>, Torn), LogFault>
+    ensures found { Gives fault_of (λ x. map (λ c. c.now) x.0.items) result (contents_in header.now held.now) }
+    ensures torn { IfOk result (λ x. IsTorn header.now held.now (map (λ c. c.now) x.0.items) x.1) }
+    ensures offsets { IfOk result (λ x. 4 + length (flat_map framed (map (λ c. c.now) x.0.items)) < 2 ^ 64) }
     ensures no_failure { IfErr result (λ e. is_device e ≡ false) }
 {
     if !begins(held, header) {
@@ -364,19 +366,30 @@ fn first(bytes: &[u8]) -> Option<(&[u8], &[u8])>
     Some(rest.split_at(len))
 }
 
-/// The contents of the whole frames in front, and the bytes after them.
-fn split(alloc: Global, bytes: &[u8]) -> Result<(Vec<Vec<u8>>, &[u8]), AllocError>
-    ensures parts { IfOk result (λ x. bytes.now ≡ flat_map framed (map (λ c. c.items) x.0.items) ++ x.1.now) }
-    ensures small { IfOk result (λ x. AreContents (map (λ c. c.items) x.0.items)) }
+/// The contents of the whole frames in front, where they stand, and the bytes after them.
+fn split(alloc: Global, bytes: &[u8]) -> Result<(Vec<&[u8]>, &[u8]), AllocError>
+    ensures parts { IfOk result (λ x. bytes.now ≡ flat_map framed (map (λ c. c.now) x.0.items) ++ x.1.now) }
+    ensures small { IfOk result (λ x. AreContents (map (λ c. c.now) x.0.items)) }
     ensures rest { IfOk result (λ x. first_frame x.1.now ≡ None) }
 {
     let mut contents = Vec::new(alloc);
     let mut rest = bytes;
     while let Some((content, after)) = first(rest) {
-        contents.push(Vec::from_slice(alloc, content)?)?;
+        contents.push(content)?;
         rest = after;
     }
     Ok((contents, rest))
+}
+
+/// The same contents, each with bytes of its own.
+fn copied(alloc: Global, contents: &[&[u8]]) -> Result<Vec<Vec<u8>>, AllocError>
+    ensures { IfOk result (λ v. map (λ c. c.items) v.items ≡ map (λ c. c.now) contents.entry.now) }
+{
+    let mut copies = Vec::with_capacity(alloc, contents.len())?;
+    for content in contents {
+        copies.push(Vec::from_slice(alloc, *content)?)?;
+    }
+    Ok(copies)
 }
 
 // ---- what is torn

@@ -91,19 +91,19 @@ pub(crate) fn mend<D: LogDevice>(device: &mut D, torn: Torn) -> Result<(), LogFa
 fn records_of(
     alloc: Global,
     groups: bool,
-    contents: &[Vec<u8>],
+    contents: &[&[u8]],
 ) -> Result<(Vec<Record>, bool), LogFault>
-    requires small { AreContents (map (λ c. c.items) contents.now) }
-    requires offsets { 4 + length (flat_map framed (map (λ c. c.items) contents.now)) < 2 ^ 64 }
-    ensures found { Gives fault_of (λ x. x.0.items) result (piece_records groups 4 (map (λ c. c.items) contents.now)) }
-    ensures pieces { IfOk result (λ x. ArePieces groups (map (λ c. c.items) contents.now) x.0.items x.1) }
+    requires small { AreContents (map (λ c. c.now) contents.now) }
+    requires offsets { 4 + length (flat_map framed (map (λ c. c.now) contents.now)) < 2 ^ 64 }
+    ensures found { Gives fault_of (λ x. x.0.items) result (piece_records groups 4 (map (λ c. c.now) contents.entry.now)) }
+    ensures pieces { IfOk result (λ x. ArePieces groups (map (λ c. c.now) contents.entry.now) x.0.items x.1) }
     ensures no_failure { IfErr result (λ e. is_device e ≡ false) }
 {
     let mut records = Vec::new(alloc);
     let mut may_group = groups;
     let mut offset = 4;
     for content in contents {
-        let (mut found, after) = piece_at(alloc, may_group, offset, content.as_slice())?;
+        let (mut found, after) = piece_at(alloc, may_group, offset, *content)?;
         records.append(&mut found)?;
         may_group = after;
         offset += 4 + content.len() as u64;

@@ -1,7 +1,6 @@
-use Rattle.std.proofs.Common.{◌≡◌, ◌<◌, ◌∙◌, refl, sym, subst, arith, length, map, List, ℕ, Bool, Option}
+use Rattle.std.proofs.Common.{◌≡◌, ◌∙◌, refl, sym, subst, arith, length, map, List, Bool, Option}
 use Rattle.std.specs.Prelude.{IfSome}
 use Rattle.doc.specs.Document.{all_values}
-use Rattle.segment.specs.Indexed.{IsIndexed}
 use Rattle.segment.specs.Woven.{masked, IsPlaced}
 use Rattle.segment.proofs.AddedLaws.{makings-long}
 use Rattle.segment.proofs.WovenLaws.{placed-all, placed-below, placed-long}

@@ -1,6 +1,5 @@
-use Rattle.std.proofs.Common.{◌≡◌, ◌<◌, ◌∙◌, All, List, ℕ, Bool, length, sym, subst}
+use Rattle.std.proofs.Common.{◌<◌, ◌∙◌, All, List, ℕ, Bool, length, sym, subst}
 use Rattle.marks.specs.Lists.{places}
-use Rattle.segment.specs.Woven.{moved_by}
 use Rattle.segment.proofs.Steps.{places-below}
 use Rattle.segment.proofs.WeavingLaws.{moved-below}
 use Rattle.segment.proofs.weaving.mark_moved.Goals as goal

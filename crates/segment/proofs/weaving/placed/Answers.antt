@@ -1,5 +1,4 @@
-use Rattle.std.proofs.Common.{◌≡◌, ◌<◌, ◌≤◌, ◌+◌, ◌-◌, arith, sym, subst, length, get_or, List, ℕ, Bool, Option, None, []}
-use Rattle.segment.specs.Woven.{Stands}
+use Rattle.std.proofs.Common.{◌≡◌, ◌-◌, arith, subst, ℕ}
 use Rattle.segment.proofs.PlacedLaws.{all-stand, none-stands, one-stands, ArePlacedFrom}
 use Rattle.segment.proofs.weaving.placed.Goals as goal
 

@@ -1,4 +1,4 @@
-use Rattle.std.proofs.Common.{◌≤◌, ◌≡◌, length}
+use Rattle.std.proofs.Common.{◌≤◌, length}
 use Rattle.segment.proofs.PlacedLaws.{ArePlacedFrom}
 use Rattle.segment.proofs.weaving.placed.Given as goal
 

@@ -1,4 +1,4 @@
-use Rattle.std.proofs.Common.{◌≡◌, ◌∙◌, ◌∷◌, [], List, ℕ, ap, sym, refl, subst, String, Box, Global, Option, option_map, string_bytes}
+use Rattle.std.proofs.Common.{◌≡◌, ◌∷◌, List, sym, refl, subst, String, Box, Global, Option, option_map, string_bytes}
 use Rattle.std.specs.Prelude.{IfSome}
 use Rattle.std.specs.List.{IsDistinct}
 use Rattle.std.specs.Map.{keys_of}

@@ -1,9 +1,6 @@
-use Rattle.std.proofs.Common.{rules, ◌≡◌, ◌≤◌, ◌∙◌, ap, sym, subst, arith, length, map, List, ℕ, Bool}
+use Rattle.std.proofs.Common.{rules, ◌≡◌, ◌∙◌, ap, sym, subst, arith, length, map, List}
 use Rattle.std.proofs.lemmas.List.{length-map, length-replicate}
-use Rattle.std.proofs.lemmas.Result.{IfOk-weaker}
 use Rattle.doc.specs.Document.{Values, all_values}
-use Rattle.marks.specs.Lists.{places}
-use Rattle.segment.specs.Added.{AreFinished}
 use Rattle.segment.specs.Joined.{AreMakings}
 use Rattle.segment.specs.Woven.{masked}
 use Rattle.segment.proofs.AddedLaws.{makings-few, makings-finished}

@@ -16,13 +16,13 @@ returns-then-held-lt-HEADER-clause-torn c =
 pub returns-clause-found : goal.returns-clause-found
 returns-clause-found c =
     let long : 4 ≤ length c.args.held.now = omega (arith, c.if-held-lt-HEADER.false) in
-    (contents_in_read c.args.header.now c.args.held.now (map (λ v. v.items) c.in_ok-contents.contents.items) c.in_ok-contents.rest.now c.told-header long (sym c.begins.ensures ∙ c.if-not-begins.false)
+    (contents_in_read c.args.header.now c.args.held.now (map (λ v. v.now) c.in_ok-contents.contents.items) c.in_ok-contents.rest.now c.told-header long (sym c.begins.ensures ∙ c.if-not-begins.false)
     (sym c.split_at.ensures.back ∙ c.in_ok-contents.ensures.parts) c.in_ok-contents.ensures.small c.in_ok-contents.ensures.rest).0
 
 pub returns-clause-torn : goal.returns-clause-torn
 returns-clause-torn c =
     let long : 4 ≤ length c.args.held.now = omega (arith, c.if-held-lt-HEADER.false) in
-    let contents = map (λ v. v.items) c.in_ok-contents.contents.items in
+    let contents = map (λ v. v.now) c.in_ok-contents.contents.items in
     let read = contents_in_read c.args.header.now c.args.held.now contents c.in_ok-contents.rest.now c.told-header long (sym c.begins.ensures ∙ c.if-not-begins.false)
     (sym c.split_at.ensures.back ∙ c.in_ok-contents.ensures.parts) c.in_ok-contents.ensures.small c.in_ok-contents.ensures.rest in
     torn_log c.args.header.now c.args.held.now c.in_ok-contents.rest.now contents c.torn_end.result read.1 c.in_ok-contents.ensures.small c.in_ok-contents.ensures.rest c.torn_end.ensures.nothing c.torn_end.ensures.end

@@ -5,8 +5,8 @@ use Rattle.translog.proofs.frames.split.Given as goal
 
 abbrev pub invariant-loop-content : goal.invariant-loop-content
 invariant-loop-content l = record {
-  parts : l.bytes ≡ flat_map framed (map (λ c. c.items) l.contents.items) ++ l.rest;
-  small : AreContents (map (λ c. c.items) l.contents.items);
+  parts : l.bytes ≡ flat_map framed (map (λ c. c.now) l.contents.items) ++ l.rest;
+  small : AreContents (map (λ c. c.now) l.contents.items);
 }
 
 abbrev pub decreases-loop-content : goal.decreases-loop-content

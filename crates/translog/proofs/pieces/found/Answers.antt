@@ -13,11 +13,11 @@ returns-in_err-contents-clause-found c =
 
 pub returns-in_err-records-clause-found : goal.returns-in_err-records-clause-found
 returns-in_err-records-clause-found c =
-    let is : kept c.args.held.now ≡ piece_records c.has_groups.result 4 (map (λ v. v.items) c.in_ok-contents.contents.items) = found_kept c.header_of-header.result c.args.held.now _ c.has_groups.result c.header_of-header.ensures c.in_ok-contents.ensures.found c.has_groups.ensures in
+    let is : kept c.args.held.now ≡ piece_records c.has_groups.result 4 (map (λ v. v.now) c.in_ok-contents.contents.items) = found_kept c.header_of-header.result c.args.held.now _ c.has_groups.result c.header_of-header.ensures c.in_ok-contents.ensures.found c.has_groups.ensures in
     let p = err_from_is_err_and c.from_residual-in_err-records.result c.from_residual-in_err-records.ensures.1 in
     rw (p.1, p.2) (rw (is, ← c.as_slice.ensures.value) c.in_err-records.ensures.found)
 
 pub returns-clause-found : goal.returns-clause-found
 returns-clause-found c =
-    let is : kept c.args.held.now ≡ piece_records c.has_groups.result 4 (map (λ v. v.items) c.in_ok-contents.contents.items) = found_kept c.header_of-header.result c.args.held.now _ c.has_groups.result c.header_of-header.ensures c.in_ok-contents.ensures.found c.has_groups.ensures in
+    let is : kept c.args.held.now ≡ piece_records c.has_groups.result 4 (map (λ v. v.now) c.in_ok-contents.contents.items) = found_kept c.header_of-header.result c.args.held.now _ c.has_groups.result c.header_of-header.ensures c.in_ok-contents.ensures.found c.has_groups.ensures in
     rw (is, ← c.as_slice.ensures.value) c.in_ok-records.ensures.found
