@@ -1,21 +1,24 @@
 #!/bin/bash
-# bench/pauses.sh [DOCUMENTS [COPIES]]: how long a single write and a search wait at most while many documents come by bulks (1,000,000 documents, one copy by default).
+# bench/pauses.sh [DOCUMENTS [COPIES [CONNECTIONS [EVERY]]]]: how long a single write and a search wait at most while many documents come by bulks (by default
+# 1,000,000 documents, one copy, one connection, and 0).
 #
-# One connection posts that many documents of 450 bytes, 1,000 a bulk, to an index in memory; a second one writes a document of its own again and again, a third
-# one searches for a word. Printed are the documents a second; of the writes and the searches how many there were a second, the median, the longest 1 of 1,000 and the
-# longest of all, in milliseconds; and the memory of the server at the end. INDEXD_PROGRAM=FILE measures the executable FILE in place of the one that ./indexd runs.
-# Needs Linux and python3.
+# So many connections post the documents, of 450 bytes, 1,000 a bulk, to an index in memory; their bytes are made before. One more connection writes a document of its
+# own again and again, and one more searches for a word: each as soon as the one before was answered, or every so many milliseconds. Printed are the documents a second;
+# of the writes and the searches how many there were a second, the median, the longest 1 of 1,000 and the longest of all, in milliseconds; and the memory of the
+# server at the end. INDEXD_PROGRAM=FILE measures the executable FILE in place of the one that ./indexd runs. Needs Linux and python3.
 set -euo pipefail
 
 . "$(dirname -- "$(readlink -f -- "${BASH_SOURCE[0]}")")/program.sh"
 documents=${1:-1000000}
 copies=${2:-1}
-if ! [[ $documents =~ ^[1-9][0-9]{3,7}$ && $copies =~ ^[1-5]$ ]]; then
-    echo "bench/pauses.sh: 1,000 documents or more and one copy to five are wanted, and not $documents and $copies" >&2
+connections=${3:-1}
+every=${4:-0}
+if ! [[ $documents =~ ^[1-9][0-9]{3,7}$ && $copies =~ ^[1-5]$ && $connections =~ ^[1-9]$ && $every =~ ^[0-9]{1,4}$ ]]; then
+    echo "bench/pauses.sh: 1,000 documents or more, one copy to five, one connection to nine and up to 9,999 ms are wanted, and not $documents, $copies, $connections and $every" >&2
     exit 2
 fi
 
-exec python3 - "$program" "$documents" "$copies" <<'PROGRAM'
+exec python3 - "$program" "$documents" "$copies" "$connections" "$every" <<'PROGRAM'
 import multiprocessing
 import socket
 import subprocess
@@ -23,7 +26,7 @@ import sys
 import tempfile
 import time
 
-program, documents, copies = sys.argv[1], int(sys.argv[2]), sys.argv[3]
+program, documents, copies, connections, every = sys.argv[1], int(sys.argv[2]), sys.argv[3], int(sys.argv[4]), int(sys.argv[5])
 MANY, SIZE = 1000, 450
 WORDS = [b"faust", b"emma", b"ulysses", b"walden", b"dracula", b"kim", b"middlemarch", b"heidi", b"moby", b"alice"]
 SEARCH = b'{"query":{"match":{"text":"faust"}}}'
@@ -57,12 +60,15 @@ def asked(connection, request):
 def timed(port, queue, ended, request_of):
     """Sends requests one after another until the bulks are done, and hands out how long each took."""
     connection, took, number = connected(port), [], 0
+    next_at = time.monotonic()
     while not ended.is_set():
         request = request_of(number)
         begun = time.monotonic()
         asked(connection, request)
         took.append(time.monotonic() - begun)
         number += 1
+        next_at += every / 1_000
+        time.sleep(max(0, next_at - time.monotonic()))
     queue.put(took)
 
 
@@ -75,16 +81,17 @@ def search(_):
     return b"POST /books/_search HTTP/1.1\r\ncontent-length: %d\r\n\r\n%s" % (len(SEARCH), SEARCH)
 
 
-def fill(port):
-    """How long the bulks take, without the making of their bytes."""
-    connection, took = connected(port), 0.0
-    for first in range(0, documents, MANY):
-        lines = b"".join(b'{"index":{"_id":"%d"}}\n%s\n' % (it, document(it)) for it in range(first, first + MANY))
-        request = b"POST /books/_bulk HTTP/1.1\r\ncontent-length: %d\r\n\r\n%s" % (len(lines), lines)
-        begun = time.monotonic()
+def fill(port, lane, queue, begins):
+    """Makes the bulks of a connection, posts them once all are made, and hands out when it began and ended."""
+    connection, requests = connected(port), []
+    for first in range(lane * MANY, documents, connections * MANY):
+        lines = b"".join(b'{"index":{"_id":"%d"}}\n%s\n' % (it, document(it)) for it in range(first, min(first + MANY, documents)))
+        requests.append(b"POST /books/_bulk HTTP/1.1\r\ncontent-length: %d\r\n\r\n%s" % (len(lines), lines))
+    begins.wait()
+    begun = time.monotonic()
+    for request in requests:
         asked(connection, request)
-        took += time.monotonic() - begun
-    return took
+    queue.put((begun, time.monotonic()))
 
 
 def told(took, seconds):
@@ -107,19 +114,23 @@ with tempfile.NamedTemporaryFile() as mapping:
     process = subprocess.Popen(words, stdout=subprocess.PIPE)
     process.stdout.readline()
 try:
-    ended = multiprocessing.Event()
+    ended, begins = multiprocessing.Event(), multiprocessing.Barrier(connections + 1)
+    times = multiprocessing.Queue()
+    fills = [multiprocessing.Process(target=fill, args=(port, lane, times, begins)) for lane in range(connections)]
+    for it in fills:
+        it.start()
+    begins.wait()
     queues = [multiprocessing.Queue(), multiprocessing.Queue()]
     runs = [multiprocessing.Process(target=timed, args=(port, queue, ended, it)) for queue, it in zip(queues, (write, search))]
     for it in runs:
         it.start()
-    begun = time.monotonic()
-    took = fill(port)
-    seconds = time.monotonic() - begun
+    spans = [times.get() for _ in fills]
     ended.set()
     writes, searches = (it.get() for it in queues)
-    for it in runs:
+    for it in (*fills, *runs):
         it.join()
-    print(f"{documents} documents by bulks: {documents / took:.0f} a second while a bulk is under way ({documents / seconds:.0f} with the making of their bytes), {memory(process)} MiB")
+    seconds = max(it for _, it in spans) - min(it for it, _ in spans)
+    print(f"{documents} documents by bulks: {documents / seconds:.0f} a second, {memory(process)} MiB")
     print("          a second   median   99.9 %  longest")
     print(f"writes    {told(writes, seconds)}")
     print(f"searches  {told(searches, seconds)}")

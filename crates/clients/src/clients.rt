@@ -20,7 +20,7 @@ use std::{io, thread};
 /// The longest wait between two looks whether the server has ended, and how much was written, in milliseconds.
 const TICK: u64 = 10;
 
-/// Once so many writes came the index is refreshed before its time: a write waits while a refresh builds what changed.
+/// Once so many writes came the index is refreshed before its time: a write waits while a refresh takes what changed.
 const MANY: u64 = 2_048;
 
 /// How many connections are accepted before others are looked at.
@@ -96,20 +96,20 @@ impl<'w, W: Watcher, K: Drop> Clients<'w, W, K> {
     }
 
     /// Serves connections in this lane with this service, until the last that is wanted has ended; in the last lane it refreshes the index again and again,
-    /// by a call that prepares that, while commands go on, and one that tells whether it was done.
-    pub fn run<R: Wait + Clock, S: Resumable<Known = K> + Drop, P: Fn(), B: Fn() -> bool>(
+    /// by a call that does it while commands go on, where it can, and else by one that holds them up. Both tell whether it was done.
+    pub fn run<R: Wait + Clock, S: Resumable<Known = K> + Drop, P: Fn() -> bool, B: Fn() -> bool>(
         &self,
         rt: &R,
         lane: usize,
         service: S,
-        prepare: &P,
+        show_more: &P,
         refresh: &B,
     ) -> io::Result<()>
-        requires prepare { P.Fn.pre prepare.now tt }
+        requires show_more { P.Fn.pre show_more.now tt }
         requires refresh { B.Fn.pre refresh.now tt }
     {
         if lane >= self.limits.working() {
-            self.refresh_in_turn(rt, prepare, refresh);
+            self.refresh_in_turn(rt, show_more, refresh);
             return Ok(());
         }
         let mut service = Noting {
@@ -367,13 +367,13 @@ impl<'w, W: Watcher, K: Drop> Clients<'w, W, K> {
     }
 
     /// Refreshes the index again and again until the last connection has ended: each time that its time is over, or many writes came.
-    fn refresh_in_turn<C: Clock, P: Fn(), B: Fn() -> bool>(
+    fn refresh_in_turn<C: Clock, P: Fn() -> bool, B: Fn() -> bool>(
         &self,
         clock: &C,
-        prepare: &P,
+        show_more: &P,
         refresh: &B,
     )
-        requires prepare { P.Fn.pre prepare.now tt }
+        requires show_more { P.Fn.pre show_more.now tt }
         requires refresh { B.Fn.pre refresh.now tt }
     {
         if self.limits.refresh == 0 {
@@ -388,22 +388,25 @@ impl<'w, W: Watcher, K: Drop> Clients<'w, W, K> {
             thread::sleep(clock, Duration::from_millis(tick));
             left -= tick;
             if left == 0 || self.notes.written.load(Ordering::SeqCst) >= MANY {
-                self.refresh_once(prepare, refresh);
+                self.refresh_once(show_more, refresh);
                 left = self.limits.refresh;
             }
         }
     }
 
     /// Refreshes the index where something was written. What is refused is tried again when its time is over.
-    fn refresh_once<P: Fn(), B: Fn() -> bool>(&self, prepare: &P, refresh: &B)
-        requires prepare { P.Fn.pre prepare.now tt }
+    fn refresh_once<P: Fn() -> bool, B: Fn() -> bool>(&self, show_more: &P, refresh: &B)
+        requires show_more { P.Fn.pre show_more.now tt }
         requires refresh { B.Fn.pre refresh.now tt }
     {
         if self.notes.written.load(Ordering::SeqCst) == 0 {
             return;
         }
-        prepare();
+        // What comes from now on may not be shown by it.
         self.notes.written.store(0, Ordering::SeqCst);
+        if show_more() {
+            return;
+        }
         self.notes.refreshing.store(true, Ordering::SeqCst);
         let done = refresh();
         self.notes.refreshing.store(false, Ordering::SeqCst);

@@ -20,3 +20,6 @@ pub mod LivingLaws
 pub mod ChoosingLaws
 pub mod LatestLaws
 pub mod LeftLaws
+pub mod ResyncLaws
+pub mod QuietLaws
+pub mod ChangesLaws

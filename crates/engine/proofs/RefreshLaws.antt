@@ -11,9 +11,8 @@ use Rattle.op.specs.declared.record.Record.TheVariants.{Op as Kept}
 use Rattle.op.specs.Records.{after_record, operations, shown}
 use Rattle.engine.specs.Entry.{put_if}
 use Rattle.engine.proofs.ChosenLaws.{among-more}
-use Rattle.std.specs.List.{list_any, AllPass}
+use Rattle.std.specs.List.{AllPass}
 use Rattle.std.specs.Option.{option_or}
-use Rattle.std.proofs.lemmas.List.Folds.{list_any_more}
 use Rattle.std.specs.Cmp.Lexicographic.{nat_list_cmp_total}
 use Rattle.std.specs.FinMap.Entries.{is_sorted, same_entries, is_sorted-where_key, is_sorted-put, find-put, find-where_key, where_key}
 use Rattle.std.proofs.lemmas.Map.Lookups.{exact_bytes}
@@ -25,7 +24,7 @@ use Rattle.op.proofs.DocumentLaws.{document_at-documents, is_sorted-documents}
 use Rattle.engine.specs.Live.{changed_live, unchanged}
 use Rattle.engine.specs.Parts.{merged, without, is_among, has_id}
 use Rattle.engine.specs.Published.{Published}
-use Rattle.engine.specs.SnapshotChange.{is_op, is_write}
+use Rattle.engine.specs.SnapshotChange.{is_op}
 use Rattle.engine.proofs.PartLaws.{true_T, T_true, find-merged, in_order-merged, or_none}
 use Rattle.engine.proofs.ApartLaws.{find-without}
 
@@ -105,17 +104,7 @@ module _ (p q : Id → Bool) (same : (id : Id) → p id ≡ q id) where
 
 -- ---- the ids of the records behind a point
 
-pub writes-more : (rs : List Record) (i : ℕ) (r : Record) (g : ℤ) (o : Op) (after before : List Id) → i < length rs → r ≡ get_or rs i r → r ≡ Kept g o
-    → ((id : Id) → is_among after id ≡ (is_among before id || is_on id o))
-    → ((id : Id) → is_among before id ≡ list_any (is_write id) (take i rs))
-    → (id : Id) → is_among after id ≡ list_any (is_write id) (take (i + 1) rs)
-writes-more rs i r g o after before lt is kept more so_far id =
-    more id
-    ∙ ap (λ b. b || is_on id o) (so_far id)
-    ∙ ap (λ (q : Record). list_any (is_write id) (take i rs) || is_write id q) (sym kept ∙ is)
-    ∙ sym (list_any_more (is_write id) rs i r lt)
-
-both_false : (a b : Bool) → (a || b) ≡ false → (a ≡ false) × (b ≡ false)
+pub both_false : (a b : Bool) → (a || b) ≡ false → (a ≡ false) × (b ≡ false)
 both_false true b is = cc
 both_false false b is = (refl, is)
 

@@ -17,3 +17,4 @@ pub mod IdFilter
 pub mod OperationIndex
 pub mod Before
 pub mod Latest
+pub mod Changes

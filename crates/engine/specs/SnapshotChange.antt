@@ -1,15 +1,16 @@
 -- What a change leaves.
-use Rattle.std.specs.Prelude.{◌≡◌, ◌≤◌, Bool, true, false, [], ◌∷◌, length, All, drop, filter}
+use Rattle.std.specs.Prelude.{◌≡◌, ◌≤◌, ℕ, Bool, true, false, List, [], ◌∷◌, Some, length, All, drop, filter}
 use Rattle.std.specs.List.{list_any, AllPass}
 use Rattle.std.specs.FinMap.Entries.{where_key}
 use Rattle.doc.specs.Id.{Id, id_cmp}
+use Rattle.op.specs.declared.operation.Op.{Op}
 use Rattle.op.specs.declared.record.Record.{Record}
 use Rattle.op.specs.declared.record.Record.TheVariants.{Op as Kept, Resync, Recover}
 use Rattle.op.specs.Documents.{documents}
-use Rattle.op.specs.Operations.{is_on}
-use Rattle.op.specs.Records.{IsRecord, operations}
-use Rattle.engine.specs.Contents.{Contents, EngineData}
-use Rattle.engine.specs.Live.{changed_live, changed_segments, is_live}
+use Rattle.op.specs.Operations.{is_on, op_at}
+use Rattle.op.specs.Records.{IsRecord, operations, shown}
+use Rattle.engine.specs.Contents.{Contents, EngineData, contents_of}
+use Rattle.engine.specs.Live.{changed_live, changed_segments, is_live, AreLive}
 use Rattle.engine.specs.Published.{Published, next_after, AreBelow, IsFronted}
 use Rattle.engine.specs.declared.staged.SnapshotChange.{SnapshotChange}
 use Rattle.engine.specs.declared.staged.SnapshotChange.TheVariants.{Refresh, Reopen}
@@ -63,3 +64,16 @@ pub record IsNumbered (old new : EngineData) : Type 0 where
 abbrev pub ArePublished : EngineData → SnapshotChange → EngineData → Type 0
 ArePublished old Refresh new = IsNumbered old new × (OnlyOps old → IsRefreshed old new)
 ArePublished old (Reopen rs) new = (new.published ≡ (record { number = old.next; mapping = old.mapping; documents = documents (operations rs.items) }) ∷ []) × (new.next ≡ next_after old.next)
+
+-- each operation that searches show of so many records they show of the others, too
+abbrev pub StayShown : List Record → (before after : ℕ) → Type 0
+StayShown rs before after = (o : Op) → op_at (shown rs before) o.seq ≡ Some o → op_at (shown rs after) o.seq ≡ Some o
+
+-- searches show so many records, and no fewer than before, through at most one segment more
+pub record ShowsMore (point : ℕ) (old new : EngineData) : Type 0 where
+  pub contents : contents_of new ≡ record (contents_of old) { point = point }
+  pub more : old.point ≤ point
+  pub within : point ≤ length old.records
+  pub stay : StayShown old.records old.point point
+  pub numbered : IsNumbered old new
+  pub live : AreLive new.live

@@ -1,5 +1,6 @@
 -- A change that makes a new snapshot, in two halves: made ready, then made.
 use Rattle.std.specs.Prelude.{ℕ, List, Option, Some, None}
+use Rattle.doc.specs.Mapping.{MappingData}
 use Rattle.op.specs.declared.record.Record.{Record}
 use Rattle.op.specs.Documents.{Documents}
 use Rattle.engine.specs.Answer.{SnapshotData}
@@ -28,3 +29,9 @@ put_in e s = record e { records = records_of e.records s.records; point = s.poin
 -- the snapshot is that of these contents after the change
 abbrev pub IsStagedFrom : Contents → StagedData → Type 0
 IsStagedFrom c s = Shows c.mapping (records_of c.records s.records) s.point s.snapshot
+
+-- documents of the first so many records that searches don't show, and the mapping that they are read under
+pub record UnshownData : Type 0 where
+  pub mapping : MappingData
+  pub documents : Documents
+  pub point : ℕ

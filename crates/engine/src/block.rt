@@ -113,7 +113,23 @@ impl Block {
         ensures { IfOk result (λ b. b ≡ record { mapping = arc_value mapping.now; documents = map entry_view entries.entry.now }) }
     {
         let documents = shown_of(alloc, entries)?;
-        let segment = segment_of(builder, alloc, mapping, entries)?;
+        Block::over(builder, alloc, mapping, documents)
+    }
+
+    /// The documents, read under the mapping.
+    pub(crate) fn over<
+        F: Fn(Global, &Arc<Mapping, Global>, Vec<Source>) -> Result<Segment, AllocError>,
+    >(
+        builder: &F,
+        alloc: Global,
+        mapping: &Arc<Mapping, Global>,
+        documents: Vec<Shown>,
+    ) -> Result<Block, AllocError>
+        requires builds { Builds F.Fn builder.now }
+        requires sorted { is_sorted id_cmp (map shown_view documents.items) ≡ true }
+        ensures { IfOk result (λ b. b ≡ record { mapping = arc_value mapping.now; documents = map shown_view documents.items }) }
+    {
+        let segment = segment_of(builder, alloc, mapping, &documents)?;
         let ids = filter_of(alloc, &documents)?;
         Ok(Block {
             documents,
@@ -138,17 +154,7 @@ impl Block {
         &self.segment
     }
 
-    /// Where its documents stand among entries; none for one that isn't there.
-    pub(crate) fn places_among(
-        &self,
-        alloc: Global,
-        entries: &[Entry<'_>],
-    ) -> Result<Vec<Option<u32>>, AllocError> {
-        let all = Marks::all(alloc, self.len())?;
-        places_among(alloc, &self.documents, &all, entries)
-    }
-
-    /// The same of the live ones alone.
+    /// Where its live documents stand among entries; none for one that isn't there.
     pub(crate) fn live_places_among(
         &self,
         alloc: Global,
@@ -166,11 +172,11 @@ impl Block {
             && are_same(&self.documents, &other.documents)
     }
 
-    /// Whether its documents are those of the entries.
-    pub(crate) fn is_of(&self, entries: &[Entry<'_>]) -> bool
-        ensures { result ≡ true → self.now.documents ≡ map entry_view entries.entry.now }
+    /// Whether its documents are these.
+    pub(crate) fn is_of(&self, documents: &[Shown]) -> bool
+        ensures { IsTrue result ↔ (self.now.documents ≡ map shown_view documents.now) }
     {
-        are_of(&self.documents, entries)
+        are_same(&self.documents, documents)
     }
 
     /// Whether its documents were read under the mapping.
@@ -339,31 +345,6 @@ fn is_same(left: &Shown, right: &Shown) -> bool
         && left.source.is(&right.source)
 }
 
-/// Whether documents are those of entries.
-fn are_of(documents: &[Shown], entries: &[Entry<'_>]) -> bool
-    ensures { result ≡ true → map shown_view documents.now ≡ map entry_view entries.entry.now }
-{
-    if documents.len() != entries.len() {
-        return false;
-    }
-    for at in 0..entries.len() {
-        if !is_entry(&documents[at], &entries[at]) {
-            return false;
-        }
-    }
-    true
-}
-
-fn is_entry(document: &Shown, entry: &Entry<'_>) -> bool
-    ensures { result ≡ true → shown_view document.now ≡ entry_view entry.entry.now }
-{
-    document.seq == entry.seq
-        && document.term == entry.term
-        && document.version == entry.version
-        && document.id.is(entry.id)
-        && document.source.is(entry.source)
-}
-
 /// The place of the document with the id, or where it would go.
 fn place_of(documents: &[Shown], id: &DocId) -> Result<usize, usize>
     requires { is_sorted id_cmp (map shown_view documents.now) ≡ true }
@@ -418,8 +399,7 @@ fn shown_in<'a>(alloc: Global, documents: &'a [Shown]) -> Result<Vec<&'a Shown>,
 
 /// The documents of entries.
 pub(crate) fn shown_of(alloc: Global, entries: &[Entry<'_>]) -> Result<Vec<Shown>, AllocError>
-    ensures documents { IfOk result (λ v. map shown_view v.items ≡ map entry_view entries.entry.now) }
-    ensures sources { IfOk result (λ v. map (λ s. s.source) v.items ≡ map (λ e. e.source.now) entries.entry.now) }
+    ensures { IfOk result (λ v. map shown_view v.items ≡ map entry_view entries.entry.now) }
 {
     let mut documents = Vec::with_capacity(alloc, entries.len())?;
     for entry in entries {
@@ -434,17 +414,17 @@ pub(crate) fn shown_of(alloc: Global, entries: &[Entry<'_>]) -> Result<Vec<Shown
     Ok(documents)
 }
 
-/// The segment of the sources of entries. Of 2^32 or more there is none.
+/// The segment of the sources of documents. Of 2^32 or more there is none.
 fn segment_of<F: Fn(Global, &Arc<Mapping, Global>, Vec<Source>) -> Result<Segment, AllocError>>(
     builder: &F,
     alloc: Global,
     mapping: &Arc<Mapping, Global>,
-    entries: &[Entry<'_>],
+    documents: &[Shown],
 ) -> Result<Segment, AllocError>
     requires { Builds F.Fn builder.now }
-    ensures { IfOk result (λ s. s ≡ record { mapping = arc_value mapping.now; sources = map (λ e. e.source.now) entries.entry.now }) }
+    ensures { IfOk result (λ s. s ≡ record { mapping = arc_value mapping.now; sources = map (λ d. d.source) documents.now }) }
 {
-    let sources = sources_of(alloc, entries)?;
+    let sources = sources_of(alloc, documents)?;
     if sources.len() >= MAX_DOCUMENTS {
         return Err(AllocError);
     }
@@ -452,13 +432,13 @@ fn segment_of<F: Fn(Global, &Arc<Mapping, Global>, Vec<Source>) -> Result<Segmen
     Ok(segment)
 }
 
-/// The texts of entries.
-fn sources_of(alloc: Global, entries: &[Entry<'_>]) -> Result<Vec<Source>, AllocError>
-    ensures { IfOk result (λ v. v.items ≡ map (λ e. e.source.now) entries.entry.now) }
+/// The texts of documents.
+fn sources_of(alloc: Global, documents: &[Shown]) -> Result<Vec<Source>, AllocError>
+    ensures { IfOk result (λ v. v.items ≡ map (λ d. d.source) documents.now) }
 {
-    let mut sources = Vec::with_capacity(alloc, entries.len())?;
-    for entry in entries {
-        sources.push(entry.source.copy(alloc)?)?;
+    let mut sources = Vec::with_capacity(alloc, documents.len())?;
+    for document in documents {
+        sources.push(document.source.copy(alloc)?)?;
     }
     Ok(sources)
 }

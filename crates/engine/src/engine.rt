@@ -18,10 +18,10 @@ ghost use Rattle.engine.specs.Staged.{put_in, records_of, IsStagedFrom};
 
 use crate::ahead::Ahead;
 use crate::block::Block;
+use crate::changes::Changes;
 use crate::documents::documents_at;
 use crate::history::{Applied, Found, History};
 use crate::listed::Listed;
-use crate::ready::{MANY, Prebuilt, Unshown};
 use crate::showing::Showing;
 use crate::snapshot::Snapshot;
 use crate::staged::{SnapshotChange, Staged};
@@ -33,6 +33,8 @@ use std::alloc::{AllocError, Global};
 use std::marker::Model;
 use std::snapshot::Snapshot as Seen;
 use std::sync::Arc;
+
+mod refreshing;
 
 /// The last operation on an id, and whether it left a document there.
 #[derive(Clone, Copy, Debug, PartialEq, Eq)]
@@ -50,8 +52,8 @@ pub struct Engine {
     history: History,
     showing: Showing,
     point: usize,
-    /// What was built for the next refresh. Contracts don't see it.
-    ready: Option<Arc<Block, Global>>,
+    /// What a refresh that was begun will show.
+    pending: Option<Arc<Changes, Global>>,
 }
 
 impl Drop for Engine {
@@ -61,14 +63,15 @@ impl Drop for Engine {
             history: _history,
             showing: _showing,
             point: _,
-            ready: _ready,
+            pending: _pending,
         } = self;
     }
 }
 
 impl Model for Engine {
-    ghost use Rattle.std.specs.Prelude.{◌≤◌};
+    ghost use Rattle.std.specs.Prelude.{◌≤◌, IfSome};
     ghost use Rattle.std.specs.Arc.{arc_value};
+    ghost use Rattle.engine.specs.Changes.{LeadsOn};
     ghost use Rattle.engine.specs.Contents.{EngineData, Shows};
 
     ghost Value = { EngineData };
@@ -82,7 +85,7 @@ impl Model for Engine {
       next = e.showing.next;
     } };
 
-    ghost invariant = { λ e. Shows (arc_value e.mapping) e.history.records e.point e.showing.snapshot × (e.history.begin ≤ e.point) };
+    ghost invariant = { λ e. Shows (arc_value e.mapping) e.history.records e.point e.showing.snapshot × (e.history.begin ≤ e.point) × IfSome e.pending (λ c. LeadsOn e.history.records e.point (arc_value c)) };
 }
 
 impl Engine {
@@ -131,7 +134,7 @@ impl Engine {
             history,
             showing,
             point,
-            ready: None,
+            pending: None,
         })
     }
 
@@ -260,39 +263,10 @@ impl Engine {
             return Ok(showing);
         };
         let entries = documents_at(alloc, &self.history, &ids)?;
-        let showing = self.showing.with(alloc, &self.ready, &ids, &entries)?;
+        let block = Block::of(&Segment::build, alloc, &self.mapping, &entries)?;
+        let block = Arc::new(alloc, block)?;
+        let showing = self.showing.with(alloc, &ids, block)?;
         Ok(showing)
-    }
-
-    /// The documents that a refresh would show now and searches don't, where many of them aren't built.
-    pub fn unshown(&self, alloc: Global) -> Result<Option<Unshown>, AllocError>
-        ensures { IfOk result (λ o. IfSome o (λ u. u.mapping ≡ self.now.mapping)) }
-    {
-        let Some(ids) = self.history.ids_since(alloc, self.point)? else {
-            return Ok(None);
-        };
-        let entries = documents_at(alloc, &self.history, &ids)?;
-        if entries.len().saturating_sub(self.built()) < MANY {
-            return Ok(None);
-        }
-        let unshown = Unshown::of(alloc, &self.mapping, &self.ready, &entries)?;
-        Ok(Some(unshown))
-    }
-
-    /// How many documents are built for the next refresh.
-    fn built(&self) -> usize {
-        match &self.ready {
-            Some(block) => block.len(),
-            None => 0,
-        }
-    }
-
-    /// Keeps what was built for the next refresh, which then builds what came since alone. Nothing else changes.
-    pub fn keep_prebuilt(&mut self, prebuilt: Prebuilt)
-        ensures { self.new ≡ self.old }
-    {
-        let Prebuilt { block } = prebuilt;
-        self.ready = Some(block);
     }
 
     /// Makes a change that is ready for this engine, as it was made ready last: no segment has come or gone since, and no record has come. It takes no memory.
@@ -314,7 +288,7 @@ impl Engine {
         self.history.forget();
         self.showing = showing;
         self.point = point;
-        self.ready = None;
+        self.pending = None;
     }
 
     /// Begins a merge of all segments that searches look through, or of none where there is only one, or where one bears the greatest number.

@@ -1,5 +1,5 @@
 //! The records of a copy, and their operations.
-ghost use Rattle.std.specs.Prelude.{◌≡◌, ◌<◌, ◌≤◌, ◌^◌, ◌||◌, ◌++◌, false, None, All, drop, IfOk, IfSome, OnOk, OnErr};
+ghost use Rattle.std.specs.Prelude.{◌≡◌, ◌<◌, ◌≤◌, ◌^◌, ◌||◌, ◌++◌, false, None, if◌then◌else◌, All, drop, IfOk, IfSome, OnOk, OnErr};
 ghost use Rattle.chronicle.specs.Written.{written};
 ghost use Rattle.doc.specs.Id.{Id};
 ghost use Rattle.std.specs.Option.{option_copied, option_map};
@@ -9,7 +9,7 @@ ghost use Rattle.op.specs.Operations.{IsAscending, add, from_number, is_on, is_s
 ghost use Rattle.op.specs.Records.{IsRecord, operations, shown};
 ghost use Rattle.engine.specs.Found.{found_document};
 ghost use Rattle.engine.specs.Parts.{is_among};
-ghost use Rattle.engine.specs.SnapshotChange.{is_op, is_write};
+ghost use Rattle.engine.specs.SnapshotChange.{is_op, is_write, StayShown};
 ghost use Rattle.std.specs.List.{list_any, AllPass};
 
 use crate::operation_index::OperationIndex;
@@ -50,6 +50,8 @@ pub(crate) struct History {
     begin: usize,
     recent: Vec<Record>,
     operations: OperationIndex,
+    /// Behind so many records each one that isn't an operation left the operations as they were.
+    rebuilt: usize,
 }
 
 impl Drop for History {
@@ -60,19 +62,20 @@ impl Drop for History {
             begin: _,
             recent: _recent,
             operations: _operations,
+            rebuilt: _,
         } = self;
     }
 }
 
 impl Model for History {
-    ghost use Rattle.std.specs.Prelude.{◌≡◌, ◌≤◌, ◌^◌, ◌++◌, length};
-    ghost use Rattle.engine.specs.Kept.{HistoryData, IsKept};
+    ghost use Rattle.std.specs.Prelude.{◌≡◌, ◌≤◌, ◌^◌, ◌++◌, [], length};
+    ghost use Rattle.engine.specs.Kept.{HistoryData, IsKept, IsQuiet};
 
     ghost Value = { HistoryData };
 
     ghost view = { λ h. record { records = h.before.entries ++ h.recent.items; begin = h.begin } };
 
-    ghost invariant = { λ h. IsKept h.operations (h.before.entries ++ h.recent.items) × (h.before.line.book ≡ h.chronicle) × (length h.before.entries ≡ h.begin) × (h.begin ≤ 2 ^ 63) };
+    ghost invariant = { λ h. IsKept h.operations (h.before.entries ++ h.recent.items) × (h.before.line.book ≡ h.chronicle) × (length h.before.entries ≡ h.begin) × (h.begin ≤ 2 ^ 63) × IsQuiet [] h.rebuilt (h.before.entries ++ h.recent.items) };
 }
 
 impl History {
@@ -91,12 +94,14 @@ impl History {
         }
         let chronicle = Chronicle::new();
         let before = chronicle.writer();
+        let rebuilt = records.len();
         Ok(History {
             chronicle,
             before,
             begin: 0,
             recent: records,
             operations,
+            rebuilt,
         })
     }
 
@@ -112,6 +117,24 @@ impl History {
             self.recent.shrink_to_fit();
             self.begin = end;
         }
+    }
+
+    /// Lets memory forget the records up to a point, where it can.
+    pub(crate) fn forget_to(&mut self, point: usize)
+        requires begin { self.old.begin ≤ point }
+        requires within { point ≤ length self.old.records }
+        ensures records { self.new.records ≡ self.old.records }
+        ensures begin { self.new.begin ≤ point }
+    {
+        if point > MOST_FORGOTTEN {
+            return;
+        }
+        let Ok(later) = self.recent.split_off(point - self.begin) else {
+            return;
+        };
+        append_all(&self.chronicle, &mut self.before, &self.recent);
+        self.recent = later;
+        self.begin = point;
     }
 
     /// How many records there are.
@@ -191,7 +214,7 @@ impl History {
         operations::from_number(alloc, self.operations.as_slice(), checkpoint::count(global))
     }
 
-    /// The ids of the operations that came behind a point, if nothing else came there.
+    /// The ids of the operations that came behind a point, if nothing else came there that changed the operations.
     pub(crate) fn ids_since(
         &self,
         alloc: Global,
@@ -202,14 +225,16 @@ impl History {
         ensures others { IfOk result (λ ids. IfSome ids (λ v. (id : Id) → is_among v.items id ≡ false → last_on (operations self.now.records) id ≡ last_on (shown self.now.records point) id)) }
         ensures only { IfOk result (λ ids. AllPass is_op (drop point self.now.records) → ids ≡ None → ⊥) }
         ensures are { IfOk result (λ ids. IfSome ids (λ v. (id : Id) → is_among v.items id ≡ list_any (is_write id) (drop point self.now.records))) }
+        ensures stay { IfOk result (λ ids. IfSome ids (λ v. StayShown self.now.records point (length self.now.records))) }
     {
         let mut ids = Vec::new(alloc);
+        let mut left = self.rebuilt.saturating_sub(point);
         for kept in &self.recent[point - self.begin..] {
-            match kept {
-                Record::Op(_, op) => push_id(alloc, &mut ids, op)?,
-                Record::Resync(_, _, _) => return Ok(None),
-                Record::Recover(_, _) => return Ok(None),
+            let is_op = push_written(alloc, &mut ids, kept)?;
+            if !is_op && left > 0 {
+                return Ok(None);
             }
+            left = left.saturating_sub(1);
         }
         Ok(Some(ids))
     }
@@ -228,8 +253,10 @@ impl History {
         }
         self.recent.reserve(1)?;
         let copy = kept.copy(alloc)?;
-        self.operations.keep(alloc, kept)?;
+        let is_quiet = self.operations.keep(alloc, kept)?;
         self.recent.push(copy)?;
+        let len = self.begin + self.recent.len();
+        self.rebuilt = rebuilt_after(is_quiet, self.rebuilt, len);
         Ok(applied)
     }
 
@@ -259,6 +286,28 @@ fn append_all(chronicle: &Chronicle<Record>, before: &mut Writer<Record>, record
 {
     for kept in records {
         let _mark = before.append(chronicle, kept);
+    }
+}
+
+/// How many records stand before those behind which all is quiet, once there are so many.
+fn rebuilt_after(is_quiet: bool, before: usize, len: usize) -> usize
+    ensures { result ≡ (if is_quiet then before else len) }
+{
+    if is_quiet { before } else { len }
+}
+
+/// Adds the id that a record writes, and tells whether it is an operation.
+fn push_written(alloc: Global, ids: &mut Vec<DocId>, kept: &Record) -> Result<bool, AllocError>
+    ensures ids { OnOk result ((id : Id) → is_among ids.new.items id ≡ (is_among ids.old.items id || is_write id kept.now)) }
+    ensures is { IfOk result (λ b. b ≡ is_op kept.now) }
+{
+    match kept {
+        Record::Op(_, op) => {
+            push_id(alloc, ids, op)?;
+            Ok(true)
+        }
+        Record::Resync(_, _, _) => Ok(false),
+        Record::Recover(_, _) => Ok(false),
     }
 }
 

@@ -3,6 +3,7 @@
 
 pub mod ahead;
 mod block;
+mod changes;
 mod choosing;
 mod documents;
 pub mod engine;
@@ -16,18 +17,18 @@ mod operations;
 mod paging;
 mod part;
 mod part_list;
-pub mod ready;
 mod showing;
 pub mod snapshot;
 pub mod staged;
 mod strands;
 pub mod swapping;
+pub mod unshown;
 
 pub use ahead::Ahead;
 pub use engine::{Engine, Last};
 pub use history::{Applied, Found};
 pub use listed::Listed;
-pub use ready::{Prebuilt, Unshown};
 pub use snapshot::{Hit, Hits, Snapshot};
 pub use staged::{SnapshotChange, Staged};
 pub use swapping::{Merged, Merging};
+pub use unshown::{Prebuilt, Unshown};

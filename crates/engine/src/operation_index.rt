@@ -1,18 +1,19 @@
 //! The operations of a copy in order of number, found by number and by id without a walk.
-ghost use Rattle.std.specs.Prelude.{◌≡◌, ℕ, Option, None, [], fold, if◌then◌else◌, IfOk, OnOk, OnErr};
+ghost use Rattle.std.specs.Prelude.{◌≡◌, ◌++◌, true, false, ℕ, Option, None, [], fold, if◌then◌else◌, IfOk, OnOk, OnErr};
 ghost use Rattle.std.specs.Option.{option_copied, option_map, option_or};
 ghost use Rattle.doc.specs.Id.{Id, is_id};
-ghost use Rattle.op.specs.Operations.{IsAscending, add, is_newer, is_on, is_stale, last_on, local_count, next_seq, op_at};
-ghost use Rattle.op.specs.Records.{IsRecord, after_record};
+ghost use Rattle.op.specs.Operations.{IsAscending, add, below, is_newer, is_on, is_stale, last_on, local_count, next_seq, op_at};
+ghost use Rattle.op.specs.Records.{IsRecord, RunsFrom, after_record};
 ghost use Rattle.engine.specs.Applied as spec;
 ghost use Rattle.engine.specs.Applied.{RiseFrom};
+ghost use Rattle.engine.specs.SnapshotChange.{is_op};
 ghost use Rattle.engine.specs.OperationIndex.{noted, number_at, operations_in, raised};
 
 use crate::history::Applied;
 use crate::id_key::IdKey;
 use crate::operations;
 use doc::DocId;
-use op::{Body, Op, Record, checkpoint};
+use op::{Body, Op, Operations, Record, checkpoint};
 use std::alloc::{AllocError, Global};
 use std::collections::HashMap;
 use std::marker::Model;
@@ -40,6 +41,7 @@ impl Drop for OperationIndex {
 impl Model for OperationIndex {
     ghost use Rattle.std.specs.Prelude.{List};
     ghost use Rattle.op.specs.declared.operation.Op.{Op};
+    ghost use Rattle.engine.specs.SnapshotChange.{is_op};
     ghost use Rattle.engine.specs.OperationIndex.{IsIndexed, number_at};
 
     ghost Value = { List Op };
@@ -174,25 +176,40 @@ impl OperationIndex {
         operations::local_count_with(&self.operations, self.local, op)
     }
 
-    /// Takes one more record.
-    pub(crate) fn keep(&mut self, alloc: Global, kept: &Record) -> Result<(), AllocError>
+    /// Takes one more record. Tells whether the operations stay as they are, where it isn't an operation.
+    pub(crate) fn keep(&mut self, alloc: Global, kept: &Record) -> Result<bool, AllocError>
         requires { IsRecord kept.now }
         ensures ok { OnOk result (self.new ≡ after_record self.old kept.now) }
+        ensures quiet { IfOk result (λ b. b ≡ true → is_op kept.now ≡ false → after_record self.old kept.now ≡ self.old) }
         ensures err { OnErr result (self.new ≡ self.old) }
     {
         match kept {
-            Record::Op(_, op) => self.add(alloc, op),
-            Record::Resync(_, known, tail) => {
-                let count = checkpoint::count(*known);
-                let all = operations::resynced(alloc, &self.operations, count, tail)?;
-                *self = OperationIndex::of(alloc, all)?;
-                Ok(())
+            Record::Op(_, op) => {
+                self.add(alloc, op)?;
+                Ok(true)
             }
+            Record::Resync(_, known, tail) => self.resync(alloc, checkpoint::count(*known), tail),
             Record::Recover(_, all) => {
                 *self = OperationIndex::of(alloc, all.copy(alloc)?.into_vec())?;
-                Ok(())
+                Ok(false)
             }
         }
+    }
+
+    /// Takes these operations behind so many numbers, and tells whether all stays as it is. A copy that goes on where it was is resynced at each start; then nothing
+    /// is made anew.
+    fn resync(&mut self, alloc: Global, count: u64, tail: &Operations) -> Result<bool, AllocError>
+        requires { RunsFrom count tail.now }
+        ensures ok { OnOk result (self.new ≡ below count self.old ++ tail.now) }
+        ensures quiet { IfOk result (λ b. b ≡ true → below count self.old ++ tail.now ≡ self.old) }
+        ensures err { OnErr result (self.new ≡ self.old) }
+    {
+        if operations::is_resynced(&self.operations, count, tail.as_slice()) {
+            return Ok(true);
+        }
+        let all = operations::resynced(alloc, &self.operations, count, tail)?;
+        *self = OperationIndex::of(alloc, all)?;
+        Ok(false)
     }
 
     /// Adds the operation, where its number is free.

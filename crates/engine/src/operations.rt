@@ -1,8 +1,8 @@
 //! Searches in a list of operations in ascending order of their numbers.
-ghost use Rattle.std.specs.Prelude.{◌≡◌, ◌≤◌, ◌<◌, ◌+◌, ◌^◌, ◌++◌, suc, length, drop, slice_get, None, IfOk, IfErr, OnOk, OnErr};
+ghost use Rattle.std.specs.Prelude.{◌≡◌, true, ◌≤◌, ◌<◌, ◌+◌, ◌^◌, ◌++◌, suc, length, drop, slice_get, None, IfOk, IfErr, OnOk, OnErr};
 ghost use Rattle.std.specs.Option.{option_copied, option_map};
 ghost use Rattle.op.specs.Operations.{IsAscending, op_at, add, below, from_number, last_on, local_count, next_seq, reached, is_stale};
-ghost use Rattle.op.specs.Records.{after_record};
+ghost use Rattle.op.specs.Records.{after_record, RunsFrom};
 ghost use Rattle.op.specs.Checkpoint.{checkpoint_of};
 ghost use Rattle.engine.specs.Place.{IsGap};
 ghost use Rattle.engine.specs.Applied as spec;
@@ -53,6 +53,45 @@ pub(crate) fn resynced(
         all.push(op.copy(alloc)?)?;
     }
     Ok(all)
+}
+
+/// Whether a resync behind so many numbers, that brings these operations, leaves all as they are.
+pub(crate) fn is_resynced(operations: &[Op], count: u64, tail: &[Op]) -> bool
+    requires up { IsAscending operations.now }
+    requires runs { RunsFrom count tail.now }
+    ensures { result ≡ true → below count operations.now ++ tail.now ≡ operations.now }
+{
+    if operations.len() < tail.len() {
+        return false;
+    }
+    let kept = operations.len() - tail.len();
+    are_below(&operations[..kept], count) && are_same(&operations[kept..], tail)
+}
+
+/// Whether the last operation, and so each, has a number below this one.
+fn are_below(operations: &[Op], count: u64) -> bool
+    requires { IsAscending operations.now }
+    ensures { result ≡ true → below count operations.now ≡ operations.now }
+{
+    match operations {
+        [] => true,
+        [.., last] => last.seq < count,
+    }
+}
+
+/// Whether they are the same operations.
+fn are_same(left: &[Op], right: &[Op]) -> bool
+    ensures { result ≡ true → left.now ≡ right.now }
+{
+    if left.len() != right.len() {
+        return false;
+    }
+    for at in 0..left.len() {
+        if !left[at].is(&right[at]) {
+            return false;
+        }
+    }
+    true
 }
 
 /// The greatest number, or -1 where there is none.

@@ -12,15 +12,14 @@ ghost use Rattle.engine.specs.Parts.{all_published, documents_of_parts, has_id, 
 ghost use Rattle.engine.specs.Live.{changed_live, changed_segments, is_live, live_of, living, small_count, FitOneMerge};
 ghost use Rattle.engine.specs.Published.{numbered, AreDistinct, AreGone, IsReplaced};
 ghost use Rattle.engine.specs.Before.{first_of_each};
-ghost use Rattle.engine.specs.Shown.{seen_all};
+ghost use Rattle.engine.specs.Shown.{seen_all, shown_view};
 
-use crate::block::{Block, Shown};
+use crate::block::{Block, Shown, shown_of};
 use crate::choosing::{FEW_SMALL, count_small, parts_numbered, push_if, smallest_numbers};
 use crate::documents::{Entry, documents_of};
 use crate::merging::{merge, merge_owned};
 use crate::paging::{behind, find_pivot, page_behind};
 use crate::part::{Part, Share};
-use crate::ready::part_of;
 use crate::strands::strands_of;
 use crate::swapping::{Halves, part_showing, split};
 use doc::{DocId, Mapping, Source};
@@ -96,8 +95,10 @@ impl PartList {
           live = documents operations.now ∷ [];
         }) }
     {
-        let entries = documents_of(alloc, operations)?;
-        let part = Part::of(builder, alloc, &mapping, number, &entries)?;
+        let documents = documents_left(alloc, operations)?;
+        let block = Block::over(builder, alloc, &mapping, documents)?;
+        let block = Arc::new(alloc, block)?;
+        let part = Part::over(alloc, number, block)?;
         let mut parts = Vec::new(alloc);
         parts.push(part)?;
         Ok(PartList { mapping, parts })
@@ -162,31 +163,28 @@ impl PartList {
         page_of(alloc, &self.mapping, &self.parts, query, from, size)
     }
 
-    /// What is shown where some ids have these documents now, and the others what they had. New documents stand in a part of this number, in front
-    /// of the others. Those in which no document is live any more go.
+    /// What is shown where the documents of a block stand at some ids now, and at the others what stood there. The block is a part of this number, in front
+    /// of the others. Parts in which no document is live any more go.
     pub(crate) fn with(
         &self,
         alloc: Global,
-        ready: &Option<Arc<Block, Global>>,
         number: u64,
         ids: &[DocId],
-        entries: &[Entry<'_>],
+        block: Arc<Block, Global>,
     ) -> Result<PartList, AllocError>
-        requires sorted { is_sorted id_cmp (map entry_view entries.now) ≡ true }
-        requires only { (id : Id) → has_id id (map entry_view entries.now) ≡ true → is_among ids.now id ≡ true }
+        requires under { (arc_value block).mapping ≡ self.now.mapping }
+        requires only { (id : Id) → has_id id (arc_value block).documents ≡ true → is_among ids.now id ≡ true }
         ensures mapping { IfOk result (λ l. l.mapping ≡ self.now.mapping) }
-        ensures documents { IfOk result (λ l. l.documents ≡ merged (map entry_view entries.entry.now) (without ids.now self.now.documents)) }
-        ensures published { IfOk result (λ l. l.published ≡ changed_segments (is_among ids.now) (record { number = number; mapping = self.now.mapping; documents = map entry_view entries.entry.now }) self.now.published self.now.live) }
-        ensures live { IfOk result (λ l. l.live ≡ filter is_live (changed_live (is_among ids.now) (record { number = number; mapping = self.now.mapping; documents = map entry_view entries.entry.now }) self.now.live)) }
+        ensures documents { IfOk result (λ l. l.documents ≡ merged (arc_value block).documents (without ids.now self.now.documents)) }
+        ensures published { IfOk result (λ l. l.published ≡ changed_segments (is_among ids.now) (record { number = number; mapping = self.now.mapping; documents = (arc_value block).documents }) self.now.published self.now.live) }
+        ensures live { IfOk result (λ l. l.live ≡ filter is_live (changed_live (is_among ids.now) (record { number = number; mapping = self.now.mapping; documents = (arc_value block).documents }) self.now.live)) }
     {
         let mut parts = parts_without(alloc, &self.parts, ids)?;
-        if entries.is_empty() {
-            return living(alloc, &self.mapping, &parts);
-        }
         if parts.len() >= MOST_PARTS {
             return Err(AllocError);
         }
-        let part = part_of(alloc, &self.mapping, ready, number, entries)?;
+        let _sorted = block.len();
+        let part = Part::over(alloc, number, block)?;
         parts.insert(0, part)?;
         living(alloc, &self.mapping, &parts)
     }
@@ -240,6 +238,14 @@ impl PartList {
             parts: stay,
         }))
     }
+}
+
+/// The documents that operations in ascending order leave. By what they were found is let go of.
+fn documents_left(alloc: Global, operations: &[Op]) -> Result<Vec<Shown>, AllocError>
+    ensures { IfOk result (λ v. map shown_view v.items ≡ documents operations.now) }
+{
+    let entries = documents_of(alloc, operations)?;
+    shown_of(alloc, &entries)
 }
 
 /// What parts under the mapping have for a query: how many documents, and as many of them as the size says behind the first so many.

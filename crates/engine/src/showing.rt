@@ -12,7 +12,6 @@ ghost use Rattle.engine.specs.Live.{changed_live, changed_segments, is_live, liv
 ghost use Rattle.engine.specs.Published.{are_taken, next_after, numbered, taken_of, AreBelow, AreDistinct, AreGone, IsSwapped};
 
 use crate::block::Block;
-use crate::documents::Entry;
 use crate::part::Part;
 use crate::part_list::PartList;
 use crate::snapshot::Snapshot;
@@ -104,22 +103,21 @@ impl Showing {
         self.next
     }
 
-    /// What is shown where some ids have these documents now, and the others what they had. Parts in which no document is live any more go.
+    /// What is shown where the documents of a block stand at some ids now, and at the others what stood there. Parts in which no document is live any more go.
     pub(crate) fn with(
         &self,
         alloc: Global,
-        ready: &Option<Arc<Block, Global>>,
         ids: &[DocId],
-        entries: &[Entry<'_>],
+        block: Arc<Block, Global>,
     ) -> Result<Showing, AllocError>
-        requires sorted { is_sorted id_cmp (map entry_view entries.now) ≡ true }
-        requires only { (id : Id) → has_id id (map entry_view entries.now) ≡ true → is_among ids.now id ≡ true }
-        ensures snapshot { IfOk result (λ s. s.snapshot ≡ record self.now.snapshot { documents = merged (map entry_view entries.entry.now) (without ids.now self.now.snapshot.documents) }) }
-        ensures published { IfOk result (λ s. s.published ≡ changed_segments (is_among ids.now) (record { number = self.now.next; mapping = self.now.snapshot.mapping; documents = map entry_view entries.entry.now }) self.now.published self.now.live) }
-        ensures live { IfOk result (λ s. s.live ≡ filter is_live (changed_live (is_among ids.now) (record { number = self.now.next; mapping = self.now.snapshot.mapping; documents = map entry_view entries.entry.now }) self.now.live)) }
+        requires under { (arc_value block).mapping ≡ self.now.snapshot.mapping }
+        requires only { (id : Id) → has_id id (arc_value block).documents ≡ true → is_among ids.now id ≡ true }
+        ensures snapshot { IfOk result (λ s. s.snapshot ≡ record self.now.snapshot { documents = merged (arc_value block).documents (without ids.now self.now.snapshot.documents) }) }
+        ensures published { IfOk result (λ s. s.published ≡ changed_segments (is_among ids.now) (record { number = self.now.next; mapping = self.now.snapshot.mapping; documents = (arc_value block).documents }) self.now.published self.now.live) }
+        ensures live { IfOk result (λ s. s.live ≡ filter is_live (changed_live (is_among ids.now) (record { number = self.now.next; mapping = self.now.snapshot.mapping; documents = (arc_value block).documents }) self.now.live)) }
         ensures rises { IfOk result (λ s. self.now.next ≤ s.next) }
     {
-        let parts = self.parts.with(alloc, ready, self.next, ids, entries)?;
+        let parts = self.parts.with(alloc, self.next, ids, block)?;
         shown(alloc, parts, self.next.saturating_add(1))
     }
 

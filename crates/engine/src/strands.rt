@@ -1,18 +1,12 @@
 //! Where documents that have a segment stand among all.
-ghost use Rattle.segment.specs.Builds.{Builds};
 
 use crate::block::Shown;
 use crate::documents::Entry;
 use crate::part::Part;
-use doc::{Mapping, Source};
 use marks::Marks;
-use segment::{Segment, Strand};
+use segment::Strand;
 use std::alloc::{AllocError, Global};
 use std::cmp::Ordering;
-use std::sync::Arc;
-
-/// No segment has as many documents.
-const MAX_DOCUMENTS: usize = 4_294_967_296;
 
 /// The segment of each part, and where its live documents stand among entries.
 pub(crate) fn strands_of<'a>(
@@ -72,78 +66,5 @@ fn is_marked(marks: &Marks, at: usize) -> bool {
     match u32::try_from(at) {
         Ok(place) => at < marks.len() && marks.get(place),
         Err(_) => false,
-    }
-}
-
-/// A segment, and where its documents stand among all.
-#[derive(Drop)]
-pub(crate) struct Others {
-    pub(crate) segment: Segment,
-    pub(crate) places: Vec<Option<u32>>,
-}
-
-/// The segment, by the builder, of the entries that stand at none of some places.
-pub(crate) fn others_of<
-    F: Fn(Global, &Arc<Mapping, Global>, Vec<Source>) -> Result<Segment, AllocError>,
->(
-    builder: &F,
-    alloc: Global,
-    mapping: &Arc<Mapping, Global>,
-    places: &[Option<u32>],
-    entries: &[Entry<'_>],
-) -> Result<Others, AllocError>
-    requires { Builds F.Fn builder.now }
-{
-    let covered = covered(alloc, places, entries.len())?;
-    let mut sources = Vec::new(alloc);
-    let mut others = Vec::new(alloc);
-    for at in 0..entries.len() {
-        if !is_marked(&covered, at) {
-            sources.push(entries[at].source.copy(alloc)?)?;
-            others.push(u32::try_from(at).ok())?;
-        }
-    }
-    if sources.len() >= MAX_DOCUMENTS {
-        return Err(AllocError);
-    }
-    let segment = builder(alloc, mapping, sources)?;
-    Ok(Others {
-        segment,
-        places: others,
-    })
-}
-
-/// The strand of a segment and that of others.
-pub(crate) fn with_others<'a>(
-    alloc: Global,
-    segment: &'a Segment,
-    places: Vec<Option<u32>>,
-    others: &'a Segment,
-    places_of_others: Vec<Option<u32>>,
-) -> Result<Vec<Strand<'a>>, AllocError> {
-    let mut strands = Vec::with_capacity(alloc, 2)?;
-    strands.push(Strand { segment, places })?;
-    strands.push(Strand {
-        segment: others,
-        places: places_of_others,
-    })?;
-    Ok(strands)
-}
-
-/// A mark at each of some places among so many.
-fn covered(alloc: Global, places: &[Option<u32>], len: usize) -> Result<Marks, AllocError> {
-    let mut marks = Marks::none(alloc, len)?;
-    for place in places {
-        if let Some(at) = *place {
-            mark_within(&mut marks, at);
-        }
-    }
-    Ok(marks)
-}
-
-/// Marks a place, where there is one.
-fn mark_within(marks: &mut Marks, at: u32) {
-    if (at as usize) < marks.len() {
-        marks.set(at);
     }
 }

@@ -16,6 +16,7 @@ use std::fs::{File, OpenFile, OpenOptions, TryLockError};
 use std::io::{Read, Write};
 use std::rt::Files;
 use std::sync::Arc;
+use std::thread::Threads;
 use translog::{FileDevice, LogFault, MemDevice, Translog};
 
 /// The file that is locked while the folder is served.
@@ -47,7 +48,7 @@ pub struct KeptCopy {
 /// Opens the index of a folder, and begins one where there is none. With no mapping handed in it is the one that is kept, or an empty one. The segment that
 /// searches look through is built by the builder.
 pub fn open_copy<
-    R: Files<File = File> + AllocGlobal,
+    R: Files<File = File> + AllocGlobal + Threads + Sync,
     F: Fn(Global, &Arc<Mapping, Global>, Vec<Source>) -> Result<Segment, AllocError>,
 >(rt: &R, builder: &F, path: &str, given: Option<&MappingFile>) -> Result<KeptCopy, DataFault>
     requires { Builds F.Fn builder.now }
@@ -366,7 +367,9 @@ impl<'a, R: Files<File = File> + AllocGlobal> Folder<'a, R> {
         self.sync()?;
         Ok((copy, master))
     }
+}
 
+impl<'a, R: Files<File = File> + AllocGlobal + Threads + Sync> Folder<'a, R> {
     /// The copy of the folder, and its master.
     fn copy<F: Fn(Global, &Arc<Mapping, Global>, Vec<Source>) -> Result<Segment, AllocError>>(
         &self,
@@ -388,7 +391,7 @@ impl<'a, R: Files<File = File> + AllocGlobal> Folder<'a, R> {
         let opened = if master.state().term == 1 {
             self.begun_or_opened(builder, mapping, copy)
         } else {
-            opened(builder, alloc, mapping, copy)
+            opened(self.rt, builder, alloc, mapping, copy)
         };
         match opened {
             Ok(copy) => Ok(KeptCopy { master, copy, lock }),
@@ -411,7 +414,7 @@ impl<'a, R: Files<File = File> + AllocGlobal> Folder<'a, R> {
         if device.len() <= HEADER {
             return begun(alloc, mapping, device);
         }
-        let copy = opened(builder, alloc, mapping.copy(alloc)?, device)?;
+        let copy = opened(self.rt, builder, alloc, mapping.copy(alloc)?, device)?;
         if copy.point() > 0 {
             return Ok(copy);
         }
@@ -435,7 +438,11 @@ fn begun(
 }
 
 /// The copy of a log.
-fn opened<F: Fn(Global, &Arc<Mapping, Global>, Vec<Source>) -> Result<Segment, AllocError>>(
+fn opened<
+    R: Threads + Sync,
+    F: Fn(Global, &Arc<Mapping, Global>, Vec<Source>) -> Result<Segment, AllocError>,
+>(
+    rt: &R,
     builder: &F,
     alloc: Global,
     mapping: Mapping,
@@ -443,7 +450,7 @@ fn opened<F: Fn(Global, &Arc<Mapping, Global>, Vec<Source>) -> Result<Segment, A
 ) -> Result<Copy<FileDevice<File>>, DataFault>
     requires { Builds F.Fn builder.now }
 {
-    match Copy::open_with(builder, alloc, 1, Birth::First, mapping, device) {
+    match Copy::open_on(rt, builder, alloc, 1, Birth::First, mapping, device) {
         Ok(copy) => Ok(copy),
         Err(refused) => Err(DataFault::Copy(1, refused.into_fault())),
     }

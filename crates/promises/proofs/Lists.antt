@@ -7,7 +7,7 @@ use Rattle.std.proofs.lemmas.Bool.Decides.{nat_tests}
 use Rattle.doc.specs.Id.{Id}
 use Rattle.op.specs.declared.operation.Op.{Op}
 use Rattle.op.specs.Operations.{add, is_on, last_on, op_at, IsAscending}
-use Rattle.op.proofs.OperationLaws.{add-repeated, op_at-add}
+use Rattle.op.proofs.OperationLaws.{op_at-add}
 use Rattle.promises.specs.Promises.{HasWrite}
 
 equals : (n : ℕ) → (n == n) ≡ true
@@ -20,18 +20,6 @@ at_has P (o ∷ os) n p e all = (elim (o.seq == n) as (λ b. (if b then Some o e
   | true ↦ λ h. let same : p ≡ o = cc in rw same all.0
   | false ↦ λ h. at_has P os n p h all.1
 ]) e
-
--- one that is there stays when another is added
-pub stays_added : (os : List Op) (o p : Op) → op_at os p.seq ≡ Some p → op_at (add os o) p.seq ≡ Some p
-stays_added os o p h = by_place (op_at os o.seq) refl
-  where
-    differs : op_at os o.seq ≡ None → (b : Bool) → (o.seq == p.seq) ≡ b → (if b then Some o else op_at os p.seq) ≡ Some p
-    differs none true is = absurd (let same : o.seq ≡ p.seq = grind (arith, nat_tests) in let no : (let x : Option Op = None in x) ≡ Some p = sym none ∙ (ap (op_at os) same ∙ h) in cc)
-    differs none false is = h
-
-    by_place : (q : Option Op) → op_at os o.seq ≡ q → op_at (add os o) p.seq ≡ Some p
-    by_place (Some q) e = rw (add-repeated os o q e) h
-    by_place None e = op_at-add os o p.seq e ∙ differs e (o.seq == p.seq) refl
 
 -- one whose number is free is there once it is added
 pub is_added : (os : List Op) (o : Op) → op_at os o.seq ≡ None → op_at (add os o) o.seq ≡ Some o

@@ -3,13 +3,15 @@ use Rattle.std.proofs.Common.{◌≡◌, inl, inr, List, [], ◌∷◌, ◌++◌
 use mathlib.Core.List.{IsPrefix}
 use Rattle.chronicle.proofs.Lines.{prefix_trans}
 use Rattle.op.specs.declared.operation.Op.{Op}
+use Rattle.replica.specs.Copy.{Copy}
 use Rattle.replica.specs.Logged.{Logged, IsSame}
 use Rattle.front.specs.Command.{Command}
 use Rattle.front.specs.Reply.{Reply}
 use Rattle.shard.specs.Ready.{IsServed}
 use Rattle.shard.specs.History.{Stand, EndsIn, LeadsTo, IsHistory, IsTold, RunsOn}
 use Rattle.promises.specs.Promises.{NeverBack}
-use Rattle.promises.proofs.Serving.{IsThere, served, stays}
+use Rattle.promises.proofs.Serving.{IsThere, is_open, served, stays}
+use Rattle.promises.proofs.Steps.{HasOp, shown_more}
 
 -- ---- places of a history
 
@@ -97,9 +99,13 @@ some_one x y e = cc
 
 goes_there : (o : Op) (seen : Bool) (s t : Stand) → LeadsTo s t → IsThere o seen s.copy → IsThere o seen t.copy
 goes_there o seen s t (inl f) there = served o seen s.copy s.master f.command f.reply t.copy t.master f.served there
-goes_there o seen s t (inr m) there =
+goes_there o seen s t (inr (inl m)) there =
     let same : IsSame s.copy t.copy = record { copy = ap (λ (l : Logged). l.copy) m.copy; closed = ap (λ (l : Logged). l.closed) m.copy; log = ap (λ (l : Logged). l.log) m.copy; failures = ap (λ (l : Logged). l.failures) m.copy } in
     stays o seen s.copy t.copy same there
+goes_there o seen s t (inr (inr m)) there =
+    let c : Copy = record s.copy.copy { point = t.copy.copy.point } in
+    is_open o seen t.copy (ap (λ (l : Logged). l.closed) m.copy ∙ m.now_open)
+    (subst (λ (d : Copy). HasOp o seen d) (sym (ap (λ (l : Logged). l.copy) m.copy)) (shown_more o seen s.copy.copy t.copy.copy.point m.within m.stay (there.while_open m.now_open)))
 
 runs_there : (o : Op) (seen : Bool) (s : Stand) (ts : List Stand) → RunsOn s ts → IsThere o seen s.copy → IsThere o seen (last_after s ts).copy
 runs_there o seen s [] h there = there

@@ -25,7 +25,9 @@ use Rattle.replica.specs.declared.role.Role.TheVariants.{Empty, Replica, Primary
 use Rattle.replica.specs.Copy.{Copy}
 use Rattle.replica.specs.Step.{Folded, Step, bulk, client, copy_step, first_fault, folded, handled, report, resync_of, settled, settled_as, tail_of, take_content, take_promoted, unless, unwritten, with_write, write_step}
 use Rattle.replica.proofs.Tails.{RunsFrom-tail, op_at-tail}
-use Rattle.promises.proofs.Lists.{at_has, stays_added}
+use Rattle.engine.specs.SnapshotChange.{StayShown}
+use Rattle.engine.proofs.QuietLaws.{stays_added}
+use Rattle.promises.proofs.Lists.{at_has}
 
 -- the operation is there, at its number
 abbrev pub Has : Op → List Record → Type 0
@@ -51,6 +53,10 @@ later_still a b c one two = record { keeps = λ o seen h. two.keeps o seen (one.
 -- all are shown
 pub whole : (o : Op) (seen : Bool) (rs : List Record) → Has o rs → HasIn o seen rs (length rs)
 whole o seen rs h = (h, λ e. (ap (λ os. op_at os o.seq) (shown-all rs) ∙ h, omega arith))
+
+-- more is shown of which nothing that was shown is gone
+pub shown_more : (o : Op) (seen : Bool) (c : Copy) (point : ℕ) → point ≤ length c.records → StayShown c.records c.point point → HasOp o seen c → HasOp o seen (record c { point = point })
+shown_more o seen c point within stay h = (h.0, λ e. let shows = h.1 e in (stay o shows.0, within))
 
 -- one record more, which isn't shown yet
 one_more : (o : Op) (seen : Bool) (rs : List Record) (point : ℕ) (r : Record) → (Has o rs → Has o (rs ++ r ∷ [])) → HasIn o seen rs point → HasIn o seen (rs ++ r ∷ []) point

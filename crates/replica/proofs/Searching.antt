@@ -2,9 +2,10 @@
 use Rattle.std.proofs.Common.{◌≡◌, ◌∙◌, ◌<◌, ◌≤◌, length, ℕ, Bool, true, false, List, [], Result, Ok, Err, refl, sym, ap, subst}
 use Rattle.std.specs.Prelude.{◌↔◌, IfOk, OnErr, OnOk, is_some}
 use Rattle.op.specs.declared.record.Record.{Record}
-use Rattle.engine.specs.Contents.{EngineData, segments_of}
+use Rattle.engine.specs.Contents.{Contents, EngineData, contents_of, segments_of}
 use Rattle.engine.specs.Live.{live_of, small_count, woven, FitOneMerge}
 use Rattle.engine.specs.Published.{MergeData, Segments, numbered, taken_of, AreGone, IsSwapped}
+use Rattle.engine.specs.SnapshotChange.{ShowsMore}
 use Rattle.replica.specs.declared.fault.CopyFault.{CopyFault}
 use Rattle.replica.specs.declared.input.Input.{Input}
 use Rattle.replica.specs.declared.input.Input.TheVariants.{Write, Bulk, Take, Report, Refresh, Get, Restart}
@@ -13,7 +14,7 @@ use Rattle.replica.specs.declared.prepared.Prepared.{Prepared}
 use Rattle.replica.specs.declared.prepared.Prepared.TheVariants.{Answered, Settled, Kept, KeptAll, Shown, Restarted}
 use Rattle.replica.specs.Copy.{Copy}
 use Rattle.replica.specs.Logged.{Logged, AreSearched, IsReady, is_refresh, is_restart, is_restarted, new_snapshot, prepared_copy, prepared_segments, searched}
-use Rattle.replica.specs.Searched.{Searched, engine_of, IsNextMerge, IsSwapOf, ShowsAll, ShowsAnew}
+use Rattle.replica.specs.Searched.{Searched, engine_of, IsNextMerge, IsRefreshTo, IsSwapOf, ShowsAll, ShowsAnew}
 
 pub same_searched : (a b : Logged) → a.copy ≡ b.copy → a.segments ≡ b.segments → searched a ≡ searched b
 same_searched a b copy segments =
@@ -94,3 +95,26 @@ swap_of (Ok b) m e f c d copy answer swapped none stays = record {
   stays = λ gone. ap segments_of (stays gone);
 }
 swap_of (Err x) m e f c d copy answer swapped none stays = tt
+
+moved : (e f : EngineData) (n : ℕ) → contents_of f ≡ record (contents_of e) { point = n } → contents_of f ≡ record (contents_of e) { point = f.point }
+moved e f n same = same ∙ ap (λ k. let c : Contents = record (contents_of e) { point = k } in c) (sym (ap (λ (c : Contents). c.point) same))
+
+as_before : (e f : EngineData) → f ≡ e → contents_of f ≡ record (contents_of e) { point = f.point }
+as_before e f same = moved e f e.point (ap contents_of same)
+
+-- an engine whose refresh was finished, or wasn't, has what it had, but for the point
+pub finished_or_not : {E : Type 0} (r : Result Bool E) (point : ℕ) (e f : EngineData) → IfOk r (λ b. b ≡ true → ShowsMore point e f) → IfOk r (λ b. b ≡ false → f ≡ e) → OnErr r (f ≡ e)
+    → contents_of f ≡ record (contents_of e) { point = f.point }
+finished_or_not (Ok true) point e f done stays err = moved e f point (done refl).contents
+finished_or_not (Ok false) point e f done stays err = as_before e f (stays refl)
+finished_or_not (Err x) point e f done stays err = as_before e f err
+
+-- a refresh of the engine is one of the copy
+pub refresh_of : {E : Type 0} (r : Result Bool E) (point : ℕ) (e f : EngineData) (c d : Copy) → d ≡ record c { point = f.point }
+    → engine_of (record { copy = c; segments = segments_of e }) ≡ e → engine_of (record { copy = d; segments = segments_of f }) ≡ f
+    → IfOk r (λ b. b ≡ true → ShowsMore point e f) → IfOk r (λ b. b ≡ true → IsRefreshTo point (record { copy = c; segments = segments_of e }) (record { copy = d; segments = segments_of f }))
+refresh_of (Ok b) point e f c d copy before after done = λ is. record {
+  copy = copy ∙ ap (λ k. let x : Copy = record c { point = k } in x) (ap (λ (x : Contents). x.point) (done is).contents);
+  shows = subst (λ (x : EngineData). ShowsMore point x (engine_of (record { copy = d; segments = segments_of f }))) (sym before) (subst (λ (x : EngineData). ShowsMore point e x) (sym after) (done is));
+}
+refresh_of (Err x) point e f c d copy before after done = tt

@@ -7,7 +7,7 @@ use Rattle.op.specs.Records.{operations}
 use Rattle.engine.specs.Contents.{EngineData}
 use Rattle.engine.specs.Live.{live_of, small_count, woven, FitOneMerge}
 use Rattle.engine.specs.Published.{Published, Segments, MergeData, next_after, numbered, taken_of, AreGone, IsSwapped}
-use Rattle.engine.specs.SnapshotChange.{IsNumbered, IsRefreshed, OnlyOps}
+use Rattle.engine.specs.SnapshotChange.{IsNumbered, IsRefreshed, OnlyOps, ShowsMore}
 use Rattle.engine.specs.Staged.{StagedData, put_in}
 use Rattle.replica.specs.Copy.{Copy}
 
@@ -53,6 +53,11 @@ pub record IsReopeningOf (s : Searched) (staged : StagedData) (rs : List Record)
   pub before : staged.before ≡ s.segments
   pub all : staged.point ≡ length rs
   pub shows : ShowsAnew s.segments (staged_segments s.segments staged) rs
+
+-- searches show so many of the records, and no fewer than before; nothing else of the copy has changed
+pub record IsRefreshTo (point : ℕ) (old new : Searched) : Type 0 where
+  pub copy : new.copy ≡ record old.copy { point = point }
+  pub shows : ShowsMore point (engine_of old) (engine_of new)
 
 -- a merge of some of many small segments, that go well into one
 pub record IsNextMerge (s : Segments) (m : MergeData) : Type 0 where

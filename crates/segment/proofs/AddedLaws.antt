@@ -17,8 +17,7 @@ use Rattle.marks.specs.Lists.{marked}
 use Rattle.segment.specs.Added.{making_at, IsAdded, IsAddedOr, AreAdded, IsLong, AreLong, HaveFewPlaces, AreFinished, IsFinishedOr}
 use Rattle.segment.specs.Indexed.{has_term, has_value, column_at, IsColumnOr}
 use Rattle.segment.specs.Joined.{AreMakings, IsColumnOf, IsMakingOr}
-use Rattle.segment.specs.Places.{places_at_long}
-use Rattle.segment.specs.Posted.{IsPosted, IsRoomFor, IsEmptyMaking, set_if}
+use Rattle.segment.specs.Posted.{IsPosted, IsRoomFor, IsEmptyMaking, places_so_far_long, set_if}
 use Rattle.segment.specs.declared.column.Column.{Column}
 use Rattle.segment.specs.declared.making.Making.{Making}
 use Rattle.segment.proofs.BuiltLaws.{IsColumnOf-all, IsColumnOf-empty, document-more, length-has, length-yes, length-no, number-places}
@@ -158,7 +157,7 @@ long_of fields docs n name (Some m) is = record { has = length-has fields docs n
 pub makings-long : (fields : Fields) (docs : List Values) (n : ℕ) (ms : Makings) → AreMakings fields docs n ms → AreLong n ms
 makings-long fields docs n ms is = λ w. long_of fields docs n w (making_at ms w) (is w)
 
-few_of : (fields : Fields) (docs : List Values) (n : ℕ) (name : List ℕ) (o : Option Making) → n ≡ length docs → IsMakingOr fields docs n name o → IfSome o (λ m. (z : ℤ) → All (λ p. p < n) (places_at_long m.longs z))
+few_of : (fields : Fields) (docs : List Values) (n : ℕ) (name : List ℕ) (o : Option Making) → n ≡ length docs → IsMakingOr fields docs n name o → IfSome o (λ m. (z : ℤ) → All (λ p. p < n) (places_so_far_long m.longs z))
 few_of fields docs n name None all is = tt
 few_of fields docs n name (Some m) all is = number-places fields docs name n m all is
 

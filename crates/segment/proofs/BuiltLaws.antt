@@ -1,8 +1,5 @@
 -- Columns of the documents so far.
 use Rattle.std.proofs.Common.{◌≡◌, ◌<◌, ℕ, ℤ, Bool, true, false, ◌||◌, List, [], ◌∷◌, ◌++◌, length, map, replicate, refl, sym, ap, ◌∙◌, subst, All}
-use Rattle.std.specs.Map.{lookup}
-use Rattle.std.specs.Ordering.{int_eq}
-use Rattle.std.specs.Option.{option_map_or}
 use Rattle.std.proofs.lemmas.List.{length-replicate}
 use Rattle.doc.specs.Fields.{Fields}
 use Rattle.doc.specs.Scalar.{text, long, flag}
@@ -12,8 +9,8 @@ use Rattle.marks.specs.Lists.{marked, places, zip_with}
 use Rattle.segment.specs.Blocks.{AreBlocks}
 use Rattle.segment.specs.Indexed.{has_term, has_value, IsColumn}
 use Rattle.segment.specs.Joined.{IsColumnOf}
-use Rattle.segment.specs.Places.{as_list, places_at_long, one_if}
-use Rattle.segment.specs.Posted.{IsPosted, IsEmptyMaking, IsFinished, places_so_far, with_if, set_if}
+use Rattle.segment.specs.Places.{one_if}
+use Rattle.segment.specs.Posted.{IsPosted, IsEmptyMaking, IsFinished, places_so_far, places_so_far_long, with_if, set_if}
 use Rattle.segment.specs.declared.column.Column.{Column}
 use Rattle.segment.specs.declared.making.Making.{Making}
 use Rattle.segment.proofs.Ahead.{with_if-below}
@@ -25,7 +22,7 @@ pub IsColumnOf-empty : (fields : Fields) (name : List ℕ) (n : ℕ) (c : Making
 IsColumnOf-empty fields name n c is = record {
   has = is.has;
   texts = λ w. is.texts w;
-  longs = λ z. ap (λ es. option_map_or as_list (lookup (int_eq z) es) []) is.longs;
+  longs = λ z. is.longs z;
   yes = is.yes;
   no = is.no;
 }
@@ -67,7 +64,7 @@ pub document-more : (fields : Fields) (docs : List Values) (name : List ℕ) (n 
 document-more fields docs name n d at a b c here is posted value same = record {
   has = value ∙ ap (set_if (has_value name d) at) posted.has ∙ mark-more docs d at here (has_value name) n a.has is.has;
   texts = λ w. ap (λ (x : Making). places_so_far x.texts w) same ∙ posted.texts w ∙ place-more docs d at here (has_term fields name (text w)) (places_so_far a.texts w) (is.texts w);
-  longs = λ z. ap (λ (x : Making). places_at_long x.longs z) same ∙ posted.longs z ∙ place-more docs d at here (has_term fields name (long z)) (places_at_long a.longs z) (is.longs z);
+  longs = λ z. ap (λ (x : Making). places_so_far_long x.longs z) same ∙ posted.longs z ∙ place-more docs d at here (has_term fields name (long z)) (places_so_far_long a.longs z) (is.longs z);
   yes = ap (λ (x : Making). x.yes) same ∙ posted.yes ∙ mark-more docs d at here (has_term fields name (flag true)) n a.yes is.yes;
   no = ap (λ (x : Making). x.no) same ∙ posted.no ∙ mark-more docs d at here (has_term fields name (flag false)) n a.no is.no;
 }
@@ -81,7 +78,7 @@ all_marked test docs n ms all is =
     is ∙ ap (λ k. marked (replicate k false) (places test docs)) all ∙ marked-zip test (replicate (length docs) false) docs (length-replicate (length docs) false) ∙ from_none test docs
 
 -- the places of a number are those of documents
-pub number-places : (fields : Fields) (docs : List Values) (name : List ℕ) (n : ℕ) (c : Making) → n ≡ length docs → IsColumnOf fields docs name n c → (z : ℤ) → All (λ p. p < n) (places_at_long c.longs z)
+pub number-places : (fields : Fields) (docs : List Values) (name : List ℕ) (n : ℕ) (c : Making) → n ≡ length docs → IsColumnOf fields docs name n c → (z : ℤ) → All (λ p. p < n) (places_so_far_long c.longs z)
 number-places fields docs name n c all is z =
     subst (λ ps. All (λ p. p < n) ps) (sym (is.longs z)) (subst (λ k. All (λ p. p < k) (places (has_term fields name (long z)) docs)) (sym all) (places-below (has_term fields name (long z)) docs))
 
@@ -90,7 +87,7 @@ pub IsColumnOf-all : (fields : Fields) (docs : List Values) (name : List ℕ) (n
 IsColumnOf-all fields docs name n m c all is made = record {
   has = made.has ∙ all_marked (has_value name) docs n m.has all is.has;
   texts = λ w. made.texts w ∙ is.texts w;
-  longs = λ z. ap (λ l. places_at_long l z) made.longs ∙ is.longs z;
+  longs = λ z. made.longs z ∙ is.longs z;
   blocks = subst (λ k. AreBlocks k c.longs c.blocks.items) all made.blocks;
   yes = made.yes ∙ all_marked (has_term fields name (flag true)) docs n m.yes all is.yes;
   no = made.no ∙ all_marked (has_term fields name (flag false)) docs n m.no all is.no;

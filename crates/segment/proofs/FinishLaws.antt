@@ -8,8 +8,7 @@ use Rattle.std.specs.Cmp.Lexicographic.{bytes_decides}
 use Rattle.segment.specs.Added.{making_at, AreFinished, HaveFewPlaces, IsFinishedOr}
 use Rattle.segment.specs.Indexed.{column_at}
 use Rattle.segment.specs.Joined.{ArePut, IsPut, IsPutOr}
-use Rattle.segment.specs.Places.{places_at_long}
-use Rattle.segment.specs.Posted.{IsFinished}
+use Rattle.segment.specs.Posted.{IsFinished, places_so_far_long}
 use Rattle.segment.specs.declared.column.Column.{Column}
 use Rattle.segment.specs.declared.making.Making.{Making}
 use Rattle.segment.proofs.AddedLaws.{Makings}
@@ -87,7 +86,7 @@ put_none o p is none = subst (λ q. IsPutOr q p) (sym is) (subst (λ q. IsPutOr 
 put_there : (o p : Option Making) (m k : Making) → o ≡ Some m → p ≡ Some k → IsPut m k → IsPutOr o p
 put_there o p m k is there made = subst (λ q. IsPutOr q p) (sym is) (subst (λ q. IsPutOr (Some m) q) (sym there) made)
 
--- all have their texts in order
+-- all are listed
 pub all-put : (first left made : Makings) → ((w : List ℕ) → tree.get_by_text left w ≡ None) → AreEither IsPut first left made → ArePut first made
 all-put first left made none either w = by_case (either w)
   where
@@ -97,14 +96,14 @@ all-put first left made none either w = by_case (either w)
 
 -- ---- the places of numbers
 
-few_at : (n : ℕ) (name : List ℕ) (left : Makings) (w : List ℕ) (t : Bool) → IfSome (making_at left w) (λ m. (z : ℤ) → All (λ p. p < n) (places_at_long m.longs z))
-    → IfSome (option_map (λ b. b.value) (if t then None else tree.get_by_text left w)) (λ m. (z : ℤ) → All (λ p. p < n) (places_at_long m.longs z))
+few_at : (n : ℕ) (name : List ℕ) (left : Makings) (w : List ℕ) (t : Bool) → IfSome (making_at left w) (λ m. (z : ℤ) → All (λ p. p < n) (places_so_far_long m.longs z))
+    → IfSome (option_map (λ b. b.value) (if t then None else tree.get_by_text left w)) (λ m. (z : ℤ) → All (λ p. p < n) (places_so_far_long m.longs z))
 few_at n name left w true few = tt
 few_at n name left w false few = few
 
 pub few-left : (n : ℕ) (left left' : Makings) (name : List ℕ) → ((w : List ℕ) → tree.get_by_text left' w ≡ update bytes_eq (tree.get_by_text left) name None w) → HaveFewPlaces n left → HaveFewPlaces n left'
 few-left n left left' name taken few w =
-    subst (λ (o : Option (Box Making Global)). IfSome (option_map (λ b. b.value) o) (λ m. (z : ℤ) → All (λ p. p < n) (places_at_long m.longs z))) (sym (taken w)) (few_at n name left w (bytes_eq name w) (few w))
+    subst (λ (o : Option (Box Making Global)). IfSome (option_map (λ b. b.value) o) (λ m. (z : ℤ) → All (λ p. p < n) (places_so_far_long m.longs z))) (sym (taken w)) (few_at n name left w (bytes_eq name w) (few w))
 
-pub few-there : (n : ℕ) (left : Makings) (name : List ℕ) (making : Box Making Global) → tree.get_by_text left name ≡ Some making → HaveFewPlaces n left → (z : ℤ) → All (λ p. p < n) (places_at_long making.value.longs z)
-few-there n left name making there few = subst (λ (o : Option (Box Making Global)). IfSome (option_map (λ b. b.value) o) (λ m. (z : ℤ) → All (λ p. p < n) (places_at_long m.longs z))) there (few name)
+pub few-there : (n : ℕ) (left : Makings) (name : List ℕ) (making : Box Making Global) → tree.get_by_text left name ≡ Some making → HaveFewPlaces n left → (z : ℤ) → All (λ p. p < n) (places_so_far_long making.value.longs z)
+few-there n left name making there few = subst (λ (o : Option (Box Making Global)). IfSome (option_map (λ b. b.value) o) (λ m. (z : ℤ) → All (λ p. p < n) (places_so_far_long m.longs z))) there (few name)

@@ -14,30 +14,11 @@ use Rattle.marks.specs.Lists.{marked, places, places_from, zip_with}
 use Rattle.segment.specs.Added.{making_at, IsLong, AreLong}
 use Rattle.segment.specs.Indexed.{has_term, has_value}
 use Rattle.segment.specs.Joined.{behind, AreJoined, AreMakings, ArePut, IsColumnOf, IsJoined, IsJoinedOr, IsMakingOr, IsPut, IsPutOr}
-use Rattle.segment.specs.Posted.{places_so_far}
-use Rattle.segment.specs.Places.{places_at_long}
+use Rattle.segment.specs.Posted.{places_so_far, places_so_far_long}
 use Rattle.segment.specs.declared.making.Making.{Making}
 use Rattle.segment.proofs.AddedLaws.{Makings}
 use Rattle.segment.proofs.Blocked.{marked-append, length-marked}
 use Rattle.segment.proofs.Columns.{none_text, none_value, places-none}
-
--- ---- one key more of two maps
-
--- what is there with what waits stays all
-module _ {K : Type 0} (eq : K → K → Bool) (k : K) (decides : (z : K) → eq k z ≡ true → k ≡ z) (now now' left left' all : K → List ℕ) (ps : List ℕ)
-    (was : left k ≡ ps) (gone : left' k ≡ []) (kept : (z : K) → eq k z ≡ false → left' z ≡ left z)
-    (here : now' k ≡ now k ++ ps) (others : (z : K) → eq k z ≡ false → now' z ≡ now z)
-    (before : (z : K) → now z ++ left z ≡ all z) where
-  nil_end : (xs : List ℕ) → xs ++ [] ≡ xs
-  nil_end [] = refl
-  nil_end (x ∷ xs) = ap (λ ys. x ∷ ys) (nil_end xs)
-
-  at : (z : K) (b : Bool) → eq k z ≡ b → now' z ++ left' z ≡ all z
-  at z true same = subst (λ v. now' v ++ left' v ≡ all v) (decides z same) (ap (λ xs. now' k ++ xs) gone ∙ nil_end (now' k) ∙ here ∙ ap (λ xs. now k ++ xs) (sym was) ∙ before k)
-  at z false other = ap (λ xs. xs ++ left' z) (others z other) ∙ ap (λ xs. now z ++ xs) (kept z other) ∙ before z
-
-  pub one-joined : (z : K) → now' z ++ left' z ≡ all z
-  one-joined z = at z (eq k z) refl
 
 -- ---- places and marks of documents behind others
 
@@ -157,7 +138,7 @@ module _ (fields : Fields) (name : List ℕ) (xs ys : List Values) (n : ℕ) whe
   both-columns a b c first later is = record {
     has = marks-of (has_value name) no_one a.has b.has c.has first.has later.has is.has;
     texts = λ w. is.texts w ∙ ap (λ ps. ps ++ places_so_far b.texts w) (first.texts w) ∙ ap (λ ps. places (has_term fields name (text w)) xs ++ ps) (later.texts w) ∙ sym (places-joined (has_term fields name (text w)) (no_long (text w)) xs ys);
-    longs = λ z. is.longs z ∙ ap (λ ps. ps ++ places_at_long b.longs z) (first.longs z) ∙ ap (λ ps. places (has_term fields name (long z)) xs ++ ps) (later.longs z) ∙ sym (places-joined (has_term fields name (long z)) (no_long (long z)) xs ys);
+    longs = λ z. is.longs z ∙ ap (λ ps. ps ++ places_so_far_long b.longs z) (first.longs z) ∙ ap (λ ps. places (has_term fields name (long z)) xs ++ ps) (later.longs z) ∙ sym (places-joined (has_term fields name (long z)) (no_long (long z)) xs ys);
     yes = marks-of (has_term fields name (flag true)) (no_long (flag true)) a.yes b.yes c.yes first.yes later.yes is.yes;
     no = marks-of (has_term fields name (flag false)) (no_long (flag false)) a.no b.no c.no first.no later.no is.no;
   }
@@ -185,12 +166,12 @@ put_or fields docs n name (Some a) None same is = absurd same
 put_or fields docs n name (Some a) (Some b) same is = record {
   has = same.has ∙ is.has;
   texts = λ w. same.texts w ∙ is.texts w;
-  longs = λ z. ap (λ l. places_at_long l z) same.longs ∙ is.longs z;
+  longs = λ z. same.longs z ∙ is.longs z;
   yes = same.yes ∙ is.yes;
   no = same.no ∙ is.no;
 }
 
--- the same columns, however their texts are put
+-- the same columns, however their texts and numbers are put
 pub makings-put : (fields : Fields) (docs : List Values) (n : ℕ) (old new : Makings) → ArePut old new → AreMakings fields docs n old → AreMakings fields docs n new
 makings-put fields docs n old new same is = λ w. put_or fields docs n w (making_at old w) (making_at new w) (same w) (is w)
 

@@ -25,3 +25,4 @@ pub mod PlacedLaws
 pub mod TurnLaws
 pub mod WovenLaws
 pub mod WeavingLaws
+pub mod ListingLaws

@@ -11,8 +11,8 @@ use Rattle.doc.specs.declared.mapping.Kind.{Kind}
 use Rattle.doc.specs.declared.mapping.Kind.TheVariants.{Keyword, Text, Long, Boolean}
 use Rattle.terms.specs.Terms.{has, terms_of_value, terms_by}
 use Rattle.doc.specs.Document.{Values, values_at}
-use Rattle.segment.specs.Places.{added, places_at_long, has_word}
-use Rattle.segment.specs.Posted.{IsPosted, IsRoomFor, places_so_far, with_if, set_if}
+use Rattle.segment.specs.Places.{added, has_word}
+use Rattle.segment.specs.Posted.{IsPosted, IsRoomFor, places_so_far, places_so_far_long, with_if, set_if}
 use Rattle.segment.specs.declared.making.Making.{Making}
 use Rattle.segment.proofs.Ahead.{has-append, with_if-twice}
 
@@ -43,7 +43,7 @@ IsPosted-none at c = record { texts = λ w. refl; longs = λ z. refl; yes = refl
 pub IsPosted-trans : (ts us : List Scalar) (at : ℕ) (a b c : Making) → IsPosted ts at a b → IsPosted us at b c → IsPosted (ts ++ us) at a c
 IsPosted-trans ts us at a b c p q = record {
   texts = λ w. q.texts w ∙ ap (with_if (has us (text w)) at) (p.texts w) ∙ with_if-twice (has ts (text w)) (has us (text w)) at (places_so_far a.texts w) ∙ ap (λ h. with_if h at (places_so_far a.texts w)) (sym (has-append ts us (text w)));
-  longs = λ z. q.longs z ∙ ap (with_if (has us (long z)) at) (p.longs z) ∙ with_if-twice (has ts (long z)) (has us (long z)) at (places_at_long a.longs z) ∙ ap (λ h. with_if h at (places_at_long a.longs z)) (sym (has-append ts us (long z)));
+  longs = λ z. q.longs z ∙ ap (with_if (has us (long z)) at) (p.longs z) ∙ with_if-twice (has ts (long z)) (has us (long z)) at (places_so_far_long a.longs z) ∙ ap (λ h. with_if h at (places_so_far_long a.longs z)) (sym (has-append ts us (long z)));
   yes = q.yes ∙ ap (set_if (has us (flag true)) at) p.yes ∙ set_if-twice (has ts (flag true)) (has us (flag true)) at a.yes ∙ ap (λ h. set_if h at a.yes) (sym (has-append ts us (flag true)));
   no = q.no ∙ ap (set_if (has us (flag false)) at) p.no ∙ set_if-twice (has ts (flag false)) (has us (flag false)) at a.no ∙ ap (λ h. set_if h at a.no) (sym (has-append ts us (flag false)));
   has = q.has ∙ p.has;
@@ -77,16 +77,16 @@ module _ (at : ℕ) (old new : ℤ → List ℕ) (number : ℤ) (here : new numb
 pub posted-text : (at : ℕ) (c n : Making) (word : List ℕ) → ((w : List ℕ) → places_so_far n.texts w ≡ with_if (bytes_eq w word) at (places_so_far c.texts w)) → n ≡ record c { texts = n.texts } → IsPosted (text word ∷ []) at c n
 posted-text at c n word is same = record {
   texts = λ w. is w ∙ ap (λ b. with_if b at (places_so_far c.texts w)) (sym (or_false (bytes_eq w word)));
-  longs = λ z. ap (λ (x : Making). places_at_long x.longs z) same;
+  longs = λ z. ap (λ (x : Making). places_so_far_long x.longs z) same;
   yes = ap (λ (x : Making). x.yes) same;
   no = ap (λ (x : Making). x.no) same;
   has = ap (λ (x : Making). x.has) same;
 }
 
-pub posted-long : (at : ℕ) (c n : Making) (number : ℤ) → ((z : ℤ) → places_at_long n.longs z ≡ with_if (int_eq z number) at (places_at_long c.longs z)) → n ≡ record c { longs = n.longs } → IsPosted (long number ∷ []) at c n
+pub posted-long : (at : ℕ) (c n : Making) (number : ℤ) → ((z : ℤ) → places_so_far_long n.longs z ≡ with_if (int_eq z number) at (places_so_far_long c.longs z)) → n ≡ record c { longs = n.longs } → IsPosted (long number ∷ []) at c n
 posted-long at c n number is same = record {
   texts = λ w. ap (λ (x : Making). places_so_far x.texts w) same;
-  longs = λ z. is z ∙ ap (λ b. with_if b at (places_at_long c.longs z)) (sym (or_false (int_eq z number)));
+  longs = λ z. is z ∙ ap (λ b. with_if b at (places_so_far_long c.longs z)) (sym (or_false (int_eq z number)));
   yes = ap (λ (x : Making). x.yes) same;
   no = ap (λ (x : Making). x.no) same;
   has = ap (λ (x : Making). x.has) same;
@@ -109,7 +109,7 @@ no_truths b (v ∷ ws) = no_truths b ws
 pub posted-words : (at : ℕ) (c n : Making) (ws : List (List ℕ)) → ((w : List ℕ) → places_so_far n.texts w ≡ with_if (has_word w ws) at (places_so_far c.texts w)) → n ≡ record c { texts = n.texts; word = n.word } → IsPosted (map text ws) at c n
 posted-words at c n ws is same = record {
   texts = λ w. is w ∙ ap (λ b. with_if b at (places_so_far c.texts w)) (sym (has_words w ws));
-  longs = λ z. ap (λ (x : Making). places_at_long x.longs z) same ∙ sym (ap (λ b. with_if b at (places_at_long c.longs z)) (no_numbers z ws));
+  longs = λ z. ap (λ (x : Making). places_so_far_long x.longs z) same ∙ sym (ap (λ b. with_if b at (places_so_far_long c.longs z)) (no_numbers z ws));
   yes = ap (λ (x : Making). x.yes) same ∙ sym (ap (λ b. set_if b at c.yes) (no_truths true ws));
   no = ap (λ (x : Making). x.no) same ∙ sym (ap (λ b. set_if b at c.no) (no_truths false ws));
   has = ap (λ (x : Making). x.has) same;

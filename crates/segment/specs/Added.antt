@@ -10,8 +10,7 @@ use Rattle.doc.specs.declared.mapping.Kind.{Kind}
 use Rattle.doc.specs.Document.{Values, values_at}
 use Rattle.terms.specs.Terms.{terms_by}
 use Rattle.segment.specs.Indexed.{column_at}
-use Rattle.segment.specs.Places.{places_at_long}
-use Rattle.segment.specs.Posted.{IsPosted, IsEmptyMaking, IsFinished, set_if}
+use Rattle.segment.specs.Posted.{IsPosted, IsEmptyMaking, IsFinished, places_so_far_long, set_if}
 use Rattle.segment.specs.declared.column.Column.{Column}
 use Rattle.segment.specs.declared.making.Making.{Making}
 
@@ -53,7 +52,7 @@ AreLong n ms = (name : List ℕ) → IfSome (making_at ms name) (IsLong n)
 
 -- the places of numbers are below n
 abbrev pub HaveFewPlaces : ℕ → BTreeMap (String Global) (Box Making Global) → Type 0
-HaveFewPlaces n ms = (name : List ℕ) → IfSome (making_at ms name) (λ m. (z : ℤ) → All (λ p. p < n) (places_at_long m.longs z))
+HaveFewPlaces n ms = (name : List ℕ) → IfSome (making_at ms name) (λ m. (z : ℤ) → All (λ p. p < n) (places_so_far_long m.longs z))
 
 -- a field has a column where it had one in the making
 abbrev pub IsFinishedOr : ℕ → Option Making → Option Column → Type 0

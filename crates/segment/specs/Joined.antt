@@ -10,15 +10,14 @@ use Rattle.doc.specs.Document.{Values, values_at}
 use Rattle.marks.specs.Lists.{marked, places, zip_with}
 use Rattle.segment.specs.Added.{making_at}
 use Rattle.segment.specs.Indexed.{has_term, has_value}
-use Rattle.segment.specs.Places.{places_at_long}
-use Rattle.segment.specs.Posted.{places_so_far}
+use Rattle.segment.specs.Posted.{places_so_far, places_so_far_long}
 use Rattle.segment.specs.declared.making.Making.{Making}
 
 -- a column in the making that has the documents so far, of n in all
 pub record IsColumnOf (fields : Fields) (docs : List Values) (name : List ℕ) (n : ℕ) (c : Making) : Type 0 where
   pub has : c.has ≡ marked (replicate n false) (places (has_value name) docs)
   pub texts : (w : List ℕ) → places_so_far c.texts w ≡ places (has_term fields name (text w)) docs
-  pub longs : (z : ℤ) → places_at_long c.longs z ≡ places (has_term fields name (long z)) docs
+  pub longs : (z : ℤ) → places_so_far_long c.longs z ≡ places (has_term fields name (long z)) docs
   pub yes : c.yes ≡ marked (replicate n false) (places (has_term fields name (flag true)) docs)
   pub no : c.no ≡ marked (replicate n false) (places (has_term fields name (flag false)) docs)
 
@@ -35,11 +34,11 @@ AreMakings fields docs n ms = (name : List ℕ) → IsMakingOr fields docs n nam
 abbrev pub behind : ℕ → List Values → List Values
 behind begin docs = replicate begin [] ++ docs
 
--- the same column, however its texts are put
+-- the same column, however its texts and numbers are put
 pub record IsPut (old new : Making) : Type 0 where
   pub has : new.has ≡ old.has
   pub texts : (w : List ℕ) → places_so_far new.texts w ≡ places_so_far old.texts w
-  pub longs : new.longs ≡ old.longs
+  pub longs : (z : ℤ) → places_so_far_long new.longs z ≡ places_so_far_long old.longs z
   pub yes : new.yes ≡ old.yes
   pub no : new.no ≡ old.no
 
@@ -58,7 +57,7 @@ ArePut old new = (name : List ℕ) → IsPutOr (making_at old name) (making_at n
 pub record IsJoined (old later new : Making) : Type 0 where
   pub has : new.has ≡ zip_with (λ a b. a || b) old.has later.has
   pub texts : (w : List ℕ) → places_so_far new.texts w ≡ places_so_far old.texts w ++ places_so_far later.texts w
-  pub longs : (z : ℤ) → places_at_long new.longs z ≡ places_at_long old.longs z ++ places_at_long later.longs z
+  pub longs : (z : ℤ) → places_so_far_long new.longs z ≡ places_so_far_long old.longs z ++ places_so_far_long later.longs z
   pub yes : new.yes ≡ zip_with (λ a b. a || b) old.yes later.yes
   pub no : new.no ≡ zip_with (λ a b. a || b) old.no later.no
 

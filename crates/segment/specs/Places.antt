@@ -51,3 +51,8 @@ has_prefix p ws = list_any (λ w. starts_with nat_eq w p) ws
 -- the same of numbers
 abbrev pub places_at_long : BTreeMap ℤ Places → ℤ → List ℕ
 places_at_long m z = option_map_or as_list (lookup (int_eq z) m.entries) []
+
+-- those of all pairs whose keys pass, one after another
+abbrev pub places_listed : {K : Type 0} → (K → Bool) → List (K × Places) → List ℕ
+places_listed p [] = []
+places_listed p (e ∷ es) = (if p e.0 then as_list e.1 else []) ++ places_listed p es

@@ -10,7 +10,7 @@ use Rattle.segment.specs.Added.{making_at}
 use Rattle.segment.specs.Indexed.{column_at}
 use Rattle.segment.specs.Joined.{AreMakings}
 use Rattle.segment.specs.Places.{places_at, places_at_long}
-use Rattle.segment.specs.Posted.{places_so_far, IsEmptyMaking}
+use Rattle.segment.specs.Posted.{places_so_far, places_so_far_long, IsEmptyMaking}
 use Rattle.segment.specs.Woven.{masked, moved_by, risen}
 use Rattle.segment.specs.declared.column.Column.{Column}
 use Rattle.segment.specs.declared.making.Making.{Making}
@@ -35,7 +35,7 @@ AreCovered to columns = (name : List ℕ) → IfSome (column_at columns name) (I
 pub record IsWoven (to : List (Option ℕ)) (c : Column) (old new : Making) : Type 0 where
   pub has : new.has ≡ marked old.has (moved_by to (places (λ b. b) c.has))
   pub texts : (w : List ℕ) → places_so_far new.texts w ≡ risen (places_so_far old.texts w) (moved_by to (places_at c.texts w))
-  pub longs : (z : ℤ) → places_at_long new.longs z ≡ risen (places_at_long old.longs z) (moved_by to (places_at_long c.longs z))
+  pub longs : (z : ℤ) → places_so_far_long new.longs z ≡ risen (places_so_far_long old.longs z) (moved_by to (places_at_long c.longs z))
   pub yes : new.yes ≡ marked old.yes (moved_by to (places (λ b. b) c.yes))
   pub no : new.no ≡ marked old.no (moved_by to (places (λ b. b) c.no))
 

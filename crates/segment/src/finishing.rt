@@ -3,8 +3,7 @@ ghost use Rattle.std.specs.Prelude.{◌<◌, ℕ, ℤ, List, All, IfOk, IfSome, 
 ghost use Rattle.segment.specs.Added.{making_at, AreFinished, HaveFewPlaces};
 ghost use Rattle.segment.specs.Indexed.{column_at};
 ghost use Rattle.segment.specs.Joined.{ArePut};
-ghost use Rattle.segment.specs.Places.{places_at_long};
-ghost use Rattle.segment.specs.Posted.{IsFinished};
+ghost use Rattle.segment.specs.Posted.{IsFinished, places_so_far_long};
 
 use crate::column::Column;
 use crate::making::{Making, Makings};
@@ -29,24 +28,24 @@ pub(crate) fn finish_all(
     Ok(columns)
 }
 
-/// The same columns with their texts in order.
-pub(crate) fn put_in_order(alloc: Global, makings: Makings) -> Result<Makings, AllocError>
+/// The same columns with their texts listed.
+pub(crate) fn list_all(alloc: Global, makings: Makings) -> Result<Makings, AllocError>
     ensures { IfOk result (ArePut makings) }
 {
     let mut left = makings;
-    let mut ordered = BTreeMap::new(alloc);
+    let mut listed = BTreeMap::new(alloc);
     while let Some((name, making)) = left.pop_first() {
         let mut making = Box::into_inner(making);
-        making.put_in_order(alloc)?;
+        making.list(alloc)?;
         let boxed = Box::new(alloc, making)?;
-        ordered.insert(name, boxed)?;
+        listed.insert(name, boxed)?;
     }
-    Ok(ordered)
+    Ok(listed)
 }
 
 /// One column.
 fn finished(alloc: Global, making: Box<Making>, len: usize) -> Result<Box<Column>, AllocError>
-    requires { (z : ℤ) → All (λ p. p < len) (places_at_long making.value.longs z) }
+    requires { (z : ℤ) → All (λ p. p < len) (places_so_far_long making.value.longs z) }
     ensures { IfOk result (λ b. IsFinished len making.value b.value) }
 {
     let column = Box::into_inner(making).finish(alloc, len)?;

@@ -8,6 +8,8 @@ pub mod column;
 mod finishing;
 mod joining;
 mod limits;
+mod listing;
+mod longs;
 mod making;
 pub mod merging;
 mod moving;

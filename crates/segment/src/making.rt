@@ -1,12 +1,11 @@
 //! Columns in the making.
 ghost use Rattle.std.specs.Prelude.{◌≡◌, ◌<◌, ℤ, All, IfOk, OnOk, length};
 ghost use Rattle.segment.specs.Joined.{IsJoined, IsPut};
-ghost use Rattle.segment.specs.Places.{places_at_long};
-ghost use Rattle.segment.specs.Posted.{IsEmptyMaking, IsFinished};
+ghost use Rattle.segment.specs.Posted.{IsEmptyMaking, IsFinished, places_so_far_long};
 
 use crate::blocks::blocks_of;
 use crate::column::Column;
-use crate::places::{Places, join_longs};
+use crate::longs::Longs;
 use crate::texts::Texts;
 use marks::Marks;
 use std::alloc::{AllocError, Global};
@@ -21,7 +20,7 @@ pub type Makings = BTreeMap<String, Box<Making>>;
 pub struct Making {
     pub has: Marks,
     pub texts: Texts,
-    pub longs: BTreeMap<i64, Places>,
+    pub longs: Longs,
     pub yes: Marks,
     pub no: Marks,
     /// Where a token of a text is put.
@@ -36,19 +35,19 @@ impl Making {
         Ok(Making {
             has: Marks::none(alloc, len)?,
             texts: Texts::none(alloc, len),
-            longs: BTreeMap::new(alloc),
+            longs: Longs::none(alloc),
             yes: Marks::none(alloc, len)?,
             no: Marks::none(alloc, len)?,
             word: String::new(alloc),
         })
     }
 
-    /// Puts the texts in order.
-    pub(crate) fn put_in_order(&mut self, alloc: Global) -> Result<(), AllocError>
+    /// Lists the texts, so that they can be put behind those of earlier documents. Numbers are listed as they are joined: a list here would stand beside the memory of their tree, which a thread's heap keeps.
+    pub(crate) fn list(&mut self, alloc: Global) -> Result<(), AllocError>
         ensures { OnOk result (IsPut self.old self.new) }
     {
-        let texts = mem::replace(&mut self.texts, Texts::Ordered(BTreeMap::new(alloc)));
-        self.texts = Texts::Ordered(texts.in_order(alloc)?);
+        let texts = mem::replace(&mut self.texts, Texts::Listed(Vec::new(alloc)));
+        self.texts = Texts::Listed(texts.listed(alloc)?);
         Ok(())
     }
 
@@ -70,13 +69,13 @@ impl Making {
         self.has.unite(&has);
         self.yes.unite(&yes);
         self.no.unite(&no);
-        join_longs(alloc, &mut self.longs, longs)?;
+        self.longs.join(alloc, longs)?;
         self.texts.join(alloc, texts)
     }
 
     /// The column that it is, of so many documents.
     pub(crate) fn finish(self, alloc: Global, len: usize) -> Result<Column, AllocError>
-        requires { (z : ℤ) → All (λ p. p < len) (places_at_long self.longs z) }
+        requires { (z : ℤ) → All (λ p. p < len) (places_so_far_long self.longs z) }
         ensures { IfOk result (IsFinished len self) }
     {
         let Making {
@@ -87,8 +86,9 @@ impl Making {
             no,
             word: _,
         } = self;
-        let blocks = blocks_of(alloc, &longs, len)?;
         let texts = texts.in_order(alloc)?;
+        let longs = longs.in_order(alloc)?;
+        let blocks = blocks_of(alloc, &longs, len)?;
         Ok(Column {
             has,
             texts,

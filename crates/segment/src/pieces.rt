@@ -6,7 +6,7 @@ ghost use Rattle.segment.specs.Joined.{behind, AreMakings};
 
 use crate::building::makings_of;
 use crate::column::Column;
-use crate::finishing::{finish_all, put_in_order};
+use crate::finishing::{finish_all, list_all};
 use crate::joining::join;
 use crate::making::Makings;
 use doc::{Mapping, Source};
@@ -51,7 +51,7 @@ pub(crate) fn columns_of<R: Threads + Sync>(
     finish_all(alloc, makings, len)
 }
 
-/// The columns of a piece, with their texts in order.
+/// The columns of a piece. Where it isn't all, their texts are listed, to be put behind those of the pieces before it.
 fn piece_of(
     alloc: Global,
     mapping: &Mapping,
@@ -64,5 +64,8 @@ fn piece_of(
     ensures { IfOk result (AreMakings mapping.now.fields (behind begin (map (all_values mapping.now) piece.now)) len) }
 {
     let makings = makings_of(alloc, mapping, piece, begin, len)?;
-    put_in_order(alloc, makings)
+    if piece.len() == len {
+        return Ok(makings);
+    }
+    list_all(alloc, makings)
 }

@@ -1,12 +1,10 @@
 //! The places of the documents that have a term.
-ghost use Rattle.std.specs.Prelude.{◌≡◌, ◌∷◌, ◌++◌, ℤ, [], false, IfOk, OnOk};
-ghost use Rattle.std.specs.Ordering.{int_eq};
-ghost use Rattle.segment.specs.Places.{as_list, places_at_long};
+ghost use Rattle.std.specs.Prelude.{◌≡◌, ◌∷◌, ◌++◌, [], IfOk, OnOk};
+ghost use Rattle.segment.specs.Places.{as_list};
 ghost use Rattle.segment.specs.Woven.{risen};
 
 use crate::moving::risen;
 use std::alloc::{AllocError, Global};
-use std::collections::BTreeMap;
 use std::slice;
 
 /// A list of two places grows to six, which is what an allocator hands out at least.
@@ -90,59 +88,5 @@ fn push(places: &mut Vec<u32>, at: u32) -> Result<(), AllocError>
         places.reserve_exact(LEAST_GROWTH + places.len() / 8)?;
     }
     places.push(at)?;
-    Ok(())
-}
-
-/// Adds the later places of each number.
-pub(crate) fn join_longs(
-    alloc: Global,
-    longs: &mut BTreeMap<i64, Places>,
-    later: BTreeMap<i64, Places>,
-) -> Result<(), AllocError>
-    ensures { OnOk result ((z : ℤ) → places_at_long longs.new z ≡ places_at_long longs.old z ++ places_at_long later z) }
-{
-    let mut left = later;
-    while let Some((number, places)) = left.pop_first() {
-        append_at(alloc, longs, number, places)?;
-    }
-    Ok(())
-}
-
-/// Adds the later places of a number.
-fn append_at(
-    alloc: Global,
-    longs: &mut BTreeMap<i64, Places>,
-    number: i64,
-    later: Places,
-) -> Result<(), AllocError>
-    ensures here { OnOk result (places_at_long longs.new number ≡ places_at_long longs.old number ++ as_list later) }
-    ensures others { OnOk result ((z : ℤ) → int_eq number z ≡ false → places_at_long longs.new z ≡ places_at_long longs.old z) }
-{
-    if let Some(places) = longs.get_mut(&number) {
-        places.append(alloc, later.as_slice())?;
-        return Ok(());
-    }
-    longs.insert(number, later)?;
-    Ok(())
-}
-
-/// Adds places of a number that come among those that it has.
-pub(crate) fn merge_longs_at(
-    alloc: Global,
-    longs: &mut BTreeMap<i64, Places>,
-    number: i64,
-    later: &[u32],
-) -> Result<(), AllocError>
-    ensures here { OnOk result (places_at_long longs.new number ≡ risen (places_at_long longs.old number) later.now) }
-    ensures others { OnOk result ((z : ℤ) → int_eq number z ≡ false → places_at_long longs.new z ≡ places_at_long longs.old z) }
-{
-    if later.is_empty() {
-        return Ok(());
-    }
-    if let Some(places) = longs.get_mut(&number) {
-        places.merge(alloc, later)?;
-        return Ok(());
-    }
-    longs.insert(number, Places::of(alloc, later)?)?;
     Ok(())
 }

@@ -1,39 +1,18 @@
 //! The terms of one more document, put into a column in the making.
-ghost use Rattle.std.specs.Prelude.{◌≡◌, ℕ, ℤ, List, [], ◌∷◌, false, Some, OnOk};
-ghost use Rattle.std.specs.Ordering.{int_eq};
+ghost use Rattle.std.specs.Prelude.{◌≡◌, ℕ, List, [], ◌∷◌, Some, OnOk};
 ghost use Rattle.analysis.specs.Tokens.{tokens_of};
 ghost use Rattle.doc.specs.Document.{values_at};
 ghost use Rattle.doc.specs.ScalarView.{scalar_view, scalars_view, field_values_view, values_view};
 ghost use Rattle.doc.specs.Scalar as scalar;
 ghost use Rattle.terms.specs.Terms.{terms_of_value, terms_by};
-ghost use Rattle.segment.specs.Places.{added, places_at_long, has_word};
+ghost use Rattle.segment.specs.Places.{has_word};
 ghost use Rattle.segment.specs.Posted.{IsPosted, IsRoomFor, places_so_far, with_if};
 
 use crate::making::Making;
-use crate::places::Places;
-use crate::texts::{Texts, add_place};
+use crate::texts::Texts;
 use analysis::words_of;
 use doc::{FieldValues, Kind, Scalar};
 use std::alloc::{AllocError, Global};
-use std::collections::BTreeMap;
-
-/// Adds a place to those of a number.
-fn post_long(
-    alloc: Global,
-    longs: &mut BTreeMap<i64, Places>,
-    number: i64,
-    at: u32,
-) -> Result<(), AllocError>
-    ensures here { OnOk result (places_at_long longs.new number ≡ added (places_at_long longs.old number) at) }
-    ensures others { OnOk result ((z : ℤ) → int_eq number z ≡ false → places_at_long longs.new z ≡ places_at_long longs.old z) }
-{
-    if let Some(places) = longs.get_mut(&number) {
-        add_place(alloc, places, at)?;
-        return Ok(());
-    }
-    longs.insert(number, Places::One(at))?;
-    Ok(())
-}
 
 /// Adds a place to those of each token of a text, one after another in the buffer.
 fn post_words(
@@ -63,7 +42,7 @@ fn post_term(alloc: Global, making: &mut Making, term: &Scalar, at: u32) -> Resu
             Ok(())
         }
         Scalar::Long(number) => {
-            post_long(alloc, &mut making.longs, *number, at)?;
+            making.longs.post(alloc, *number, at)?;
             Ok(())
         }
         Scalar::Flag(true) => {

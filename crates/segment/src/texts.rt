@@ -1,10 +1,11 @@
 //! The texts of a column in the making.
 ghost use Rattle.std.specs.Prelude.{◌≡◌, ◌++◌, [], ℕ, List, false, string_bytes, IfOk, OnOk};
 ghost use Rattle.std.specs.Str.{bytes_eq};
-ghost use Rattle.segment.specs.Places.{added, as_list, ends_at, places_at, places_in};
+ghost use Rattle.segment.specs.Places.{added, as_list, ends_at, places_at, places_in, places_listed};
 ghost use Rattle.segment.specs.Posted.{places_so_far};
 ghost use Rattle.segment.specs.Woven.{risen};
 
+use crate::listing::{map_of, sorted};
 use crate::places::Places;
 use std::alloc::{AllocError, Global};
 use std::collections::{BTreeMap, HashMap};
@@ -13,11 +14,12 @@ use std::mem;
 /// The texts of so many documents are found sooner in a table, even if they are put in order after that.
 const LEAST_DOCUMENTS: usize = 64;
 
-/// Texts with their places, in order from the first, or else to be put in order at the end.
+/// Texts with their places, in order from the first, or else to be put in order at the end. Those of pieces are listed behind one another.
 #[derive(Drop)]
 pub enum Texts {
     Ordered(BTreeMap<String, Places>),
     Table(HashMap<String, Places>),
+    Listed(Vec<(String, Places)>),
 }
 
 impl Texts {
@@ -37,20 +39,23 @@ impl Texts {
         ensures here { OnOk result (places_so_far self.new word.now ≡ added (places_so_far self.old word.now) at) }
         ensures others { OnOk result ((w : List ℕ) → bytes_eq word.now w ≡ false → places_so_far self.new w ≡ places_so_far self.old w) }
     {
-        match self {
-            Texts::Ordered(texts) => post_in_order(alloc, texts, word, at),
-            Texts::Table(texts) => post_in_table(alloc, texts, word, at),
+        if let Texts::Table(texts) = self {
+            return post_in_table(alloc, texts, word, at);
         }
+        let mut texts = mem::replace(self, Texts::Listed(Vec::new(alloc))).in_order(alloc)?;
+        post_in_order(alloc, &mut texts, word, at)?;
+        *self = Texts::Ordered(texts);
+        Ok(())
     }
 
     /// Adds the later places of each text.
     pub(crate) fn join(&mut self, alloc: Global, later: Texts) -> Result<(), AllocError>
         ensures { OnOk result ((w : List ℕ) → places_so_far self.new w ≡ places_so_far self.old w ++ places_so_far later w) }
     {
-        let before = mem::replace(self, Texts::Ordered(BTreeMap::new(alloc)));
-        let mut texts = before.in_order(alloc)?;
-        join_in_order(alloc, &mut texts, later.in_order(alloc)?)?;
-        *self = Texts::Ordered(texts);
+        let mut listed = mem::replace(self, Texts::Listed(Vec::new(alloc))).listed(alloc)?;
+        let mut more = later.listed(alloc)?;
+        listed.append(&mut more)?;
+        *self = Texts::Listed(listed);
         Ok(())
     }
 
@@ -67,9 +72,23 @@ impl Texts {
         if later.is_empty() {
             return Ok(());
         }
+        if let Texts::Table(texts) = self {
+            return merge_in_table(alloc, texts, word, later);
+        }
+        let mut texts = mem::replace(self, Texts::Listed(Vec::new(alloc))).in_order(alloc)?;
+        merge_in_order(alloc, &mut texts, word, later)?;
+        *self = Texts::Ordered(texts);
+        Ok(())
+    }
+
+    /// The same places, listed. The texts of a piece are in order.
+    pub(crate) fn listed(self, alloc: Global) -> Result<Vec<(String, Places)>, AllocError>
+        ensures { IfOk result (λ v. (w : List ℕ) → places_listed (λ k. bytes_eq w (string_bytes k)) v.items ≡ places_so_far self w) }
+    {
         match self {
-            Texts::Ordered(texts) => merge_in_order(alloc, texts, word, later),
-            Texts::Table(texts) => merge_in_table(alloc, texts, word, later),
+            Texts::Ordered(texts) => list_of(alloc, texts),
+            Texts::Table(texts) => sort_out(alloc, texts),
+            Texts::Listed(pairs) => Ok(pairs),
         }
     }
 
@@ -80,8 +99,42 @@ impl Texts {
         match self {
             Texts::Ordered(texts) => Ok(texts),
             Texts::Table(texts) => put_in_order(alloc, texts),
+            Texts::Listed(pairs) => unite(alloc, pairs),
         }
     }
+}
+
+fn list_of(
+    alloc: Global,
+    texts: BTreeMap<String, Places>,
+) -> Result<Vec<(String, Places)>, AllocError>
+    ensures { IfOk result (λ v. (w : List ℕ) → places_listed (λ k. bytes_eq w (string_bytes k)) v.items ≡ places_at texts w) }
+{
+    let _ordered = texts.len();
+    Vec::from_iter(alloc, texts)
+}
+
+/// The entries of a table, in order.
+fn sort_out(
+    alloc: Global,
+    texts: HashMap<String, Places>,
+) -> Result<Vec<(String, Places)>, AllocError>
+    ensures { IfOk result (λ v. (w : List ℕ) → places_listed (λ k. bytes_eq w (string_bytes k)) v.items ≡ places_in texts w) }
+{
+    let _unique = texts.len();
+    let pairs = Vec::from_iter(alloc, texts)?;
+    sorted(pairs)
+}
+
+/// Each text with all its places.
+fn unite(
+    alloc: Global,
+    pairs: Vec<(String, Places)>,
+) -> Result<BTreeMap<String, Places>, AllocError>
+    ensures { IfOk result (λ m. (w : List ℕ) → places_at m w ≡ places_listed (λ k. bytes_eq w (string_bytes k)) pairs.items) }
+{
+    let united = map_of(alloc, pairs)?;
+    Ok(united)
 }
 
 fn post_in_order(
@@ -122,38 +175,6 @@ fn put_in_order(
 {
     let _unique = texts.len();
     BTreeMap::from_iter(alloc, texts)
-}
-
-/// Adds the later places of each text.
-fn join_in_order(
-    alloc: Global,
-    texts: &mut BTreeMap<String, Places>,
-    later: BTreeMap<String, Places>,
-) -> Result<(), AllocError>
-    ensures { OnOk result ((w : List ℕ) → places_at texts.new w ≡ places_at texts.old w ++ places_at later w) }
-{
-    let mut left = later;
-    while let Some((word, places)) = left.pop_first() {
-        append_at(alloc, texts, word, places)?;
-    }
-    Ok(())
-}
-
-/// Adds the later places of a text.
-fn append_at(
-    alloc: Global,
-    texts: &mut BTreeMap<String, Places>,
-    word: String,
-    later: Places,
-) -> Result<(), AllocError>
-    ensures here { OnOk result (places_at texts.new (string_bytes word) ≡ places_at texts.old (string_bytes word) ++ as_list later) }
-    ensures others { OnOk result ((w : List ℕ) → bytes_eq (string_bytes word) w ≡ false → places_at texts.new w ≡ places_at texts.old w) }
-{
-    if let Some(places) = texts.get_mut(word.as_str()) {
-        return places.append(alloc, later.as_slice());
-    }
-    texts.insert(word, later)?;
-    Ok(())
 }
 
 fn merge_in_order(

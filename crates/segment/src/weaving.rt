@@ -6,16 +6,17 @@ ghost use Rattle.marks.specs.Lists.{marked, places};
 ghost use Rattle.segment.specs.Added.{making_at, AreLong, IsLong};
 ghost use Rattle.segment.specs.Indexed.{column_at, IsColumnOr};
 ghost use Rattle.segment.specs.Places.{places_at, places_at_long};
-ghost use Rattle.segment.specs.Posted.{places_so_far};
+ghost use Rattle.segment.specs.Posted.{places_so_far, places_so_far_long};
 ghost use Rattle.segment.specs.Woven.{moved_by, risen, IsPlaced, Stands};
 ghost use Rattle.segment.specs.WovenColumns.{AreCovered, AreSoFar, AreWithin, AreWoven, IsCovered, IsWoven, IsWovenOr};
 
 use crate::building;
 use crate::column::Column;
 use crate::finishing::finish_all;
+use crate::longs::Longs;
 use crate::making::{Making, Makings};
 use crate::moving::moved;
-use crate::places::{Places, merge_longs_at};
+use crate::places::Places;
 use crate::segment::Segment;
 use crate::texts::Texts;
 use doc::{Mapping, Source};
@@ -261,16 +262,16 @@ fn weave_texts(
 /// Adds the places of each number, as they are given.
 fn weave_longs(
     alloc: Global,
-    longs: &mut BTreeMap<i64, Places>,
+    longs: &mut Longs,
     numbers: &BTreeMap<i64, Places>,
     to: &[Option<u32>],
 ) -> Result<(), AllocError>
     requires { (z : ℤ) → All (λ p. p < length to.now) (places_at_long numbers.now z) }
-    ensures { OnOk result ((z : ℤ) → places_at_long longs.new z ≡ risen (places_at_long longs.old z) (moved_by to.now (places_at_long numbers.now z))) }
+    ensures { OnOk result ((z : ℤ) → places_so_far_long longs.new z ≡ risen (places_so_far_long longs.old z) (moved_by to.now (places_at_long numbers.now z))) }
 {
     for (number, places) in numbers {
         let places = moved(alloc, places.as_slice(), to)?;
-        merge_longs_at(alloc, longs, *number, &places)?;
+        longs.merge(alloc, *number, &places)?;
     }
     Ok(())
 }

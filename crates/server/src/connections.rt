@@ -72,7 +72,7 @@ where
                 rt,
                 lane,
                 desk,
-                &|| prepare_one(rt, shard),
+                &|| show_more(rt, shard),
                 &|| refresh_one(rt, shard),
             )
         },
@@ -83,8 +83,8 @@ where
     Ok(())
 }
 
-/// Has what a refresh of an index of one copy would show built on threads, where that is much.
-fn prepare_one<R, D, N>(rt: &R, shard: &SharedShard<D, N>)
+/// Has searches of an index of one copy see what was written, where that is much: it is built on threads, while commands go on. Tells whether that was done.
+fn show_more<R, D, N>(rt: &R, shard: &SharedShard<D, N>) -> bool
 where
     R: Threads + Wait + Sync,
     D: LogDevice,
@@ -97,25 +97,18 @@ where
         requires { length sources.items < 2 ^ 32 }
         ensures { IfOk result (λ s. s ≡ record { mapping = arc_value mapping.now; sources = sources.items }) }
     { Segment::build_on(rt, alloc, mapping, sources) };
-    shard.prepare_refresh(rt, &builder);
+    shard.show_more(rt, &builder)
 }
 
-/// Refreshes an index of one copy, and tells whether that was done. What isn't built yet is built on threads, where that is much.
+/// Refreshes an index of one copy, and tells whether that was done.
 fn refresh_one<R, D, N>(rt: &R, shard: &SharedShard<D, N>) -> bool
 where
-    R: Threads + Wait + Sync,
+    R: Wait,
     D: LogDevice,
     N: HistoryName,
 {
-    let builder = |alloc: Global, mapping: &Arc<Mapping, Global>, sources: Vec<Source>| -> Result<
-        Segment,
-        AllocError,
-    >
-        requires { length sources.items < 2 ^ 32 }
-        ensures { IfOk result (λ s. s ≡ record { mapping = arc_value mapping.now; sources = sources.items }) }
-    { Segment::build_on(rt, alloc, mapping, sources) };
     let known = shard.begun();
-    let (reply, _known) = shard.refresh(rt, &builder, &known);
+    let (reply, _known) = shard.refresh(rt, &known);
     !matches!(reply, Reply::Refused(_))
 }
 
@@ -173,7 +166,7 @@ where
                 rt,
                 lane,
                 group,
-                &|| (),
+                &|| false,
                 &|| refresh_all(rt, alloc, index, &chairs[lane % CHAIRS]),
             )
         },

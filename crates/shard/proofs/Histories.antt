@@ -1,14 +1,17 @@
 -- Histories that go on.
-use Rattle.std.proofs.Common.{◌≡◌, inl, inr, ◌≤◌, ℕ, suc, ◌+◌, min, List, [], ◌∷◌, ◌++◌, length, map, refl, sym, ap, subst, ◌∙◌, arith}
+use Rattle.std.proofs.Common.{◌≡◌, inl, inr, ◌≤◌, false, ℕ, suc, ◌+◌, min, List, [], ◌∷◌, ◌++◌, length, map, refl, sym, ap, subst, ◌∙◌, arith}
 use Rattle.std.proofs.lemmas.List.{map-append, length-append}
 use mathlib.Core.List.{IsPrefix}
 use Rattle.engine.specs.Published.{Segments}
-use Rattle.replica.specs.Logged.{Logged, IsLogged}
+use Rattle.engine.specs.SnapshotChange.{StayShown}
+use Rattle.replica.specs.Copy.{Copy}
+use Rattle.replica.specs.Logged.{Logged, searched, IsLogged}
+use Rattle.replica.specs.Searched.{IsRefreshTo}
 use Rattle.front.specs.Command.{Command}
 use Rattle.front.specs.Reply.{Reply}
 use Rattle.shard.specs.Ready.{IsServed}
 use Rattle.doc.specs.Mapping.{MappingData}
-use Rattle.shard.specs.History.{AreUnder, Stand, EndsIn, LeadsTo, IsDone, IsHistory, DiffersInSegments, IsNext, RunsOn}
+use Rattle.shard.specs.History.{AreUnder, Stand, EndsIn, LeadsTo, IsDone, IsHistory, DiffersInPoint, DiffersInSegments, IsNext, RunsOn}
 
 -- a map of a beginning begins the map
 pub map_prefix : {X Y : Type 0} (f : X → Y) (xs ys : List X) → IsPrefix xs ys → IsPrefix (map f xs) (map f ys)
@@ -63,7 +66,8 @@ under_last m (b ∷ before) t under = under_last m before t under.1
 
 same_mapping : (s t : Stand) → LeadsTo s t → t.copy.copy.mapping ≡ s.copy.copy.mapping
 same_mapping s t (inl f) = f.mapping
-same_mapping s t (inr m) = ap (λ (l : Logged). l.copy.mapping) m.copy
+same_mapping s t (inr (inl m)) = ap (λ (l : Logged). l.copy.mapping) m.copy
+same_mapping s t (inr (inr m)) = ap (λ (l : Logged). l.copy.mapping) m.copy
 
 pub next_is_under : (m : MappingData) (old new : List Stand) → AreUnder m old → IsNext old new → AreUnder m new
 next_is_under m old new under n =
@@ -99,7 +103,7 @@ merged_by entries new x f old at same ends is copy master = record {
   at = at;
   next = f x;
   ends = ends;
-  goes_on = inr (record { copy = copy; master = master });
+  goes_on = inr (inl (record { copy = copy; master = master }));
   is = ap (map f) is ∙ (map_snoc f entries x ∙ ap (λ ts. ts ++ f x ∷ []) (sym same));
 }
 
@@ -108,6 +112,29 @@ unmerged s t copy master = record {
   copy = copy ∙ ap (λ (x : Segments). let l : Logged = record s.copy { segments = x } in l) (sym (ap (λ (l : Logged). l.segments) copy));
   master = master;
 }
+
+-- and so does a refresh that shows more
+pub shown_by : {S : Type 0} (entries new : List S) (x : S) (f : S → Stand) (old : List Stand) (at : Stand) → old ≡ map f entries → EndsIn at old → new ≡ entries ++ x ∷ [] → DiffersInPoint at (f x) → IsNext old (map f new)
+shown_by entries new x f old at same ends is more = record {
+  at = at;
+  next = f x;
+  ends = ends;
+  goes_on = inr (inr more);
+  is = ap (map f) is ∙ (map_snoc f entries x ∙ ap (λ ts. ts ++ f x ∷ []) (sym same));
+}
+
+pub shows_more : (s t : Stand) (point : ℕ) → s.copy.closed ≡ false → IsRefreshTo point (searched s.copy) (searched t.copy) → t.copy ≡ record s.copy { copy = t.copy.copy; segments = t.copy.segments } → IsLogged t.copy → t.master ≡ s.master → DiffersInPoint s t
+shows_more s t point now_open to copy logged master =
+    let point_is : t.copy.copy.point ≡ point = ap (λ (c : Copy). c.point) to.copy in
+    record {
+      now_open = now_open;
+      copy = copy ∙ ap (λ (c : Copy). let l : Logged = record s.copy { copy = c; segments = t.copy.segments } in l) (to.copy ∙ ap (λ p. let c : Copy = record s.copy.copy { point = p } in c) (sym point_is));
+      more = subst (λ p. s.copy.copy.point ≤ p) (sym point_is) to.shows.more;
+      within = subst (λ p. p ≤ length s.copy.copy.records) (sym point_is) to.shows.within;
+      stay = subst (λ p. StayShown s.copy.copy.records s.copy.copy.point p) (sym point_is) to.shows.stay;
+      logged = logged;
+      master = master;
+    }
 
 pub done_by : {S : Type 0} (mark entries new : List S) (x : S) (f : S → Stand) (old reached : List Stand) (at : Stand) (c : Command) (r : Reply) → IsPrefix mark entries → old ≡ map f entries → EndsIn at old → new ≡ entries ++ x ∷ []
     → IsServed at.copy at.master c r (f x).copy (f x).master → reached ≡ map f new → IsHistory reached → IsDone (map f mark) c r reached

@@ -1,5 +1,5 @@
 -- The history of an index of one copy: what its copy and its master were after each command.
-use Rattle.std.specs.Prelude.{◌≡◌, ◌⊎◌, ℕ, false, List, [], ◌∷◌, ◌++◌}
+use Rattle.std.specs.Prelude.{◌≡◌, ◌⊎◌, ◌≤◌, ℕ, false, List, [], ◌∷◌, ◌++◌, length}
 use mathlib.Core.List.{IsPrefix}
 use Rattle.chronicle.specs.Written.{Line}
 use Rattle.doc.specs.Mapping.{MappingData}
@@ -8,6 +8,7 @@ use Rattle.replica.specs.Logged.{Logged, IsLogged}
 use Rattle.front.specs.Command.{Command}
 use Rattle.front.specs.Reply.{Reply}
 use Rattle.engine.specs.Answer.{SnapshotData}
+use Rattle.engine.specs.SnapshotChange.{StayShown}
 use Rattle.shard.specs.Ready.{IsServed}
 use Rattle.op.specs.Documents.{documents}
 use Rattle.op.specs.Records.{shown}
@@ -37,9 +38,19 @@ pub record DiffersInSegments (s t : Stand) : Type 0 where
   pub copy : t.copy ≡ record s.copy { segments = t.copy.segments }
   pub master : t.master ≡ s.master
 
--- a command led from one to the next, or segments were merged
+-- searches of an open copy show more of its records; nothing else has changed
+pub record DiffersInPoint (s t : Stand) : Type 0 where
+  pub now_open : s.copy.closed ≡ false
+  pub copy : t.copy ≡ record s.copy { copy = record s.copy.copy { point = t.copy.copy.point }; segments = t.copy.segments }
+  pub more : s.copy.copy.point ≤ t.copy.copy.point
+  pub within : t.copy.copy.point ≤ length s.copy.copy.records
+  pub stay : StayShown s.copy.copy.records s.copy.copy.point t.copy.copy.point
+  pub logged : IsLogged t.copy
+  pub master : t.master ≡ s.master
+
+-- a command led from one to the next, or segments were merged, or a refresh shows what was there when it was begun
 abbrev pub LeadsTo : Stand → Stand → Type 0
-LeadsTo s t = Follows s t ⊎ DiffersInSegments s t
+LeadsTo s t = Follows s t ⊎ DiffersInSegments s t ⊎ DiffersInPoint s t
 
 -- each follows from the one before it
 abbrev pub RunsOn : Stand → List Stand → Type 0

@@ -145,25 +145,6 @@ fn or_refused(reply: Result<Reply, AllocError>) -> Reply
     }
 }
 
-/// Has the builder build what isn't built yet of what a refresh shows, where that is much. The index stays as it is.
-fn build_rest<
-    D: LogDevice,
-    N: HistoryName,
-    F: Fn(Global, &Arc<Mapping, Global>, Vec<Source>) -> Result<Segment, AllocError>,
->(kept: &mut Kept<D, N>, builder: &F)
-    requires { Builds F.Fn builder.now }
-    ensures { kept.new ≡ kept.old }
-{
-    let Ok(Some(unshown)) = kept.unshown() else {
-        return;
-    };
-    let built = unshown.build(builder);
-    drop(unshown);
-    if let Ok(prebuilt) = built {
-        kept.keep_prebuilt(prebuilt);
-    }
-}
-
 /// What the thread that builds merges is sent.
 #[derive(Drop)]
 enum Order {
@@ -288,48 +269,63 @@ impl<D: LogDevice, N: HistoryName> SharedShard<D, N> {
         told
     }
 
-    /// Has the builder build what a refresh would show, where that is much, while commands go on; then the next refresh builds what came since alone. Without
-    /// memory for it now the refresh builds it.
-    pub fn prepare_refresh<
+    /// Has searches see what is written when this is called, where that is much: the builder builds it while commands go on. Tells whether they see it; else a refresh
+    /// has to show it.
+    pub fn show_more<
         R: Wait,
         F: Fn(Global, &Arc<Mapping, Global>, Vec<Source>) -> Result<Segment, AllocError>,
-    >(&self, rt: &R, builder: &F)
+    >(&self, rt: &R, builder: &F) -> bool
         requires { Builds F.Fn builder.now }
     {
-        let Some(unshown) = self.unshown(rt) else {
-            return;
+        let Some(unshown) = self.begin_refresh(rt) else {
+            return false;
         };
         let built = unshown.build(builder);
         drop(unshown);
-        if let Ok(prebuilt) = built {
-            let mut held = self.shard.lock(rt);
-            held.keep_prebuilt(prebuilt);
+        match built {
+            Ok(prebuilt) => self.finish_refresh(rt, prebuilt),
+            Err(_) => false,
         }
     }
 
-    /// Has searches see all that was written, for one who knows so much of the history. What came since the builder built is built by it, too, where that is much.
-    pub fn refresh<
-        R: Wait,
-        F: Fn(Global, &Arc<Mapping, Global>, Vec<Source>) -> Result<Segment, AllocError>,
-    >(&self, rt: &R, builder: &F, known: &Reached<D, N>) -> (Reply, Reached<D, N>)
-        requires { Builds F.Fn builder.now }
+    /// Has searches see all that was written, for one who knows so much of the history.
+    pub fn refresh<R: Wait>(&self, rt: &R, known: &Reached<D, N>) -> (Reply, Reached<D, N>)
         ensures { IsDone known.now refresh (reply_view result.0) result.1 }
     {
-        let mut held = self.shard.lock(rt);
-        build_rest(&mut *held, builder);
-        let told = held.call(known, Command::Refresh);
-        drop(self.show(rt, &*held));
-        self.begin_merge(rt, &*held);
-        told
+        self.call(rt, known, Command::Refresh)
     }
 
-    /// What a refresh would show now, where that is much.
-    fn unshown<R: Wait>(&self, rt: &R) -> Option<Unshown> {
-        let held = self.shard.lock(rt);
-        match held.unshown() {
+    /// Begins a refresh whose segment is built while commands go on, where much has to be built.
+    fn begin_refresh<R: Wait>(&self, rt: &R) -> Option<Unshown> {
+        let mut held = self.shard.lock(rt);
+        match held.begin_refresh() {
             Ok(unshown) => unshown,
             Err(_) => None,
         }
+    }
+
+    /// Has searches see what was there when the refresh was begun, and tells whether they do.
+    fn finish_refresh<R: Wait>(&self, rt: &R, prebuilt: Prebuilt) -> bool {
+        // What they saw before is let go of while commands go on.
+        match self.put_refresh(rt, prebuilt) {
+            Some(before) => {
+                drop(before);
+                true
+            }
+            None => false,
+        }
+    }
+
+    /// The same, and gives back what they saw, if there is something else to see.
+    fn put_refresh<R: Wait>(&self, rt: &R, prebuilt: Prebuilt) -> Option<Option<Seen<D, N>>> {
+        let mut held = self.shard.lock(rt);
+        let is_shown = held.finish_refresh(prebuilt).ok()?;
+        if !is_shown {
+            return None;
+        }
+        let before = self.show(rt, &*held);
+        self.begin_merge(rt, &*held);
+        Some(before)
     }
 
     /// Has searches see what the index shows now, and gives back what they saw.

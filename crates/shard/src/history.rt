@@ -1,12 +1,12 @@
 //! The history of an index of one copy: what it was after each command. It exists in proofs alone, but for how long it is.
-ghost use Rattle.std.specs.Prelude.{◌≡◌, ◌≤◌, IfOk, IsTrue, IfSome, length, map, string_bytes};
+ghost use Rattle.std.specs.Prelude.{◌≡◌, ◌≤◌, true, IfOk, IsTrue, IfSome, length, map, string_bytes};
 ghost use Rattle.std.specs.Arc.{arc_value};
 ghost use mathlib.Core.List.{IsPrefix};
 ghost use Rattle.front.specs.CommandView.{command_view};
 ghost use Rattle.front.specs.ReplyView.{reply_view};
 ghost use Rattle.replica.specs.Logged.{searched};
 ghost use Rattle.replica.specs.Searched.{IsSwapOf};
-ghost use Rattle.shard.specs.History.{AreUnder, EndsIn, IsDone, IsHistory, DiffersInSegments, IsNext, IsSeenOf};
+ghost use Rattle.shard.specs.History.{AreUnder, EndsIn, IsDone, IsHistory, DiffersInSegments, IsNext, IsSeenOf, DiffersInPoint};
 
 use crate::shard::Shard;
 use chronicle::{Chronicle, Mark, Writer};
@@ -295,15 +295,31 @@ impl<D: LogDevice, N: HistoryName> Kept<D, N> {
         Ok(is_there)
     }
 
-    /// The documents that a refresh would show now and searches don't, where there are many. The index stays as it is.
-    pub(crate) fn unshown(&self) -> Result<Option<Unshown>, AllocError> {
-        self.shard.unshown()
-    }
-
-    /// Keeps what was built for the next refresh. The index stays as it is.
-    pub(crate) fn keep_prebuilt(&mut self, prebuilt: Prebuilt)
+    /// Begins a refresh whose segment is built while commands go on, where much has to be built. The index stays as it is.
+    pub(crate) fn begin_refresh(&mut self) -> Result<Option<Unshown>, AllocError>
         ensures { self.new ≡ self.old }
     {
-        self.shard.keep_prebuilt(prebuilt);
+        if self.shard.snapshot().is_none() {
+            return Ok(None);
+        }
+        self.shard.begin_refresh()
+    }
+
+    /// Has searches see what was there when the refresh was begun, and tells whether they do.
+    #[tactic(auto, using(crate::proofs::Histories::shown_by, crate::proofs::Histories::shows_more))]
+    pub(crate) fn finish_refresh(&mut self, prebuilt: Prebuilt) -> Result<bool, AllocError>
+        ensures done { IfOk result (λ b. b ≡ true → DiffersInPoint self.old self.new) }
+        ensures point { IfOk result (λ b. b ≡ true → self.new.copy.copy.point ≡ prebuilt.point) }
+    {
+        if self.shard.snapshot().is_none() {
+            return Ok(false);
+        }
+        if !self.shard.finish_refresh(prebuilt)? {
+            return Ok(false);
+        }
+        self.shard.is_logged();
+        let mark = self.writer.append(&self.chronicle, &self.shard);
+        self.last = self.last.behind(mark);
+        Ok(true)
     }
 }

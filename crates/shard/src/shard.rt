@@ -8,7 +8,7 @@ ghost use Rattle.shard.specs.Answering.{begun_under};
 ghost use Rattle.shard.specs.Ready as spec;
 ghost use Rattle.shard.specs.Ready.{IsReady, IsUnready};
 ghost use Rattle.replica.specs.Logged.{searched, IsLogged};
-ghost use Rattle.replica.specs.Searched.{IsSwapOf};
+ghost use Rattle.replica.specs.Searched.{IsRefreshTo, IsSwapOf};
 ghost use Rattle.shard.specs.History.{seen_of};
 
 use crate::answering::reply_to;
@@ -112,16 +112,22 @@ impl<D: LogDevice> Shard<D> {
         self.copy.swap_merged(self.alloc, merged)
     }
 
-    /// The documents that a refresh would show now and searches don't, where there are many. The index stays as it is.
-    pub(crate) fn unshown(&self) -> Result<Option<Unshown>, AllocError> {
-        self.copy.unshown(self.alloc)
-    }
-
-    /// Keeps what was built for the next refresh. Nothing else changes.
-    pub(crate) fn keep_prebuilt(&mut self, prebuilt: Prebuilt)
+    /// Begins a refresh whose segment is built while commands go on, where much has to be built. The index stays as it is.
+    pub(crate) fn begin_refresh(&mut self) -> Result<Option<Unshown>, AllocError>
         ensures { self.new ≡ self.old }
     {
-        self.copy.keep_prebuilt(prebuilt);
+        self.copy.begin_refresh(self.alloc)
+    }
+
+    /// Has searches see what was there when the refresh was begun, and tells whether they do. What the index has stays.
+    pub(crate) fn finish_refresh(&mut self, prebuilt: Prebuilt) -> Result<bool, AllocError>
+        ensures done { IfOk result (λ b. b ≡ true → IsRefreshTo prebuilt.point (searched self.old.copy) (searched self.new.copy)) }
+        ensures copy { self.new.copy ≡ record self.old.copy { copy = self.new.copy.copy; segments = self.new.copy.segments } }
+        ensures stays { IfOk result (λ b. b ≡ false → self.new.copy ≡ self.old.copy) }
+        ensures master { self.new.master ≡ self.old.master }
+        ensures err { OnErr result (self.new.copy ≡ self.old.copy) }
+    {
+        self.copy.finish_refresh(self.alloc, prebuilt)
     }
 
     /// What searches see; nothing while the copy is closed.

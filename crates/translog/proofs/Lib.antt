@@ -4,3 +4,4 @@ pub mod PiecesLaws
 pub mod PieceReading
 pub mod KeptLaws
 pub mod PieceWriting
+pub mod StretchLaws

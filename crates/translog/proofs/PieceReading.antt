@@ -7,16 +7,16 @@ use Rattle.std.proofs.lemmas.List.{append-nil, map_push}
 use Rattle.doc.specs.Outcome.{◌>>=◌, Fails}
 use Rattle.doc.proofs.Fronts.{fault_ends}
 use Rattle.op.specs.declared.record.Record.{Record}
-use Rattle.op.specs.Records.{AreOfOneFrame}
+use Rattle.op.specs.Records.{AreOfOneFrame, IsRecord}
 use Rattle.op.specs.FormatFault as op
-use Rattle.op.specs.Format.{frame_spelling}
-use Rattle.op.specs.Reading.{records_of}
+use Rattle.op.specs.Format.{frame_spelling, spelling}
+use Rattle.op.specs.Reading.{alone_of, has_tag, record_of, records_of}
 use Rattle.translog.specs.Fault.{Fault, damaged}
 use Rattle.translog.specs.declared.frames.Torn.{Torn}
 use Rattle.translog.specs.declared.frames.Torn.TheVariants.{Header}
 use Rattle.translog.specs.Frames.{log_of, contents_in, mended, IsTorn, LosesNothing}
 use Rattle.translog.specs.Kept.{kept, IsPieceLog, IsTornLog, IsTranslog}
-use Rattle.translog.specs.Pieces.{Form, first, second, header_of, form_of, own_header, has_groups, some_records, upgrade, content, records_in, piece_of, is_due, groups_after, groups_behind, due_or_damaged, piece_records, IsSpeltPiece, IsPieceAt, ArePieces}
+use Rattle.translog.specs.Pieces.{Form, first, second, header_of, form_of, own_header, has_groups, some_records, upgrade, content, records_in, piece_of, is_due, groups_after, groups_behind, due_or_damaged, piece_records, IsSpeltPiece, IsPieceAdded, IsPieceAt, ArePieces}
 use Rattle.translog.proofs.RecordsLaws.{with_front}
 use Rattle.translog.proofs.PiecesLaws.{order_more, each_more, behind_more, records_more, form_of_short, form_stays}
 
@@ -46,6 +46,23 @@ group_refused groups offset bytes rs other reads not_due = rw (piece_records_of 
 
 pub no_records_refused : (groups : Bool) (offset : ℕ) (bytes : List ℕ) (e : op.Fault) → bytes_eq bytes (5 ∷ []) ≡ false → records_of bytes ≡ Err e → due_or_damaged groups offset (piece_of bytes) ≡ Err (damaged offset)
 no_records_refused groups offset bytes e other reads = ap (due_or_damaged groups offset) (piece_records_of bytes (Err e) other reads)
+
+alone_read : (bytes : List ℕ) (read : Result Record op.Fault) → has_tag 4 bytes ≡ false → record_of bytes ≡ read → records_of bytes ≡ (read >>= λ r. Ok (r ∷ []))
+unfolding records_of alone_of
+alone_read bytes read alone e = rw (alone, e) refl
+
+-- one record may stand anywhere
+one_due : (groups : Bool) (r : Record) → (groups || nat_lt (length (r ∷ [])) 2) ≡ true
+one_due true r = refl
+one_due false r = refl
+
+pub one_added : (groups : Bool) (bytes : List ℕ) (old : List Record) (r : Record) → bytes_eq bytes (5 ∷ []) ≡ false → has_tag 4 bytes ≡ false → record_of bytes ≡ Ok r → spelling r ≡ bytes → IsRecord r
+    → IsPieceAdded groups bytes old (old ++ r ∷ []) groups
+one_added groups bytes old r other alone reads spelt rules =
+    record { records = r ∷ []; added = refl; piece = records_at groups bytes (r ∷ []) other (alone_read bytes (Ok r) alone reads) spelt rules (one_due groups r) }
+
+pub no_record_refused : (groups : Bool) (offset : ℕ) (bytes : List ℕ) (e : op.Fault) → bytes_eq bytes (5 ∷ []) ≡ false → has_tag 4 bytes ≡ false → record_of bytes ≡ Err e → due_or_damaged groups offset (piece_of bytes) ≡ Err (damaged offset)
+no_record_refused groups offset bytes e other alone reads = no_records_refused groups offset bytes e other (alone_read bytes (Err e) alone reads)
 
 -- ---- one content after the other
 

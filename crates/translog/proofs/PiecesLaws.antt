@@ -16,7 +16,7 @@ use Rattle.translog.proofs.FramesLaws.{contents_in_log, torn_frame}
 
 -- ---- whole pieces
 
-spelt_pieces : (groups : Bool) (offset : ℕ) (ps : List Piece) → AreInOrder groups ps → AllByRecursion IsSpeltPiece ps → piece_records groups offset (map content ps) ≡ Ok (flat_map records_in ps)
+pub spelt_pieces : (groups : Bool) (offset : ℕ) (ps : List Piece) → AreInOrder groups ps → AllByRecursion IsSpeltPiece ps → piece_records groups offset (map content ps) ≡ Ok (flat_map records_in ps)
 unfolding piece_records
 spelt_pieces groups offset [] order each = refl
 spelt_pieces groups offset (p ∷ ps) order each = rw (each.0.reads, order.0, spelt_pieces (groups_after groups p) (offset + (4 + length (content p))) ps order.1 each.1) refl

@@ -105,6 +105,12 @@ pub record IsPieceAt (groups : Bool) (bytes : List ℕ) (rs : List Record) (afte
   pub records : rs ≡ records_in piece
   pub behind : after ≡ groups_after groups piece
 
+-- the records of the piece that a content is stand behind those that were there
+pub record IsPieceAdded (groups : Bool) (bytes : List ℕ) (old new : List Record) (after : Bool) : Type 0 where
+  pub records : List Record
+  pub added : new ≡ old ++ records
+  pub piece : IsPieceAt groups bytes records after
+
 -- these contents are pieces with these records; and whether groups may stand behind them
 pub record ArePieces (groups : Bool) (contents : List (List ℕ)) (rs : List Record) (after : Bool) : Type 0 where
   pub pieces : List Piece

@@ -10,6 +10,7 @@ pub mod log;
 pub mod memory;
 mod pieces;
 pub mod refused;
+mod stretches;
 pub mod synced;
 
 pub use device::{DeviceFault, Failed, LogDevice};

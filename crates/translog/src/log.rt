@@ -14,13 +14,14 @@ ghost use Rattle.translog.specs.Pieces.{own_header, some_records, IsSpeltPiece};
 use crate::device::LogDevice;
 use crate::fault::LogFault;
 use crate::frames::{self, Frame, Torn};
-use crate::pieces;
 use crate::refused::Refused;
 use crate::synced::Synced;
+use crate::{pieces, stretches};
 use op::Record;
 use std::alloc::Global;
 use std::marker::Model;
 use std::slice;
+use std::thread::Threads;
 
 /// The log of a copy's records, some of them in groups. It is seen as the device that holds it, and whether groups may stand behind what it
 /// holds, which an opening finds.
@@ -109,6 +110,27 @@ impl<D: LogDevice> Translog<D> {
     {
         let bytes = frames::read(alloc, &mut self.device)?;
         let (records, torn, groups) = pieces::found(alloc, bytes.as_slice())?;
+        self.groups = groups;
+        Ok((records, torn))
+    }
+
+    /// The same; the frames' contents are read on all processors.
+    #[tactic(auto, using(crate::proofs::KeptLaws::torn_rules))]
+    pub fn read_on<R: Threads + Sync>(
+        &mut self,
+        rt: &R,
+        alloc: Global,
+    ) -> Result<(Vec<Record>, Torn), LogFault>
+        ensures found { Gives fault_of (λ x. x.0.items) result (kept (D.bytes self.old.device)) }
+        ensures torn { IfOk result (λ x. IsTornLog (D.bytes self.old.device) x.0.items x.1 self.new.groups) }
+        ensures rules { IfOk result (λ x. All IsRecord x.0.items) }
+        ensures held { D.bytes self.new.device ≡ D.bytes self.old.device }
+        ensures groups { OnErr result (self.new.groups ≡ self.old.groups) }
+        ensures counts { D.failures self.new.device ≡ count_after (errs_with is_device result) (D.failures self.old.device) }
+        ensures in_memory { D.in_memory ≡ true → IfErr result (λ e. is_device e ≡ false) }
+    {
+        let bytes = frames::read(alloc, &mut self.device)?;
+        let (records, torn, groups) = stretches::found_on(rt, alloc, bytes.as_slice())?;
         self.groups = groups;
         Ok((records, torn))
     }

@@ -6,17 +6,18 @@ ghost use Rattle.doc.specs.Outcome.{Fails, Gives};
 ghost use Rattle.op.specs.declared.record.Record.{Record};
 ghost use Rattle.op.specs.Format.{frame_spelling, is_too_large};
 ghost use Rattle.op.specs.Reading as reading;
+ghost use Rattle.op.specs.Reading.{has_tag};
 ghost use Rattle.op.specs.Records.{AreOfOneFrame};
 ghost use Rattle.translog.specs.declared.fault.LogFault.TheVariants.{NoMemory, TooLarge};
 ghost use Rattle.translog.specs.Fault.{fault_of, is_device};
 ghost use Rattle.translog.specs.Frames.{frame_of, framed, mended, AreContents, IsTorn, IsUnopened};
 ghost use Rattle.translog.specs.Kept.{frames_or, has_upgrade, kept, IsTornLog};
-ghost use Rattle.translog.specs.Pieces.{due_or_damaged, first, form_of, has_groups, header_of, own_header, piece_of, piece_records, ArePieces, IsPieceAt};
+ghost use Rattle.translog.specs.Pieces.{due_or_damaged, first, form_of, has_groups, header_of, own_header, piece_of, piece_records, ArePieces, IsPieceAdded, IsPieceAt};
 
 use crate::device::LogDevice;
 use crate::fault::LogFault;
 use crate::frames::{self, Frame, Torn};
-use op::{OpFault, Record, decode_frame, encode_group};
+use op::{OpFault, Record, decode, decode_frame, encode_group};
 use std::alloc::Global;
 
 /// The header of a log that has groups only behind an upgrade.
@@ -25,8 +26,11 @@ const RSX1: [u8; 4] = [b'R', b'S', b'X', b'1'];
 /// The header of a log that may have groups from its first frame on.
 const RSX2: [u8; 4] = [b'R', b'S', b'X', b'2'];
 
+/// The tag of a group.
+const GROUP: u8 = 4;
+
 /// The content of an upgrade.
-const UPGRADE: u8 = 5;
+pub(crate) const UPGRADE: u8 = 5;
 
 // ---- what a device holds
 
@@ -43,14 +47,14 @@ pub(crate) fn found(alloc: Global, held: &[u8]) -> Result<(Vec<Record>, Torn, bo
 }
 
 /// The header that some bytes begin with, or are to have.
-fn header_of(held: &[u8]) -> [u8; 4]
+pub(crate) fn header_of(held: &[u8]) -> [u8; 4]
     ensures { result ≡ own_header held.now }
 {
     if is_first(held) { RSX1 } else { RSX2 }
 }
 
 /// Whether groups may stand in a log of these bytes from its first frame on.
-fn has_groups(held: &[u8]) -> bool
+pub(crate) fn has_groups(held: &[u8]) -> bool
     ensures { result ≡ has_groups (form_of held.now) }
 {
     !is_first(held)
@@ -88,7 +92,7 @@ pub(crate) fn mend<D: LogDevice>(device: &mut D, torn: Torn) -> Result<(), LogFa
 // ---- pieces
 
 /// The records that some contents are, the first frame being at offset 4, where groups may stand or don't yet; and whether they may behind them.
-fn records_of(
+pub(crate) fn records_of(
     alloc: Global,
     groups: bool,
     contents: &[&[u8]],
@@ -103,12 +107,50 @@ fn records_of(
     let mut may_group = groups;
     let mut offset = 4;
     for content in contents {
-        let (mut found, after) = piece_at(alloc, may_group, offset, *content)?;
-        records.append(&mut found)?;
-        may_group = after;
+        may_group = add_piece(alloc, may_group, offset, *content, &mut records)?;
         offset += 4 + content.len() as u64;
     }
     Ok((records, may_group))
+}
+
+/// Adds the records of the piece that a content is, and says whether groups may stand behind it, as `piece_at`. One record, which most frames are, is read
+/// without a list of its own.
+#[tactic(auto, using(crate::proofs::PieceReading::one_added, crate::proofs::PieceReading::no_record_refused))]
+fn add_piece(
+    alloc: Global,
+    groups: bool,
+    offset: u64,
+    content: &[u8],
+    records: &mut Vec<Record>,
+) -> Result<bool, LogFault>
+    ensures found { IfOk result (λ after. IsPieceAdded groups content.now records.old.items records.new.items after) }
+    ensures refused { IfErr result (λ e. Fails fault_of e (due_or_damaged groups offset (piece_of content.now))) }
+    ensures no_failure { IfErr result (λ e. is_device e ≡ false) }
+{
+    if !is_alone(content) {
+        let (mut found, after) = piece_at(alloc, groups, offset, content)?;
+        records.append(&mut found)?;
+        return Ok(after);
+    }
+    match decode(alloc, content) {
+        Ok(found) => {
+            records.push(found)?;
+            Ok(groups)
+        }
+        Err(OpFault::NoMemory) => Err(LogFault::NoMemory),
+        Err(_) => Err(LogFault::Damaged(offset)),
+    }
+}
+
+/// Whether a content can only be one record: it has no group's tag, and isn't an upgrade.
+fn is_alone(content: &[u8]) -> bool
+    ensures record { result ≡ true → has_tag 4 content.now ≡ false }
+    ensures due { result ≡ true → bytes_eq content.now (5 ∷ []) ≡ false }
+{
+    match content {
+        [GROUP, ..] => false,
+        _ => !is_upgrade(content),
+    }
 }
 
 /// The records of the piece that a content is, and whether groups may stand behind it; what is no piece, or isn't due there, is damaged.

@@ -1,11 +1,11 @@
-//! Merges of what searches look through, and what is built before a refresh. They are no steps.
-ghost use Rattle.std.specs.Prelude.{◌≡◌, ◌≤◌, false, true, None, IfOk, IfSome, OnErr};
+//! Merges of what searches look through, and refreshes that are built beside the copy. They are no steps.
+ghost use Rattle.std.specs.Prelude.{◌≡◌, ◌≤◌, false, true, None, length, IfOk, IfSome, OnErr};
 ghost use Rattle.engine.specs.Live.{small_count};
 ghost use Rattle.engine.specs.Published.{taken_of};
 ghost use Rattle.op.specs.Documents.{documents};
 ghost use Rattle.op.specs.Records.{shown};
 ghost use Rattle.replica.specs.Logged.{searched};
-ghost use Rattle.replica.specs.Searched.{HasMergedNext, IsNextMerge, IsSwapOf};
+ghost use Rattle.replica.specs.Searched.{HasMergedNext, IsNextMerge, IsRefreshTo, IsSwapOf};
 
 use crate::copy::Copy;
 use engine::{Merged, Merging, Prebuilt, Unshown};
@@ -59,17 +59,24 @@ impl<D: LogDevice> Copy<D> {
         self.state.swap_merged(alloc, merged)
     }
 
-    /// The documents that a refresh would show now and searches don't, where there are many: their segment may be built beside the copy.
-    pub fn unshown(&self, alloc: Global) -> Result<Option<Unshown>, AllocError>
-        ensures { IfOk result (λ o. IfSome o (λ u. u.mapping ≡ self.now.copy.mapping)) }
+    /// Begins a refresh that shows the records that are there now, where many documents have to be built for it: these may be built beside the copy. It is no step,
+    /// and changes nothing yet, but that a refresh which was begun before can't be finished any more.
+    pub fn begin_refresh(&mut self, alloc: Global) -> Result<Option<Unshown>, AllocError>
+        ensures same { self.new ≡ self.old }
+        ensures mapping { IfOk result (λ o. IfSome o (λ u. u.mapping ≡ self.old.copy.mapping)) }
+        ensures all { IfOk result (λ o. IfSome o (λ u. u.point ≡ length self.old.copy.records)) }
     {
-        self.state.unshown(alloc)
+        self.state.begin_refresh(alloc)
     }
 
-    /// Keeps what was built for the next refresh, which then builds what came since alone. Nothing else changes, and it is no step.
-    pub fn keep_prebuilt(&mut self, prebuilt: Prebuilt)
-        ensures { self.new ≡ self.old }
+    /// Shows the records that were there when the refresh was begun for which this was built. Where searches show something else since, or another refresh was begun, it is
+    /// `false`, and all stays as it is. It is no step either: what the copy keeps stays.
+    pub fn finish_refresh(&mut self, alloc: Global, prebuilt: Prebuilt) -> Result<bool, AllocError>
+        ensures done { IfOk result (λ b. b ≡ true → IsRefreshTo prebuilt.point (searched self.old) (searched self.new)) }
+        ensures rest { self.new ≡ record self.old { copy = self.new.copy; segments = self.new.segments } }
+        ensures stays { IfOk result (λ b. b ≡ false → self.new ≡ self.old) }
+        ensures err { OnErr result (self.new ≡ self.old) }
     {
-        self.state.keep_prebuilt(prebuilt);
+        self.state.finish_refresh(alloc, prebuilt)
     }
 }

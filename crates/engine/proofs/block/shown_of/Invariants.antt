@@ -5,7 +5,4 @@ use Rattle.engine.proofs.block.shown_of.Given as goal
 
 -- the documents of the entries so far
 abbrev pub invariant-loop-entry : goal.invariant-loop-entry
-invariant-loop-entry l = record {
-  same : map shown_view l.documents.items ≡ map entry_view (take l.entry-index l.entries);
-  sources : map (λ s. s.source) l.documents.items ≡ map (λ e. e.source.now) (take l.entry-index l.entries);
-}
+invariant-loop-entry l = map shown_view l.documents.items ≡ map entry_view (take l.entry-index l.entries)

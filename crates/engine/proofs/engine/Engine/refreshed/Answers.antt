@@ -19,8 +19,10 @@ use Rattle.engine.proofs.engine.Engine.refreshed.Goals as goal
 pub with-requires-clause-only : goal.with-requires-clause-only
 with-requires-clause-only c =
     let ids = c.in-Some.ids.items in
-    rw (c.deref-2.ensures.value, c.deref-3.ensures.value)
-    (only_among (operations c.self.inside.history.records) ids (map entry_view c.in_ok-entries.entries.items) (rw c.deref.ensures.value at c.in_ok-entries.ensures.found))
+    let es = map entry_view c.in_ok-entries.entries.items in
+    let made : (arc_value c.in_ok-block-2.block).documents ≡ es = ap (λ (s : SnapshotData). s.documents) (c.in_ok-block-2.ensures.ok ∙ c.in_ok-block.ensures) ∙ ap (map entry_view) c.deref-2.ensures.value in
+    rw (c.deref-3.ensures.value, made)
+    (only_among (operations c.self.inside.history.records) ids es (rw c.deref.ensures.value at c.in_ok-entries.ensures.found))
 
 -- with the others as they were they are the documents of all records
 pub returns-clause-snapshot : goal.returns-clause-snapshot
@@ -28,10 +30,11 @@ returns-clause-snapshot c =
     let inside = c.self.inside in
     let ids = c.in-Some.ids.items in
     let es = map entry_view c.in_ok-entries.entries.items in
+    let made : (arc_value c.in_ok-block-2.block).documents ≡ es = ap (λ (s : SnapshotData). s.documents) (c.in_ok-block-2.ensures.ok ∙ c.in_ok-block.ensures) ∙ ap (map entry_view) c.deref-2.ensures.value in
     let at = rw c.deref.ensures.value at c.in_ok-entries.ensures.found in
     let others = rw c.in-Some.is at c.in_ok-ids.ensures.others in
     let all = refreshed (operations inside.history.records) (shown inside.history.records inside.point) ids es c.in_ok-entries.ensures.sorted at others in
-    (rw (c.deref-2.ensures.value, c.deref-3.ensures.value, c.self.invariant.0.same) at c.in_ok-showing-2.ensures.snapshot)
+    (rw (c.deref-3.ensures.value, made, c.self.invariant.0.same) at c.in_ok-showing-2.ensures.snapshot)
     ∙ ap (λ (ds : Documents). let s : SnapshotData = record { mapping = arc_value inside.mapping; documents = ds } in s) all
     ∙ ap (λ (e : EngineData). let s : SnapshotData = record { mapping = e.mapping; documents = documents (operations e.records) } in s) c.self.view_is
 
@@ -53,11 +56,12 @@ returns-clause-published c =
     let v : EngineData = record { mapping = arc_value inside.mapping; records = inside.history.records; point = inside.point; published = before.published; live = before.live; next = before.next } in
     let ids = c.in-Some.ids.items in
     let es = map entry_view c.in_ok-entries.entries.items in
+    let made : (arc_value c.in_ok-block-2.block).documents ≡ es = ap (λ (s : SnapshotData). s.documents) (c.in_ok-block-2.ensures.ok ∙ c.in_ok-block.ensures) ∙ ap (map entry_view) c.deref-2.ensures.value in
     let at = rw c.deref.ensures.value at c.in_ok-entries.ensures.found in
     let are : (id : Id) → is_among ids id ≡ is_written v id = rw c.in-Some.is at c.in_ok-ids.ensures.are in
     let new : Documents → Published = λ ds. record { number = before.next; mapping = arc_value inside.mapping; documents = ds } in
     λ ops.
-    (rw (c.deref-2.ensures.value, c.deref-3.ensures.value, c.self.invariant.0.same) at c.in_ok-showing-2.ensures.published)
+    (rw (c.deref-3.ensures.value, made, c.self.invariant.0.same) at c.in_ok-showing-2.ensures.published)
     ∙ ap (λ (ds : Documents). changed_segments (is_among ids) (new ds) before.published before.live) (are-where (operations inside.history.records) ids es c.in_ok-entries.ensures.sorted at (is_written v) are)
     ∙ ap (λ (ls : List Documents). living (next_segment v ∷ before.published) ls) (changed_live-same (is_among ids) (is_written v) are (next_segment v) before.live)
     ∙ ap (λ (e : EngineData). changed_segments (is_written e) (next_segment e) e.published e.live) c.self.view_is
@@ -69,13 +73,14 @@ returns-clause-kept c =
     let v : EngineData = record { mapping = arc_value inside.mapping; records = inside.history.records; point = inside.point; published = before.published; live = before.live; next = before.next } in
     let ids = c.in-Some.ids.items in
     let es = map entry_view c.in_ok-entries.entries.items in
+    let made : (arc_value c.in_ok-block-2.block).documents ≡ es = ap (λ (s : SnapshotData). s.documents) (c.in_ok-block-2.ensures.ok ∙ c.in_ok-block.ensures) ∙ ap (map entry_view) c.deref-2.ensures.value in
     let at = rw c.deref.ensures.value at c.in_ok-entries.ensures.found in
     let are : (id : Id) → is_among ids id ≡ is_written v id = rw c.in-Some.is at c.in_ok-ids.ensures.are in
     let new : Documents → Published = λ ds. record { number = before.next; mapping = arc_value inside.mapping; documents = ds } in
     λ ops.
     c.in_ok-showing-2.ensures.live
-    ∙ ap (λ (is : List Id). filter is_live (changed_live (is_among is) (new (map entry_view c.deref-3.result.now)) before.live)) c.deref-2.ensures.value
-    ∙ ap (λ xs. filter is_live (changed_live (is_among ids) (new (map entry_view xs)) before.live)) c.deref-3.ensures.value
+    ∙ ap (λ (is : List Id). filter is_live (changed_live (is_among is) (new (arc_value c.in_ok-block-2.block).documents) before.live)) c.deref-3.ensures.value
+    ∙ ap (λ (ds : Documents). filter is_live (changed_live (is_among ids) (new ds) before.live)) made
     ∙ ap (λ (ds : Documents). filter is_live (changed_live (is_among ids) (new ds) before.live)) (are-where (operations inside.history.records) ids es c.in_ok-entries.ensures.sorted at (is_written v) are)
     ∙ ap (λ (ls : List Documents). filter is_live ls) (changed_live-same (is_among ids) (is_written v) are (next_segment v) before.live)
     ∙ ap (λ (e : EngineData). filter is_live (changed_live (is_written e) (next_segment e) e.live)) c.self.view_is
@@ -84,8 +89,8 @@ returns-clause-kept c =
 pub returns-clause-live : goal.returns-clause-live
 returns-clause-live c =
     let before = c.self.inside.showing in
-    let new : Published = record { number = before.next; mapping = before.snapshot.mapping; documents = map entry_view c.deref-3.result.now } in
-    passing-live c.in_ok-showing-2.showing.live (changed_live (is_among c.deref-2.result.now) new before.live) c.in_ok-showing-2.ensures.live
+    let new : Published = record { number = before.next; mapping = before.snapshot.mapping; documents = (arc_value c.in_ok-block-2.block).documents } in
+    passing-live c.in_ok-showing-2.showing.live (changed_live (is_among c.deref-3.result.now) new before.live) c.in_ok-showing-2.ensures.live
 
 -- where more than ids changed one comes, and all others go
 pub returns-in_default-clause-numbers : goal.returns-in_default-clause-numbers

@@ -1,10 +1,9 @@
-use Rattle.std.proofs.Common.{◌∙◌, ap, filter, refl, map, sym, subst}
+use Rattle.std.proofs.Common.{◌∙◌, ap, filter, refl, sym, subst}
 use Rattle.std.specs.Arc.{arc_value}
 use Rattle.std.proofs.lemmas.Result.{IfOk-weaker}
 use Rattle.doc.specs.Mapping.{MappingData}
 use Rattle.engine.specs.Answer.{SnapshotData}
 use Rattle.engine.specs.Contents.{ShowingData}
-use Rattle.engine.specs.Entry.{entry_view}
 use Rattle.engine.specs.Live.{changed_live, changed_segments, is_live}
 use Rattle.engine.specs.Parts.{is_among}
 use Rattle.engine.specs.Published.{AreBelow}
@@ -36,7 +35,7 @@ returns-clause-published c =
     let before = arc_value inside.parts in
     let parts = c.in_ok-parts.parts in
     let ids = c.args.ids.now in
-    let es = map entry_view c.args.entries.now in
+    let es = (arc_value c.args.block).documents in
     let is = rw c.deref.ensures at c.in_ok-parts.ensures.published in
     let here = is
     ∙ ap (λ (m : MappingData). changed_segments (is_among ids) (record { number = inside.next; mapping = m; documents = es }) before.published before.live) (ap (λ (s : SnapshotData). s.mapping) (sym c.self.invariant.same))
@@ -48,7 +47,7 @@ returns-clause-live c =
     let inside = c.self.inside in
     let before = arc_value inside.parts in
     let ids = c.args.ids.now in
-    let es = map entry_view c.args.entries.now in
+    let es = (arc_value c.args.block).documents in
     let is = rw c.deref.ensures at c.in_ok-parts.ensures.live in
     let here = is
     ∙ ap (λ (m : MappingData). filter is_live (changed_live (is_among ids) (record { number = inside.next; mapping = m; documents = es }) before.live)) (ap (λ (s : SnapshotData). s.mapping) (sym c.self.invariant.same))

@@ -1,9 +1,0 @@
-use Rattle.std.proofs.Common.{arith}
-use Rattle.std.proofs.lemmas.Map.Text.{text_keys}
-use Rattle.segment.proofs.texts.append_at.Goals as goal
-
-pub returns-in-Some-clause-others : goal.returns-in-Some-clause-others
-returns-in-Some-clause-others c = grind (arith, text_keys)
-
-pub returns-clause-others : goal.returns-clause-others
-returns-clause-others c = λ w differs. grind (arith, text_keys)
