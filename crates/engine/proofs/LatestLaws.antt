@@ -1,12 +1,13 @@
 -- The documents of the last operation on each id are those of all operations.
 use denote.Ref.{Bor}
 use lib.Dec.{T}
-use Rattle.std.proofs.Common.{◌≡◌, ◌++◌, Bool, true, false, cond, List, [], ◌∷◌, append_assoc, append-nil, Option, Some, None, BTreeMap, map, option_map, if◌then◌else◌, refl, sym, ap, ◌∙◌, subst, true≢false}
+use Rattle.std.proofs.Common.{◌≡◌, ◌<◌, ◌+◌, ◌++◌, ◌||◌, ℕ, length, take, get_or, Bool, true, false, cond, List, [], ◌∷◌, append_assoc, append-nil, Option, Some, None, BTreeMap, map, option_map, if◌then◌else◌, refl, sym, ap, ◌∙◌, subst, true≢false}
 use Rattle.std.specs.List.{AllByRecursion}
 use Rattle.std.specs.List.Sorted.{IsStrictlySortedBy}
 use Rattle.std.specs.Option.{IfSome, option_or}
-use Rattle.std.specs.Ordering.{is_eq, nat_cmp, eq_by_cmp}
-use Rattle.std.specs.declared.cmp.Ordering.TheVariants.{Less}
+use Rattle.std.specs.Ordering.{is_eq, nat_cmp, eq_by_cmp, ordering_reverse}
+use Rattle.std.specs.declared.cmp.Ordering.{Ordering}
+use Rattle.std.specs.declared.cmp.Ordering.TheVariants.{Less, Equal, Greater}
 use Rattle.std.specs.Cmp.{tied_itself}
 use Rattle.std.specs.Cmp.Lexicographic.{slice_cmp, nat_list_cmp_total, on_texts}
 use Rattle.std.specs.BTreeMap as tree
@@ -25,14 +26,28 @@ use Rattle.op.specs.Documents.{Documents, document_at, document_of, documents, l
 use Rattle.op.specs.Operations.{concerns, is_on, last_on}
 use Rattle.op.proofs.DocumentLaws.{document_at-documents, is_sorted-documents}
 use Rattle.op.proofs.OperationLaws.{last_on-push}
-use Rattle.engine.specs.Latest.{Key, key_cmp, last_in, left_all, left_of, AreOn, IsLatest}
-use Rattle.engine.proofs.DocumentMap.{by_eq, turned}
-use Rattle.engine.proofs.PartLaws.{both, is_less, true_T, find_below}
+use Rattle.engine.specs.Latest.{Key, key_cmp, last_in, left_all, left_of, AreOn, IsLastBy, IsLatest}
+use Rattle.engine.specs.Parts.{is_among}
+use Rattle.engine.proofs.ChosenLaws.{among-more}
+use Rattle.engine.proofs.PartLaws.{both, is_less, true_T, T_true, find_below}
 
 -- with one operation more
 pub left_all-push : (os : List (Bor Op)) (o : Bor Op) → left_all (os ++ o ∷ []) ≡ left_all os ++ left_of o.now o.now.body
 left_all-push [] o = append-nil (left_of o.now o.now.body)
 left_all-push (p ∷ os) o = ap (λ r. left_of p.now p.now.body ++ r) (left_all-push os o) ∙ sym (append_assoc (left_of p.now p.now.body) (left_all os) (left_of o.now o.now.body))
+
+reversed : (r : Ordering) → is_eq (ordering_reverse r) ≡ is_eq r
+reversed Less = refl
+reversed Equal = refl
+reversed Greater = refl
+
+turned : (i j : Id) → is_eq (slice_cmp nat_cmp i j) ≡ is_id j i
+turned i j = ap is_eq (nat_list_cmp_total.antisymm i j) ∙ reversed (id_cmp j i)
+
+by_eq : (r : Ordering) → is_eq r ≡ true → r ≡ Equal
+by_eq Less is = absurd (true≢false (sym is))
+by_eq Equal is = refl
+by_eq Greater is = absurd (true≢false (sym is))
 
 -- ids that are found equal are
 same_id : (i j : Id) → is_id i j ≡ true → i ≡ j
@@ -86,6 +101,18 @@ module _ (q : Id) where
       ∙ ap (cond (is_eq (id_cmp q e.0.now)) (left_by e.1.now e.1.now.body)) (found-left es (sorted_tail _ _ _ up) on.1)
       ∙ sym (of_cond (is_eq (id_cmp q e.0.now)) e.1 (lookup (λ (k : Key). is_eq (slice_cmp nat_cmp q k.now)) es))
 
+-- the operations that are told leave their documents, in order of the ids
+pub sorted-by : (told : Id → Option Op) (m : BTreeMap Key (Bor Op)) → IsLastBy told m → is_sorted id_cmp (left_all (values_of m.entries)) ≡ true
+sorted-by told m is = T_true _ (sorted-left m.entries is.ordered is.on)
+
+pub found-by : (told : Id → Option Op) (m : BTreeMap Key (Bor Op)) → IsLastBy told m → (id : Id) → document_at (left_all (values_of m.entries)) id ≡ document_of (told id)
+found-by told m is id = found-left id m.entries is.ordered is.on ∙ ap document_of (is.last id)
+
+-- told are the last ones at some ids
+pub found-among : (os : List Op) (id : Id) (b : Bool) → document_of (if b then last_on os id else None) ≡ (if b then document_at (documents os) id else None)
+found-among os id true = sym (document_at-documents os id)
+found-among os id false = refl
+
 -- the documents that the last operations leave are those of all
 pub documents-latest : (os : List Op) (m : BTreeMap Key (Bor Op)) → IsLatest os m → left_all (values_of m.entries) ≡ documents os
 documents-latest os m is =
@@ -129,22 +156,68 @@ on_or id None o true is on = is
 on_or id None o false is on = tt
 
 -- the last operation on an id is on it
-on_last : (os : List Op) (id : Id) → IfSome (last_on os id) (λ o. is_on id o ≡ true)
+pub on_last : (os : List Op) (id : Id) → IfSome (last_on os id) (λ o. is_on id o ≡ true)
 on_last [] id = tt
 on_last (o ∷ os) id = on_or id (last_on os id) o (is_on id o) refl (on_last os id)
 
--- so a map made of the pairs has the last operations
-pub IsLatest-made : (os : List Op) (ps : List (Key × Bor Op)) (m : BTreeMap Key (Bor Op)) → tree.IsFromIterResult key_cmp ps m → ((q : Key) → last_in ps q ≡ last_on os q.now) → IsLatest os m
-IsLatest-made os ps m made last =
-    let at : (q : Key) → option_map (λ o. o.now) (tree.get key_cmp m q) ≡ last_on os q.now = λ q. ap (option_map (λ o. o.now)) (made.0 q) ∙ last q in
+-- so a map made of the pairs has the operations that are told
+pub IsLastBy-made : (told : Id → Option Op) → ((id : Id) → IfSome (told id) (λ o. is_on id o ≡ true)) → (ps : List (Key × Bor Op)) (m : BTreeMap Key (Bor Op)) → tree.IsFromIterResult key_cmp ps m
+    → ((q : Key) → last_in ps q ≡ told q.now) → IsLastBy told m
+IsLastBy-made told on ps m made last =
+    let at : (q : Key) → option_map (λ o. o.now) (tree.get key_cmp m q) ≡ told q.now = λ q. ap (option_map (λ o. o.now)) (made.0 q) ∙ last q in
     record {
       ordered = made.1;
       on = recursion_from_All (λ (e : Key × Bor Op). is_on e.0.now e.1.now ≡ true) m.entries
           (All-weaker (λ (e : Key × Bor Op). tree.get key_cmp m e.0 ≡ Some e.1) (λ (e : Key × Bor Op). is_on e.0.now e.1.now ≡ true)
-          (λ e is. subst (λ (l : Option Op). IfSome l (λ o. is_on e.0.now o ≡ true)) (sym (at e.0) ∙ ap (option_map (λ o. o.now)) is) (on_last os e.0.now))
+          (λ e is. subst (λ (l : Option Op). IfSome l (λ o. is_on e.0.now o ≡ true)) (sym (at e.0) ∙ ap (option_map (λ o. o.now)) is) (on e.0.now))
           m.entries (All-found (on_texts (λ (k : Key). k.now)) m made.1));
       last = λ id. at (key_of id);
     }
+
+-- those that are told at some ids are on them
+pub on_among : (os : List Op) (ids : List Id) (id : Id) → IfSome (if is_among ids id then last_on os id else None) (λ o. is_on id o ≡ true)
+on_among os ids id = by_test (is_among ids id)
+  where
+    by_test : (b : Bool) → IfSome (if b then last_on os id else None) (λ o. is_on id o ≡ true)
+    by_test true = on_last os id
+    by_test false = tt
+
+on_same : (b : Body) (i q : Id) → concerns i b ≡ true → concerns q b ≡ is_id q i
+on_same (Index id source) i q on = ap (is_id q) (sym (same_id i id on))
+on_same (Delete id) i q on = ap (is_id q) (sym (same_id i id on))
+on_same NoOp i q on = absurd (true≢false (sym on))
+
+one_told : (a s : Bool) (x l : Option Op) (o : Op) → (s ≡ true → x ≡ Some o) → l ≡ (if a then x else None) → (if s then Some o else l) ≡ (if a || s then x else None)
+one_told true true x l o same is = sym (same refl)
+one_told false true x l o same is = sym (same refl)
+one_told true false x l o same is = is
+one_told false false x l o same is = is
+
+none_told : (a s : Bool) (x l : Option Op) → (s ≡ true → x ≡ None) → l ≡ (if a then x else None) → l ≡ (if a || s then x else None)
+none_told true true x l same is = is
+none_told true false x l same is = is
+none_told false true x l same is = is ∙ sym (same refl)
+none_told false false x l same is = is
+
+among_next : (os : List Op) (ids : List Id) (k : ℕ) (i q : Id) → k < length ids → i ≡ get_or ids k i
+    → (if is_among (take k ids) q || is_id q i then last_on os q else None) ≡ (if is_among (take (k + 1) ids) q then last_on os q else None)
+among_next os ids k i q lt is = ap (λ b. if b then last_on os q else None) (ap (λ (x : Id). is_among (take k ids) q || is_id q x) is ∙ among-more ids k i q lt)
+
+-- with one id more, on which an operation is
+pub told-more : (os : List Op) (ids : List Id) (k : ℕ) (i : Id) (o : Op) → k < length ids → i ≡ get_or ids k i → last_on os i ≡ Some o
+    → (q : Id) (l : Option Op) → l ≡ (if is_among (take k ids) q then last_on os q else None) → (if is_on q o then Some o else l) ≡ (if is_among (take (k + 1) ids) q then last_on os q else None)
+told-more os ids k i o lt is last q l so =
+    let on : is_on i o ≡ true = subst (λ (m : Option Op). IfSome m (λ p. is_on i p ≡ true)) last (on_last os i) in
+    ap (λ b. if b then Some o else l) (on_same o.body i q on)
+    ∙ one_told (is_among (take k ids) q) (is_id q i) (last_on os q) l o (λ b. ap (last_on os) (same_id q i b) ∙ last) so
+    ∙ among_next os ids k i q lt is
+
+-- and with one on which none is
+pub told-none : (os : List Op) (ids : List Id) (k : ℕ) (i : Id) → k < length ids → i ≡ get_or ids k i → last_on os i ≡ None
+    → (q : Id) (l : Option Op) → l ≡ (if is_among (take k ids) q then last_on os q else None) → l ≡ (if is_among (take (k + 1) ids) q then last_on os q else None)
+told-none os ids k i lt is last q l so =
+    none_told (is_among (take k ids) q) (is_id q i) (last_on os q) l (λ b. ap (last_on os) (same_id q i b) ∙ last) so
+    ∙ among_next os ids k i q lt is
 
 -- with one operation more
 pub last-more : (os : List Op) (o : Op) (id : Id) (l : Option Op) → l ≡ last_on os id → (if is_on id o then Some o else l) ≡ last_on (os ++ o ∷ []) id

@@ -3,7 +3,6 @@ pub mod KeptLaws
 pub mod NotedLaws
 pub mod IdFilterLaws
 pub mod IndexLaws
-pub mod DocumentMap
 pub mod FoundLaws
 pub mod PartLaws
 pub mod ApartLaws

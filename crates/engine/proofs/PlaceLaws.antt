@@ -1,5 +1,5 @@
 -- Where a number is, or goes, in a list of operations.
-use Rattle.std.proofs.Common.{◌≡◌, ℕ, zero, suc, ◌<◌, ◌≤◌, List, [], ◌∷◌, length, get_or, None, slice_get, Result, Ok, Err, IfOk, IfErr, refl, sym, ap, arith}
+use Rattle.std.proofs.Common.{◌≡◌, ◌∙◌, subst, ℕ, zero, suc, ◌<◌, ◌≤◌, List, [], ◌∷◌, length, get_or, None, slice_get, Result, Ok, Err, IfOk, IfErr, refl, sym, ap, arith}
 use Rattle.std.specs.List.{AllWithin, AllByRecursion}
 use Rattle.std.specs.List.Sorted.{IsSearchInRange, IsBinarySearchResult, IsNonDecreasingBy}
 use Rattle.std.specs.Ordering.{nat_cmp, ordering_index}
@@ -56,6 +56,25 @@ rise [] i j d up lt in_range = absurd (omega arith)
 rise (o ∷ os) i zero d up lt in_range = absurd (omega arith)
 rise (o ∷ os) zero (suc j) d up lt in_range = each_at (λ p. o.seq < p.seq) os j d up.0 (omega arith)
 rise (o ∷ os) (suc i) (suc j) d up lt in_range = rise os i j d up.1 (omega arith) (omega arith)
+
+same_or : (os : List Op) (i : ℕ) (d e : Op) → i < length os → get_or os i d ≡ get_or os i e
+same_or [] i d e lt = absurd (omega arith)
+same_or (o ∷ os) zero d e lt = refl
+same_or (o ∷ os) (suc i) d e lt = same_or os i d e (omega arith)
+
+-- an operation that has the number is the one that has it
+pub op_at-here : (os : List Op) (n i : ℕ) (d : Op) → IsAscending os → i < length os → (get_or os i d).seq ≡ n → slice_get os i ≡ op_at os n
+op_at-here os n i d up lt is =
+    op_at_found os n i d lt
+    (λ k e low le. let at : (get_or os i e).seq ≡ n = ap (λ (o : Op). o.seq) (same_or os i e d lt) ∙ is in omega (arith, at, rise os k i e up le lt)) is
+
+-- a number above the last one goes to the end
+pub gap-above : (os : List Op) (n i : ℕ) (d : Op) → IsAscending os → length os ≡ suc i → (get_or os i d).seq < n → IsGap os n (length os)
+gap-above os n i d up len above =
+    end_gap os n up (length os) (omega arith)
+    (λ k e low lt.
+    let last : (get_or os i e).seq < n = subst (λ (o : Op). o.seq < n) (same_or os i d e (omega (arith, len))) above in
+    grind (arith, len, last, rise os k i e up, λ (same : k ≡ i). ap (λ j. (get_or os j e).seq) same))
 
 module _ (n : ℕ) where
   -- the comparisons with the number rise along the list, as a binary search asks

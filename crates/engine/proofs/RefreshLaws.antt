@@ -9,7 +9,6 @@ use Rattle.std.proofs.lemmas.List.Sums.{fold_more, fold-append}
 use Rattle.op.specs.declared.record.Record.{Record}
 use Rattle.op.specs.declared.record.Record.TheVariants.{Op as Kept}
 use Rattle.op.specs.Records.{after_record, operations, shown}
-use Rattle.engine.specs.Entry.{put_if}
 use Rattle.engine.proofs.ChosenLaws.{among-more}
 use Rattle.std.specs.List.{AllPass}
 use Rattle.std.specs.Option.{option_or}
@@ -136,40 +135,3 @@ drop-behind (x ∷ xs) ys (suc n) b is le = drop-behind xs ys n (b - 1) (omega (
 -- not all are operations where one is none
 pub not-all : (rs : List Record) (i : ℕ) (r : Record) → i < length rs → r ≡ get_or rs i r → is_op r ≡ false → AllPass is_op rs → ⊥
 not-all rs i r within at other all = absurd (let wrong : true ≡ false = sym (all i r within) ∙ (ap is_op (sym at) ∙ other) in cc)
-
--- ---- the documents at ids
-
-pub put_if-sorted : (i : Id) (o : Option Document) (ds : Documents) → is_sorted id_cmp ds ≡ true → is_sorted id_cmp (put_if i o ds) ≡ true
-put_if-sorted i None ds h = h
-put_if-sorted i (Some d) ds h = T_true _ (is_sorted-put id_cmp nat_list_cmp_total i d ds (true_T _ h))
-
-find-put_if : (i : Id) (o : Option Document) (ds : Documents) (q : Id) → document_at (put_if i o ds) q ≡ option_or (if is_id q i then o else None) (document_at ds q)
-find-put_if i None ds q = elim (is_id q i) as (λ b. document_at ds q ≡ option_or (if b then None else None) (document_at ds q)) [ true ↦ refl | false ↦ refl ]
-find-put_if i (Some d) ds q =
-    find-put id_cmp nat_list_cmp_total q i d ds
-    ∙ elim (is_id q i) as (λ b. cond b (Some d) (document_at ds q) ≡ option_or (if b then Some d else None) (document_at ds q)) [ true ↦ refl | false ↦ refl ]
-
-is_equal : (r : Ordering) → is_eq r ≡ true → r ≡ Equal
-is_equal Less is = cc
-is_equal Equal is = refl
-is_equal Greater is = cc
-
-one_at : (a b : Bool) (x y : Option Document) → (b ≡ true → x ≡ y) → option_or (if b then x else None) (if a then y else None) ≡ (if a || b then y else None)
-one_at true true x None same = ap (λ o. option_or o None) (same refl)
-one_at true true x (Some d) same = ap (λ o. option_or o (Some d)) (same refl)
-one_at false true x y same = or_last x ∙ same refl
-  where
-    or_last : (o : Option Document) → option_or o None ≡ o
-    or_last None = refl
-    or_last (Some d) = refl
-one_at true false x y same = refl
-one_at false false x y same = refl
-
-pub put_if-found : (all : Documents) (ids : List Id) (k : ℕ) (i : Id) (ds : Documents) → k < length ids → i ≡ get_or ids k i
-    → ((q : Id) → document_at ds q ≡ (if is_among (take k ids) q then document_at all q else None))
-    → (q : Id) → document_at (put_if i (document_at all i) ds) q ≡ (if is_among (take (k + 1) ids) q then document_at all q else None)
-put_if-found all ids k i ds lt is found q =
-    find-put_if i (document_at all i) ds q
-    ∙ ap (option_or (if is_id q i then document_at all i else None)) (found q)
-    ∙ one_at (is_among (take k ids) q) (is_id q i) (document_at all i) (document_at all q) (λ b. ap (document_at all) (sym (exact_bytes q i (is_equal (id_cmp q i) b))))
-    ∙ ap (λ b. if b then document_at all q else None) (ap (λ (x : Id). is_among (take k ids) q || is_id q x) is ∙ among-more ids k i q lt)

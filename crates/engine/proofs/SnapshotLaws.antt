@@ -77,14 +77,3 @@ module _ (m : MappingData) (ps qs : List PartData) (ids : List Id) (es : Documen
 
   long : length qs ≡ length ps
   long = sym (length-map qs (λ (p : PartData). p.mapping)) ∙ ap length mappings ∙ length-map ps (λ (p : PartData). p.mapping)
-
-  -- where there is no new document the others stay
-  pub left-parts : AreParts m qs
-  left-parts = record {
-    mappings = mappings ∙ are.mappings ∙ ap (λ k. replicate k m) (sym long);
-    apart = apart;
-    few = omega (arith, long, are.few);
-  }
-
-  pub left-woven : es ≡ [] → woven (documents_of_parts qs) ≡ merged es (without ids (woven (documents_of_parts ps)))
-  left-woven is = ap woven left ∙ woven-without ids (documents_of_parts ps) are.apart.sorted ∙ ap (λ ds. merged ds (without ids (woven (documents_of_parts ps)))) (sym is)

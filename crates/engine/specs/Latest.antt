@@ -35,11 +35,15 @@ AreOn ps = AllByRecursion (λ p. is_on p.0.now p.1.now ≡ true) ps
 abbrev pub latest_at : BTreeMap Key (Bor Op) → Id → Option Op
 latest_at m id = option_map (λ o. o.now) (lookup (λ k. is_eq (slice_cmp nat_cmp id k.now)) m.entries)
 
--- the last operation on each id
-pub record IsLatest (os : List Op) (m : BTreeMap Key (Bor Op)) : Type 0 where
+-- by id, the operations that are told
+pub record IsLastBy (told : Id → Option Op) (m : BTreeMap Key (Bor Op)) : Type 0 where
   pub ordered : IsStrictlySortedBy key_cmp (keys_of m.entries)
   pub on : AreOn m.entries
-  pub last : (id : Id) → latest_at m id ≡ last_on os id
+  pub last : (id : Id) → latest_at m id ≡ told id
+
+-- the last operation on each id
+abbrev pub IsLatest : List Op → BTreeMap Key (Bor Op) → Type 0
+IsLatest os m = IsLastBy (last_on os) m
 
 -- the document of an operation
 abbrev pub left_of : Op → Body → Documents

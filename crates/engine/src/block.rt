@@ -17,6 +17,7 @@ ghost use Rattle.engine.specs.Shown.{shown_view};
 
 use crate::documents::Entry;
 use crate::id_filter::IdFilter;
+use crate::sought::Sought;
 use crate::strands::places_among;
 use doc::{DocId, Mapping, Source};
 use marks::Marks;
@@ -260,7 +261,7 @@ impl Block {
     }
 
     /// Whether a document has one of the ids.
-    pub(crate) fn has_any(&self, ids: &[DocId]) -> bool
+    pub(crate) fn has_any(&self, ids: &[Sought<'_>]) -> bool
         ensures { result ≡ false → map (λ d. is_among ids.now d.0) self.now.documents ≡ map (λ d. is_among [] d.0) self.now.documents }
     {
         for id in ids {
@@ -272,20 +273,20 @@ impl Block {
     }
 
     /// Whether a document has the id.
-    fn has(&self, id: &DocId) -> bool
+    fn has(&self, id: &Sought<'_>) -> bool
         ensures { result ≡ false → (t : Id × Document → Bool) → map t self.now.documents ≡ map (λ d. t d || is_id d.0 id.now) self.now.documents }
     {
         if !self.ids.may_have(id) {
             return false;
         }
-        match place_of(&self.documents, id) {
+        match place_of(&self.documents, id.id()) {
             Ok(_) => true,
             Err(_) => false,
         }
     }
 
     /// Marks the documents that have one of the ids.
-    pub(crate) fn mark_ids(&self, ids: &[DocId], marks: &mut Marks)
+    pub(crate) fn mark_ids(&self, ids: &[Sought<'_>], marks: &mut Marks)
         requires { marks.old ≡ map (λ d. is_among [] d.0) self.now.documents }
         ensures { marks.new ≡ map (λ d. is_among ids.now d.0) self.now.documents }
     {
@@ -295,7 +296,7 @@ impl Block {
     }
 
     /// Marks the document that has the id, too.
-    fn mark_id(&self, id: &DocId, marks: &mut Marks)
+    fn mark_id(&self, id: &Sought<'_>, marks: &mut Marks)
         requires { length marks.old ≡ length self.now.documents }
         ensures { (t : Id × Document → Bool) → marks.old ≡ map t self.now.documents → marks.new ≡ map (λ d. t d || is_id d.0 id.now) self.now.documents }
     {
@@ -303,7 +304,7 @@ impl Block {
         if !self.ids.may_have(id) {
             return;
         }
-        if let Ok(at) = place_of(&self.documents, id) {
+        if let Ok(at) = place_of(&self.documents, id.id()) {
             marks.set(at as u32);
         }
     }

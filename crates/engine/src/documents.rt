@@ -4,10 +4,10 @@ ghost use Rattle.std.specs.BTreeMap.{values};
 ghost use Rattle.std.specs.FinMap.Entries.{is_sorted};
 ghost use Rattle.doc.specs.Id.{Id, id_cmp};
 ghost use Rattle.op.specs.Documents.{document_at, documents};
-ghost use Rattle.op.specs.Operations.{is_on};
+ghost use Rattle.op.specs.Operations.{is_on, last_on};
 ghost use Rattle.op.specs.Records.{operations};
-ghost use Rattle.engine.specs.Entry.{entry_view, documents_in, put_if, IsByIds};
-ghost use Rattle.engine.specs.Latest.{last_in, left_all, left_of, AreOn, IsLatest, Key};
+ghost use Rattle.engine.specs.Entry.{entry_view};
+ghost use Rattle.engine.specs.Latest.{last_in, left_all, left_of, AreOn, IsLastBy, IsLatest, Key};
 ghost use Rattle.engine.specs.Parts.{is_among};
 
 use crate::history::History;
@@ -117,48 +117,30 @@ fn entry_left(op: &Op) -> Option<Entry<'_>>
 pub(crate) fn documents_at<'a>(
     alloc: Global,
     history: &'a History,
-    ids: &'a [DocId],
+    ids: &[DocId],
 ) -> Result<Vec<Entry<'a>>, AllocError>
     ensures sorted { IfOk result (λ v. is_sorted id_cmp (map entry_view v.items) ≡ true) }
     ensures found { IfOk result (λ v. (id : Id) → document_at (map entry_view v.items) id ≡ (if is_among ids.now id then document_at (documents (operations history.now.records)) id else None)) }
 {
-    let mut found = BTreeMap::new(alloc);
-    for id in ids {
-        add_at(&mut found, history, id)?;
-    }
-    let entries = entries_of(alloc, &found)?;
+    let latest = latest_at(alloc, history, ids)?;
+    let last = in_order(alloc, &latest)?;
+    let entries = entries_left(alloc, &last)?;
     Ok(entries)
 }
 
-/// Adds the document that is at an id, if there is one.
-fn add_at<'a>(
-    found: &mut BTreeMap<&'a str, Entry<'a>>,
-    history: &'a History,
-    id: &'a DocId,
-) -> Result<(), AllocError>
-    requires { IsByIds found.old }
-    ensures by_ids { OnOk result (IsByIds found.new) }
-    ensures documents { OnOk result (documents_in found.new ≡ put_if id.now (document_at (documents (operations history.now.records)) id.now) (documents_in found.old)) }
-{
-    if let Some(document) = history.get(id) {
-        let entry = Entry {
-            id,
-            seq: document.seq,
-            term: document.term,
-            version: document.version,
-            source: document.source,
-        };
-        found.insert(id.as_str(), entry)?;
-    }
-    Ok(())
-}
-
-/// The entries of a map, in order of the ids.
-fn entries_of<'a>(
+/// The last operation on each of some ids. Sorted at once, too.
+fn latest_at<'a>(
     alloc: Global,
-    found: &BTreeMap<&'a str, Entry<'a>>,
-) -> Result<Vec<Entry<'a>>, AllocError>
-    ensures { IfOk result (λ v. v.items ≡ values found.entry.now) }
+    history: &'a History,
+    ids: &[DocId],
+) -> Result<BTreeMap<&'a str, &'a Op>, AllocError>
+    ensures { IfOk result (IsLastBy (λ id. if is_among ids.now id then last_on (operations history.now.records) id else None)) }
 {
-    found.values().copied().collect(alloc)
+    let mut noted = Vec::with_capacity(alloc, ids.len())?;
+    for id in ids {
+        if let Some(op) = history.last(id) {
+            note_last(&mut noted, op)?;
+        }
+    }
+    BTreeMap::from_iter(alloc, noted)
 }

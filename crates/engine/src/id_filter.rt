@@ -1,14 +1,15 @@
 //! Which ids may be among some, told by a bit for each.
-ghost use Rattle.std.specs.Prelude.{◌≡◌, ◌<◌, ◌^◌, true, length, slice_set, IfOk};
+ghost use Rattle.std.specs.Prelude.{◌≡◌, ◌<◌, ◌^◌, ◌%◌, true, length, slice_set};
 ghost use Rattle.engine.specs.IdFilter.{has_bit, hash_from, place_in};
 
+use crate::sought::Sought;
 use doc::DocId;
 use marks::Marks;
 use std::alloc::{AllocError, Global};
 use std::marker::Model;
 
-/// So many bits an id: one of sixteen ids that aren't there is looked for.
-const BITS: usize = 16;
+/// So many bits an id: one of sixty-four ids that aren't there is looked for, which costs more than the bits.
+const BITS: usize = 64;
 
 const LEAST_BITS: usize = 64;
 
@@ -51,25 +52,32 @@ impl IdFilter {
         ensures set { self.new ≡ slice_set self.old (place_in (length self.old) id.now) true }
         ensures within { place_in (length self.old) id.now < length self.old }
     {
-        let at = place_of(id, self.bits.len());
+        let at = place_of(number_of(id), self.bits.len());
         self.bits.set(at);
     }
 
     /// Whether the bit of an id is set.
-    pub(crate) fn may_have(&self, id: &DocId) -> bool
+    pub(crate) fn may_have(&self, id: &Sought<'_>) -> bool
         ensures { result ≡ has_bit self.now id.now }
     {
-        self.bits.get(place_of(id, self.bits.len()))
+        self.bits.get(place_of(id.number(), self.bits.len()))
     }
 }
 
-fn place_of(id: &DocId, len: usize) -> u32
+fn place_of(number: u64, len: usize) -> u32
     requires some { 0 < len }
     requires few { len < 2 ^ 32 }
-    ensures is { result ≡ place_in len id.now }
+    ensures is { result ≡ number % len }
     ensures within { result < len }
 {
-    (hash_of(id.as_str().as_bytes()) % len as u64) as u32
+    (number % len as u64) as u32
+}
+
+/// The number of an id.
+pub(crate) fn number_of(id: &DocId) -> u64
+    ensures { result ≡ hash_from 0 id.now }
+{
+    hash_of(id.as_str().as_bytes())
 }
 
 fn hash_of(bytes: &[u8]) -> u64

@@ -19,6 +19,7 @@ mod part;
 mod part_list;
 mod showing;
 pub mod snapshot;
+mod sought;
 pub mod staged;
 mod strands;
 pub mod swapping;

@@ -18,7 +18,32 @@ pub(crate) fn place_of(operations: &[Op], seq: u64) -> Result<usize, usize>
     ensures there { IfOk result (λ at. suc at ≤ length operations.now) }
     ensures absent { IfErr result (λ at. IsGap operations.now seq at) }
 {
+    if is_at(operations, seq) {
+        return Ok(seq as usize);
+    }
+    if is_above(operations, seq) {
+        return Err(operations.len());
+    }
     operations.binary_search_by_key(&seq, |op| op.seq)
+}
+
+/// Whether the operation with the number stands where it stands if none is missing before it.
+fn is_at(operations: &[Op], seq: u64) -> bool
+    requires { IsAscending operations.now }
+    ensures found { result ≡ true → slice_get operations.now seq ≡ op_at operations.now seq }
+    ensures there { result ≡ true → suc seq ≤ length operations.now }
+{
+    let at = seq as usize;
+    at < operations.len() && operations[at].seq == seq
+}
+
+/// Whether the number is greater than all of theirs.
+fn is_above(operations: &[Op], seq: u64) -> bool
+    requires { IsAscending operations.now }
+    ensures { result ≡ true → IsGap operations.now seq (length operations.now) }
+{
+    let len = operations.len();
+    0 < len && operations[len - 1].seq < seq
 }
 
 /// The number of the last operation on the id.

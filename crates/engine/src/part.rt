@@ -14,6 +14,7 @@ ghost use Rattle.engine.specs.Parts.{published_of, without};
 
 use crate::block::{Block, Shown};
 use crate::documents::Entry;
+use crate::sought::Sought;
 use doc::{DocId, Mapping, Source};
 use marks::Marks;
 use query::Query;
@@ -316,7 +317,7 @@ impl Part {
     }
 
     /// The part without the documents that have one of the ids.
-    pub(crate) fn without(&self, alloc: Global, ids: &[DocId]) -> Result<Part, AllocError>
+    pub(crate) fn without(&self, alloc: Global, ids: &[Sought<'_>]) -> Result<Part, AllocError>
         ensures { IfOk result (λ p. p ≡ record self.now { documents = without ids.now self.now.documents }) }
     {
         if self.block.has_any(ids) {
@@ -327,7 +328,7 @@ impl Part {
     }
 
     /// The same with marks of its own.
-    fn unmarked(&self, alloc: Global, ids: &[DocId]) -> Result<Part, AllocError>
+    fn unmarked(&self, alloc: Global, ids: &[Sought<'_>]) -> Result<Part, AllocError>
         ensures { IfOk result (λ p. p ≡ record self.now { documents = without ids.now self.now.documents }) }
     {
         let len = self.block.len();

@@ -20,6 +20,7 @@ use crate::documents::{Entry, documents_of};
 use crate::merging::{merge, merge_owned};
 use crate::paging::{behind, find_pivot, page_behind};
 use crate::part::{Part, Share};
+use crate::sought::{Sought, sought_of};
 use crate::strands::strands_of;
 use crate::swapping::{Halves, part_showing, split};
 use doc::{DocId, Mapping, Source};
@@ -179,7 +180,8 @@ impl PartList {
         ensures published { IfOk result (λ l. l.published ≡ changed_segments (is_among ids.now) (record { number = number; mapping = self.now.mapping; documents = (arc_value block).documents }) self.now.published self.now.live) }
         ensures live { IfOk result (λ l. l.live ≡ filter is_live (changed_live (is_among ids.now) (record { number = number; mapping = self.now.mapping; documents = (arc_value block).documents }) self.now.live)) }
     {
-        let mut parts = parts_without(alloc, &self.parts, ids)?;
+        let sought = sought_of(alloc, ids)?;
+        let mut parts = parts_without(alloc, &self.parts, &sought)?;
         if parts.len() >= MOST_PARTS {
             return Err(AllocError);
         }
@@ -353,7 +355,7 @@ fn find<'a>(
 pub(crate) fn parts_without(
     alloc: Global,
     parts: &[Part],
-    ids: &[DocId],
+    ids: &[Sought<'_>],
 ) -> Result<Vec<Part>, AllocError>
     ensures mappings { IfOk result (λ v. map (λ p. p.mapping) v.items ≡ map (λ p. p.mapping) parts.now) }
     ensures documents { IfOk result (λ v. documents_of_parts v.items ≡ map (without ids.now) (documents_of_parts parts.now)) }

@@ -8,6 +8,7 @@ ghost use Rattle.std.specs.List.{list_all};
 use crate::choosing::parts_numbered;
 use crate::part::Part;
 use crate::part_list::{PartList, entries_of_parts, living_parts, parts_without};
+use crate::sought::sought_of;
 use doc::{DocId, Mapping};
 use segment::Segment;
 use std::alloc::{AllocError, Global};
@@ -169,12 +170,13 @@ fn left_of(
     ensures { IfOk result (λ o. IfSome o (λ p. p ≡ record made.now { documents = woven (documents_of_parts parts.now) })) }
 {
     let dead = ids_of_dead(alloc, taken, parts)?;
-    let without = parts_without(alloc, taken, &dead)?;
+    let sought = sought_of(alloc, &dead)?;
+    let without = parts_without(alloc, taken, &sought)?;
     let left = living_parts(alloc, &without)?;
     if !are_left(alloc, taken, &left, parts)? {
         return Ok(None);
     }
-    let part = made.without(alloc, &dead)?;
+    let part = made.without(alloc, &sought)?;
     Ok(Some(part))
 }
 

@@ -66,7 +66,7 @@ fn syncing_of(options: &ArgMatches<'_>) -> Option<Syncing> {
 fn threads_beside(syncing: Option<Syncing>) -> u64 {
     match syncing {
         Some(Syncing::Together) => 64,
-        Some(Syncing::Each) | None => 4,
+        Some(Syncing::Each) | None => 8,
     }
 }
 

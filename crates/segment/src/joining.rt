@@ -5,6 +5,7 @@ ghost use Rattle.segment.specs.Added.{making_at, AreLong, IsLong};
 ghost use Rattle.segment.specs.Joined.{AreJoined, IsJoinedOr};
 
 use crate::making::{Making, Makings};
+use crate::rooms::{Rooms, room_at};
 use std::alloc::{AllocError, Global};
 
 /// Adds what later documents have, of so many in all.
@@ -12,6 +13,7 @@ pub(crate) fn join(
     alloc: Global,
     makings: &mut Makings,
     later: Makings,
+    rooms: &Rooms,
     len: usize,
 ) -> Result<(), AllocError>
     requires long { AreLong len makings.old }
@@ -20,7 +22,7 @@ pub(crate) fn join(
 {
     let mut left = later;
     while let Some((name, making)) = left.pop_first() {
-        join_one(alloc, makings, name, making, len)?;
+        join_one(alloc, makings, name, making, rooms, len)?;
     }
     Ok(())
 }
@@ -31,6 +33,7 @@ fn join_one(
     makings: &mut Makings,
     name: String,
     later: Box<Making>,
+    rooms: &Rooms,
     len: usize,
 ) -> Result<(), AllocError>
     requires long { AreLong len makings.old }
@@ -39,8 +42,9 @@ fn join_one(
     ensures others { OnOk result ((w : List ℕ) → bytes_eq (string_bytes name) w ≡ false → making_at makings.new w ≡ making_at makings.old w) }
     ensures long { OnOk result (AreLong len makings.new) }
 {
+    let room = room_at(rooms, &name);
     if let Some(making) = makings.get_mut(name.as_str()) {
-        return making.join(alloc, Box::into_inner(later));
+        return making.join(alloc, Box::into_inner(later), room);
     }
     makings.insert(name, later)?;
     Ok(())

@@ -16,6 +16,7 @@ mod moving;
 mod pieces;
 pub mod places;
 mod posting;
+mod rooms;
 pub mod segment;
 mod spans;
 mod term;

@@ -54,15 +54,29 @@ impl Longs {
         Ok(())
     }
 
-    /// Adds the later places of each number.
-    pub(crate) fn join(&mut self, alloc: Global, later: Longs) -> Result<(), AllocError>
+    /// Adds the later places of each number. There will be about so many pairs in all.
+    pub(crate) fn join(
+        &mut self,
+        alloc: Global,
+        later: Longs,
+        room: usize,
+    ) -> Result<(), AllocError>
         ensures { OnOk result ((z : ℤ) → places_so_far_long self.new z ≡ places_so_far_long self.old z ++ places_so_far_long later z) }
     {
         let mut listed = mem::replace(self, Longs::none(alloc)).listed(alloc)?;
+        listed.reserve_exact(room.saturating_sub(listed.len()))?;
         let mut more = later.listed(alloc)?;
         listed.append(&mut more)?;
         *self = Longs::Listed(listed);
         Ok(())
+    }
+
+    /// How many numbers are listed.
+    pub(crate) fn len(&self) -> usize {
+        match self {
+            Longs::Ordered(longs) => longs.len(),
+            Longs::Listed(pairs) => pairs.len(),
+        }
     }
 
     /// The same places, listed.

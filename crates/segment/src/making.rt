@@ -6,6 +6,7 @@ ghost use Rattle.segment.specs.Posted.{IsEmptyMaking, IsFinished, places_so_far_
 use crate::blocks::blocks_of;
 use crate::column::Column;
 use crate::longs::Longs;
+use crate::rooms::Room;
 use crate::texts::Texts;
 use marks::Marks;
 use std::alloc::{AllocError, Global};
@@ -51,8 +52,13 @@ impl Making {
         Ok(())
     }
 
-    /// Adds what later documents have.
-    pub(crate) fn join(&mut self, alloc: Global, later: Making) -> Result<(), AllocError>
+    /// Adds what later documents have. There is as much as this room in all.
+    pub(crate) fn join(
+        &mut self,
+        alloc: Global,
+        later: Making,
+        room: Room,
+    ) -> Result<(), AllocError>
         requires has { length later.has ≡ length self.old.has }
         requires yes { length later.yes ≡ length self.old.yes }
         requires no { length later.no ≡ length self.old.no }
@@ -69,8 +75,8 @@ impl Making {
         self.has.unite(&has);
         self.yes.unite(&yes);
         self.no.unite(&no);
-        self.longs.join(alloc, longs)?;
-        self.texts.join(alloc, texts)
+        self.longs.join(alloc, longs, room.longs)?;
+        self.texts.join(alloc, texts, room.texts)
     }
 
     /// The column that it is, of so many documents.

@@ -9,6 +9,7 @@ use crate::column::Column;
 use crate::finishing::{finish_all, list_all};
 use crate::joining::join;
 use crate::making::Makings;
+use crate::rooms::rooms_of;
 use doc::{Mapping, Source};
 use std::alloc::{AllocError, Global};
 use std::collections::BTreeMap;
@@ -44,9 +45,10 @@ pub(crate) fn columns_of<R: Threads + Sync>(
             ensures { IfOk result (AreMakings mapping.entry.now.fields (behind begin (map (all_values mapping.entry.now) piece.now)) len) }
         { piece_of(alloc, mapping, piece, begin, len) },
     )?;
+    let rooms = rooms_of(alloc, &pieces)?;
     let mut makings = BTreeMap::new(alloc);
     for piece in pieces {
-        join(alloc, &mut makings, piece?, len)?;
+        join(alloc, &mut makings, piece?, &rooms, len)?;
     }
     finish_all(alloc, makings, len)
 }

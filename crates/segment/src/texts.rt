@@ -48,11 +48,17 @@ impl Texts {
         Ok(())
     }
 
-    /// Adds the later places of each text.
-    pub(crate) fn join(&mut self, alloc: Global, later: Texts) -> Result<(), AllocError>
+    /// Adds the later places of each text. There will be about so many pairs in all.
+    pub(crate) fn join(
+        &mut self,
+        alloc: Global,
+        later: Texts,
+        room: usize,
+    ) -> Result<(), AllocError>
         ensures { OnOk result ((w : List ℕ) → places_so_far self.new w ≡ places_so_far self.old w ++ places_so_far later w) }
     {
         let mut listed = mem::replace(self, Texts::Listed(Vec::new(alloc))).listed(alloc)?;
+        listed.reserve_exact(room.saturating_sub(listed.len()))?;
         let mut more = later.listed(alloc)?;
         listed.append(&mut more)?;
         *self = Texts::Listed(listed);
@@ -79,6 +85,15 @@ impl Texts {
         merge_in_order(alloc, &mut texts, word, later)?;
         *self = Texts::Ordered(texts);
         Ok(())
+    }
+
+    /// How many texts are listed.
+    pub(crate) fn len(&self) -> usize {
+        match self {
+            Texts::Ordered(texts) => texts.len(),
+            Texts::Table(texts) => texts.len(),
+            Texts::Listed(pairs) => pairs.len(),
+        }
     }
 
     /// The same places, listed. The texts of a piece are in order.

@@ -1,3 +1,4 @@
 pub mod Answering
 pub mod Ready
 pub mod History
+pub mod Asked

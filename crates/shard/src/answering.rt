@@ -1,5 +1,5 @@
 //! What a copy answers the commands of requests, and how that is replied.
-ghost use Rattle.std.specs.Prelude.{◌≡◌, true, false, length, map, IfOk, IfErr, OnOk, option_map};
+ghost use Rattle.std.specs.Prelude.{◌≡◌, ◌⊎◌, true, false, length, map, IfOk, IfErr, OnOk, option_map};
 ghost use Rattle.doc.specs.Outcome.{Gives};
 ghost use Rattle.engine.specs.Answer.{answer_of, found};
 ghost use Rattle.engine.specs.Shown.{hit_view};
@@ -9,8 +9,11 @@ ghost use Rattle.front.specs.ReplyView.{reply_view};
 ghost use Rattle.query.specs.View.{query_view};
 ghost use Rattle.replica.specs.Fault.{fault_of, is_log};
 ghost use Rattle.replica.specs.Logged.{uses_log};
+ghost use Rattle.replica.specs.Step.{copy_step};
 ghost use Rattle.shard.specs.Answering as spec;
+ghost use Rattle.shard.specs.Asked.{bulk_taken};
 
+use crate::asked::{Asked, Form};
 use engine::{Hit as Found, Hits, Snapshot};
 use front::command::{Change, Command, Condition, Write};
 use front::reply::{Found as Document, Hit, ItemReply, Outcome, Refusal, Reply, Wrote};
@@ -20,13 +23,13 @@ use std::alloc::{AllocError, Global};
 use translog::LogDevice;
 
 /// Does a command, and tells the copy's refusal as a reply.
-pub(crate) fn reply_to<D: LogDevice>(alloc: Global, copy: &mut Copy<D>, command: Command) -> Reply
-    ensures { spec.IsAnswered copy.old (command_view command) (reply_view result) copy.new }
+pub(crate) fn reply_to<D: LogDevice>(alloc: Global, copy: &mut Copy<D>, asked: Asked) -> Reply
+    ensures { spec.IsAnswered copy.old (command_view asked) (reply_view result) copy.new }
 {
     if copy.snapshot().is_none() {
         return Reply::Refused(Refusal::Closed);
     }
-    match answer(alloc, copy, command) {
+    match answer(alloc, copy, asked) {
         Ok(reply) => reply,
         Err(fault) => Reply::Refused(refusal_of(&fault)),
     }
@@ -36,22 +39,25 @@ pub(crate) fn reply_to<D: LogDevice>(alloc: Global, copy: &mut Copy<D>, command:
 pub(crate) fn answer<D: LogDevice>(
     alloc: Global,
     copy: &mut Copy<D>,
-    command: Command,
+    asked: Asked,
 ) -> Result<Reply, CopyFault>
     requires { copy.old.closed ≡ false }
-    ensures gives { Gives fault_of (λ r. (copy.new.copy, reply_view r)) result (spec.asked copy.old.copy (command_view command)) }
+    ensures gives { Gives fault_of (λ r. (copy.new.copy, reply_view r)) result (spec.asked copy.old.copy (command_view asked)) }
     ensures open { OnOk result (copy.new.closed ≡ false) }
-    ensures part { IfErr result (λ e. is_log e ≡ false → (copy.new.closed ≡ false) × spec.IsPartOf (command_view command) copy.old.copy copy.new.copy) }
-    ensures failed { IfErr result (λ e. is_log e ≡ true → spec.HasFailedIn (command_view command) copy.old copy.new) }
+    ensures part { IfErr result (λ e. is_log e ≡ false → (copy.new.closed ≡ false) × spec.IsPartOf (command_view asked) copy.old.copy copy.new.copy) }
+    ensures failed { IfErr result (λ e. is_log e ≡ true → spec.HasFailedIn (command_view asked) copy.old copy.new) }
 {
-    match command {
-        Command::Write(write) => do_write(alloc, copy, write),
-        Command::Bulk(writes) => do_bulk(alloc, copy, writes),
-        Command::Get(id) => take(alloc, copy, Input::Get(id)),
-        Command::Search(body) => search(alloc, copy, &body),
-        Command::Count(query) => count(alloc, copy, &query),
-        Command::Refresh => take(alloc, copy, Input::Refresh),
-        Command::Promote(other) => Ok(Reply::Refused(promotion_refusal(copy.id(), other))),
+    match asked.into_form() {
+        Form::Write(write) => do_write(alloc, copy, write),
+        Form::Bulk(taken) => match taken? {
+            Some(writes) => do_bulk(alloc, copy, writes),
+            None => Ok(Reply::Refused(Refusal::Mismatch)),
+        },
+        Form::Get(id) => take(alloc, copy, Input::Get(id)),
+        Form::Search(body) => search(alloc, copy, &body),
+        Form::Count(query) => count(alloc, copy, &query),
+        Form::Refresh => take(alloc, copy, Input::Refresh),
+        Form::Promote(other) => Ok(Reply::Refused(promotion_refusal(copy.id(), other))),
     }
 }
 
@@ -102,17 +108,14 @@ fn do_write<D: LogDevice>(
 fn do_bulk<D: LogDevice>(
     alloc: Global,
     copy: &mut Copy<D>,
-    writes: Vec<Write>,
+    writes: Writes,
 ) -> Result<Reply, CopyFault>
     requires { copy.old.closed ≡ false }
-    ensures gives { Gives fault_of (λ r. (copy.new.copy, reply_view r)) result (spec.bulk_written copy.old.copy writes.items) }
+    ensures gives { Gives fault_of (λ r. (copy.new.copy, reply_view r)) result (bulk_taken copy.old.copy writes) }
     ensures open { OnOk result (copy.new.closed ≡ false) }
-    ensures part { IfErr result (λ e. is_log e ≡ false → (copy.new.closed ≡ false) × spec.IsPartOf (command_view (Command.Bulk writes)) copy.old.copy copy.new.copy) }
-    ensures failed { IfErr result (λ e. is_log e ≡ true → spec.HasFailed copy.old (spec.bulk_of writes.items) copy.new) }
+    ensures part { IfErr result (λ e. is_log e ≡ false → (copy.new.closed ≡ false) × ((copy.new.copy ≡ copy.old.copy) ⊎ (copy.new.copy ≡ spec.left_by copy.old.copy (copy_step copy.old.copy (Input.Bulk writes))))) }
+    ensures failed { IfErr result (λ e. is_log e ≡ true → spec.HasFailed copy.old (Input.Bulk writes) copy.new) }
 {
-    let Some(writes) = Writes::of(writes_of(alloc, writes)?) else {
-        return Ok(Reply::Refused(Refusal::Mismatch));
-    };
     let output = copy.step(alloc, Input::Bulk(writes))?;
     Ok(bulk_reply(alloc, output)?)
 }

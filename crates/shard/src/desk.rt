@@ -10,6 +10,7 @@ ghost use Rattle.front.specs.declared.reply.Refusal.TheVariants.{NoMemory};
 ghost use Rattle.shard.specs.History.{EndsIn, IsDone, IsLooked, IsReplyAt, IsSeenAt, IsSeenOf, IsTold};
 
 use crate::answering::{count_of, search_of};
+use crate::asked::Asked;
 use crate::history::{Begun, HistoryName, Kept, Label, Reached};
 use crossbeam_channel::{Receiver, Sender, unbounded};
 use doc::{Mapping, Source};
@@ -250,7 +251,7 @@ impl<D: LogDevice, N: HistoryName> SharedShard<D, N> {
         seen.reply_to(self.alloc, known, command)
     }
 
-    /// Has the index do a command, and searches see what it shows then.
+    /// Has the index do a command, and searches see what it shows then. The command is made ready for the copy before the lock is taken.
     fn call<R: Wait>(
         &self,
         rt: &R,
@@ -260,8 +261,9 @@ impl<D: LogDevice, N: HistoryName> SharedShard<D, N> {
         ensures { IsDone known.now (command_view command) (reply_view result.0) result.1 }
     {
         let refreshes = is_refresh(&command);
+        let asked = Asked::of(self.alloc, command);
         let mut held = self.shard.lock(rt);
-        let told = held.call(known, command);
+        let told = held.call(known, asked);
         drop(self.show(rt, &*held));
         if refreshes {
             self.begin_merge(rt, &*held);
@@ -280,9 +282,8 @@ impl<D: LogDevice, N: HistoryName> SharedShard<D, N> {
         let Some(unshown) = self.begin_refresh(rt) else {
             return false;
         };
-        let built = unshown.build(builder);
-        drop(unshown);
-        match built {
+        // What it holds is let go of behind the lock, where it would be without it.
+        match unshown.build(builder) {
             Ok(prebuilt) => self.finish_refresh(rt, prebuilt),
             Err(_) => false,
         }

@@ -8,11 +8,12 @@ ghost use Rattle.replica.specs.Logged.{searched};
 ghost use Rattle.replica.specs.Searched.{IsSwapOf};
 ghost use Rattle.shard.specs.History.{AreUnder, EndsIn, IsDone, IsHistory, DiffersInSegments, IsNext, IsSeenOf, DiffersInPoint};
 
+use crate::asked::Asked;
 use crate::shard::Shard;
 use chronicle::{Chronicle, Mark, Writer};
 use doc::Mapping;
 use engine::{Merged, Merging, Prebuilt, Snapshot, Unshown};
-use front::{Command, Reply, Service};
+use front::{Reply, Service};
 use std::alloc::{AllocError, Global};
 use std::marker::{Brand, Model, PhantomData};
 use std::sync::Arc;
@@ -258,12 +259,12 @@ impl<D: LogDevice, N: HistoryName> Kept<D, N> {
 
     /// Does a command, for one who knows so much of the history, and tells how far this goes then.
     #[tactic(auto, using(crate::proofs::Histories::next_by, crate::proofs::Histories::done_by))]
-    pub(crate) fn call(&mut self, known: &Reached<D, N>, command: Command) -> (Reply, Reached<D, N>)
-        ensures done { IsDone known.now (command_view command) (reply_view result.0) result.1 }
+    pub(crate) fn call(&mut self, known: &Reached<D, N>, asked: Asked) -> (Reply, Reached<D, N>)
+        ensures done { IsDone known.now (command_view asked) (reply_view result.0) result.1 }
         ensures ends { EndsIn self.new result.1 }
     {
         self.writer.has(&self.chronicle, &known.mark);
-        let reply = self.shard.call(command);
+        let reply = self.shard.answer(asked);
         self.shard.is_logged();
         let mark = self.writer.append(&self.chronicle, &self.shard);
         self.last = self.last.behind(mark);

@@ -2,6 +2,7 @@
 #![tactic(auto)]
 
 pub mod answering;
+mod asked;
 pub mod desk;
 pub mod history;
 mod ready;

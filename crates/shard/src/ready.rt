@@ -1,12 +1,10 @@
 //! Making a copy ready for a command.
 ghost use Rattle.std.specs.Prelude.{◌≡◌, ◌⊎◌, false, IfNone, IfOk, IfSome, OnErr, OnOk};
-ghost use Rattle.front.specs.CommandView.{command_view};
 ghost use Rattle.replica.specs.Logged.{IsSame};
 ghost use Rattle.shard.specs.Ready as spec;
 ghost use Rattle.shard.specs.Ready.{IsDenial, IsLeading, IsOpen, IsPromotion, IsReady, IsReopening, IsTaking, IsTold, IsUnasked, IsUnheard, IsUnopened, IsUnready, IsUntold};
 ghost use Rattle.master.specs.Logged as ruler;
 
-use front::Command;
 use master::{Master, MasterFault, Request};
 use op::Msg;
 use replica::{Copy, CopyFault, Input, Role};
@@ -27,20 +25,6 @@ pub(crate) fn make_ready<D: LogDevice>(
     reopen(alloc, copy)?;
     copy.is_logged();
     lead(alloc, copy, master, writes)
-}
-
-/// Whether a command is a write.
-pub(crate) fn is_write(command: &Command) -> bool
-    ensures { result ≡ spec.is_write (command_view command.now) }
-{
-    match command {
-        Command::Write(_) | Command::Bulk(_) => true,
-        Command::Get(_)
-        | Command::Search(_)
-        | Command::Count(_)
-        | Command::Refresh
-        | Command::Promote(_) => false,
-    }
 }
 
 /// Whether a copy in this role takes writes.

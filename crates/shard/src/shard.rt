@@ -4,15 +4,18 @@ ghost use Rattle.std.specs.Arc.{arc_value};
 ghost use Rattle.serde_json.specs.View.{view};
 ghost use Rattle.doc.specs.Fault.{fault_of};
 ghost use Rattle.doc.specs.Outcome.{Gives};
+ghost use Rattle.front.specs.CommandView.{command_view};
+ghost use Rattle.front.specs.ReplyView.{reply_view};
 ghost use Rattle.shard.specs.Answering.{begun_under};
 ghost use Rattle.shard.specs.Ready as spec;
-ghost use Rattle.shard.specs.Ready.{IsReady, IsUnready};
+ghost use Rattle.shard.specs.Ready.{IsReady, IsServed, IsUnready};
 ghost use Rattle.replica.specs.Logged.{searched, IsLogged};
 ghost use Rattle.replica.specs.Searched.{IsRefreshTo, IsSwapOf};
 ghost use Rattle.shard.specs.History.{seen_of};
 
 use crate::answering::reply_to;
-use crate::ready::{is_primary, is_write, make_ready};
+use crate::asked::Asked;
+use crate::ready::{is_primary, make_ready};
 use doc::{DocFault, Mapping};
 use engine::{Merged, Merging, Prebuilt, Snapshot, Unshown};
 use front::reply::Refusal;
@@ -90,6 +93,21 @@ impl<D: LogDevice> Shard<D> {
         Ok(self.copy.snapshot().is_some() && is_primary(self.copy.role()))
     }
 
+    /// Does a command.
+    #[tactic(auto, using(crate::proofs::Mappings::unready_under, crate::proofs::Mappings::asked_under))]
+    pub(crate) fn answer(&mut self, asked: Asked) -> Reply
+        ensures served { IsServed self.old.copy self.old.master (command_view asked) (reply_view result) self.new.copy self.new.master }
+        ensures name { string_bytes self.new.name ≡ string_bytes self.old.name }
+        ensures mapping { self.new.copy.copy.mapping ≡ self.old.copy.copy.mapping }
+    {
+        let writes = asked.is_write();
+        if make_ready(self.alloc, &mut self.copy, &mut self.master, writes).is_err() {
+            return Reply::Refused(Refusal::NoMemory);
+        }
+        self.copy.is_logged();
+        reply_to(self.alloc, &mut self.copy, asked)
+    }
+
     /// While the copy is open its log is that of its records.
     pub(crate) fn is_logged(&self)
         ensures { IsLogged self.now.copy }
@@ -157,13 +175,7 @@ impl<D: LogDevice> Service for Shard<D> {
         self.copy.mapping()
     }
 
-    #[tactic(auto, using(crate::proofs::Mappings::unready_under, crate::proofs::Mappings::asked_under))]
     fn call(&mut self, command: Command) -> Reply {
-        let writes = is_write(&command);
-        if make_ready(self.alloc, &mut self.copy, &mut self.master, writes).is_err() {
-            return Reply::Refused(Refusal::NoMemory);
-        }
-        self.copy.is_logged();
-        reply_to(self.alloc, &mut self.copy, command)
+        self.answer(Asked::of(self.alloc, command))
     }
 }

@@ -84,7 +84,7 @@ fn with_clients<'a>(alloc: Global, command: Command<'a>) -> Result<Command<'a>, 
         alloc,
         command,
         "threads",
-        "How many threads answer requests, 1 to 64; where none is given 4, or 64 with `--sync together`",
+        "How many threads answer requests, 1 to 64; where none is given 8, or 64 with `--sync together`",
         1,
         64,
     )?;

@@ -12,7 +12,7 @@ pub returns-in-Err : goal.returns-in-Err
 returns-in-Err c = λ f t.
     let items = c.self.inside.documents.items in
     let id = c.args.id.now in
-    let absent = rw c.deref.ensures.value at c.in-Err.ensures.absent in
+    let absent = rw (c.deref.ensures.value, c.id.ensures) at c.in-Err.ensures.absent in
     subst (λ (s : SnapshotData). map t s.documents ≡ map (λ d. t d || is_id d.0 id) s.documents) c.self.view_is (none_is shown_view id t items absent)
 
 -- nor has one the id whose bit isn't set

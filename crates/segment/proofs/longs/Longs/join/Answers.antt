@@ -9,6 +9,6 @@ pub returns : goal.returns
 returns c = λ z.
     let first = c.in_ok-listed.listed.items in
     let more = c.in_ok-more.more.items in
-    ap (places_listed (int_eq z)) c.in_ok-append.ensures.items ∙ listed-append (int_eq z) first more
+    ap (places_listed (int_eq z)) c.in_ok-append.ensures.items ∙ ap (λ es. places_listed (int_eq z) (es ++ more)) c.in_ok-reserve_exact.ensures.items ∙ listed-append (int_eq z) first more
     ∙ ap (λ ps. ps ++ places_listed (int_eq z) more) (c.in_ok-listed.ensures z ∙ ap (λ l. places_so_far_long l z) c.replace.ensures.value)
     ∙ ap (λ ps. places_so_far_long c.args.self.now z ++ ps) (c.in_ok-more.ensures z)
