@@ -17,7 +17,7 @@ ghost use Rattle.node.specs.Stands.{LastStands};
 use crate::index::IndexName;
 use crate::searching::CopySearcher;
 use doc::DocId;
-use engine::Merged;
+use engine::Merging;
 use node::{EndedCopy, Got, Held, NodeFault, OnDisk, Pass, Receipt};
 use published::{Name, Note, Place, Publisher, Searcher, Showing, ShownRecords, Unnamed};
 use replica::{Copy, Input, Write};
@@ -234,12 +234,20 @@ impl<D: LogDevice, J: IndexName> CopyCell<D, J> {
         self.publisher.publish(rt, alloc, showing)
     }
 
-    /// Puts a merged part in place of those that it is made of, as the copy does; it makes no entry. Searchers look through it from the next refresh on.
+    /// Begins a merge of segments that go well into one, where searches look through many, for `finish_merge`; it makes no entry.
     #[tactic(auto, using(crate::proofs::Refusing::same_published))]
-    pub fn swap_merged(&mut self, alloc: Global, merged: Merged) -> Result<bool, AllocError>
+    pub fn begin_merge_beside(&mut self, alloc: Global) -> Result<Option<Merging>, AllocError>
         ensures { self.new ≡ self.old }
     {
-        self.held.swap_merged(alloc, merged)
+        self.held.begin_merge_beside(alloc)
+    }
+
+    /// Puts the part in place that was built for it, without comparing documents; it makes no entry. Searchers look through it from the next refresh on.
+    #[tactic(auto, using(crate::proofs::Refusing::same_published))]
+    pub fn finish_merge(&mut self, alloc: Global) -> Result<bool, AllocError>
+        ensures { self.new ≡ self.old }
+    {
+        self.held.finish_merge(alloc)
     }
 
     /// A write, the refresh behind it, and a note of what searches show then, which is all records of the copy. A refused write has no refresh; where

@@ -70,7 +70,7 @@ impl<D: LogDevice, G: Gate, J: IndexName> Worker<D, G, J> {
         if self.merges.is_under_way || !self.is_open() {
             return;
         }
-        if let Ok(Some(merging)) = self.copy().begin_next_merge(self.alloc) {
+        if let Ok(Some(merging)) = self.cell.begin_merge(self.alloc) {
             self.merges.begin(rt, merging);
         }
     }
@@ -79,10 +79,10 @@ impl<D: LogDevice, G: Gate, J: IndexName> Worker<D, G, J> {
     /// refresh begins it.
     pub(crate) fn put_merged<R: Wait>(&mut self, rt: &R, merged: Option<Merged>) {
         self.merges.is_under_way = false;
-        let Some(merged) = merged else {
+        if merged.is_none() {
             return;
-        };
-        if let Ok(true) = self.cell.swap_merged(self.alloc, merged) {
+        }
+        if let Ok(true) = self.cell.finish_merge(self.alloc) {
             self.show_merged(rt);
         }
         self.begin_merge(rt);

@@ -5,7 +5,7 @@ ghost use Rattle.cluster.specs.Owned.{IsOwnPass};
 use crate::left::Left;
 use cell::{CopyCell, CopySearcher, IndexName};
 use doc::DocId;
-use engine::Merged;
+use engine::Merging;
 use node::{Got, Held, NodeFault, OnDisk, Pass, Receipt};
 use replica::Input;
 use std::alloc::{AllocError, Global};
@@ -122,12 +122,20 @@ impl<D: LogDevice, J: IndexName> OwnCell<D, J> {
         self.cell.copy_searcher()
     }
 
-    /// Puts a merged part in place of those that it is made of; it makes no entry.
+    /// Begins a merge of parts that go well into one, where searches look through many; it makes no entry.
     #[tactic(auto, using(crate::proofs::Owned::own_same))]
-    pub(crate) fn swap_merged(&mut self, alloc: Global, merged: Merged) -> Result<bool, AllocError>
+    pub(crate) fn begin_merge(&mut self, alloc: Global) -> Result<Option<Merging>, AllocError>
         ensures { self.new ≡ self.old }
     {
-        self.cell.swap_merged(alloc, merged)
+        self.cell.begin_merge_beside(alloc)
+    }
+
+    /// Puts the part in place that was built for it; it makes no entry.
+    #[tactic(auto, using(crate::proofs::Owned::own_same))]
+    pub(crate) fn finish_merge(&mut self, alloc: Global) -> Result<bool, AllocError>
+        ensures { self.new ≡ self.old }
+    {
+        self.cell.finish_merge(alloc)
     }
 
     /// What is left of it. It waits for searches that are just taking what is shown.

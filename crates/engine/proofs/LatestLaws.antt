@@ -1,7 +1,7 @@
 -- The documents of the last operation on each id are those of all operations.
 use denote.Ref.{Bor}
 use lib.Dec.{T}
-use Rattle.std.proofs.Common.{◌≡◌, ◌<◌, ◌+◌, ◌++◌, ◌||◌, ℕ, length, take, get_or, Bool, true, false, cond, List, [], ◌∷◌, append_assoc, append-nil, Option, Some, None, BTreeMap, map, option_map, if◌then◌else◌, refl, sym, ap, ◌∙◌, subst, true≢false}
+use Rattle.std.proofs.Common.{◌≡◌, ◌<◌, ◌+◌, ◌++◌, ◌||◌, ℕ, length, take, get_or, Bool, true, false, cond, List, [], ◌∷◌, append_assoc, append-nil, Option, Some, None, BTreeMap, option_map, if◌then◌else◌, refl, sym, ap, ◌∙◌, subst, true≢false}
 use Rattle.std.specs.List.{AllByRecursion}
 use Rattle.std.specs.List.Sorted.{IsStrictlySortedBy}
 use Rattle.std.specs.Option.{IfSome, option_or}

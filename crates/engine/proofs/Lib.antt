@@ -14,6 +14,7 @@ pub mod SnapshotLaws
 pub mod PageLaws
 pub mod SwapLaws
 pub mod PublishedLaws
+pub mod BegunLaws
 pub mod AheadLaws
 pub mod LivingLaws
 pub mod ChoosingLaws

@@ -121,6 +121,10 @@ second_of : (a b : Bool) → (a && b) ≡ true → b ≡ true
 second_of true b is = is
 second_of false b is = cc
 
+-- those that are taken don't bear the greatest number
+pub taken-small : (taken : List Published) → are_taken taken ≡ true → All (λ (s : Published). nat_lt s.number greatest ≡ true) taken
+taken-small taken are = all-of (λ (s : Published). nat_lt s.number greatest) taken (second_of (nat_le 2 (length taken)) (list_all (λ (s : Published). nat_lt s.number greatest) taken) are)
+
 -- those that were taken are there no more: they were in use, and don't bear the greatest number
 pub swapped : (taken : List Published) (old new : Segments) → are_taken taken ≡ true → AreBelow old.next old.published → IsReplaced taken old.next old.mapping old.published new.published
     → new.next ≡ next_after old.next → IsSwapped taken old new
@@ -132,7 +136,7 @@ swapped taken old new are below is next = record {
 }
   where
     small : All (λ (s : Published). nat_lt s.number greatest ≡ true) taken
-    small = all-of (λ (s : Published). nat_lt s.number greatest) taken (second_of (nat_le 2 (length taken)) (list_all (λ (s : Published). nat_lt s.number greatest) taken) are)
+    small = taken-small taken are
 
     fresh : (s : Published) → Contains old.published s → nat_lt s.number greatest ≡ true → s.number ≡ old.next → ⊥
     fresh s there less same = elim (nat_lt old.next greatest) as (λ b. nat_lt old.next greatest ≡ b → ⊥) [

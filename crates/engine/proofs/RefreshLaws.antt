@@ -1,30 +1,26 @@
 -- What changes where only some ids have new operations.
 use Rattle.std.proofs.Common.{◌≡◌, ◌≤◌, ◌<◌, ◌+◌, ◌-◌, ◌++◌, ℕ, zero, suc, ℤ, length, map, take, drop, get_or, length-drop, arith, Bool, true, false, cond, List, [], ◌∷◌, Option, Some, None, if◌then◌else◌, refl, sym, ap, ◌∙◌}
 use Rattle.std.specs.Prelude.{is_some, not, nat_lt, ◌||◌, fold}
-use Rattle.std.specs.declared.cmp.Ordering.{Ordering}
-use Rattle.std.specs.declared.cmp.Ordering.TheVariants.{Less, Equal, Greater}
-use Rattle.std.specs.Ordering.{is_eq}
 use Rattle.std.proofs.lemmas.List.{take_all, take-append-drop}
 use Rattle.std.proofs.lemmas.List.Sums.{fold_more, fold-append}
 use Rattle.op.specs.declared.record.Record.{Record}
 use Rattle.op.specs.declared.record.Record.TheVariants.{Op as Kept}
 use Rattle.op.specs.Records.{after_record, operations, shown}
-use Rattle.engine.proofs.ChosenLaws.{among-more}
 use Rattle.std.specs.List.{AllPass}
 use Rattle.std.specs.Option.{option_or}
 use Rattle.std.specs.Cmp.Lexicographic.{nat_list_cmp_total}
-use Rattle.std.specs.FinMap.Entries.{is_sorted, same_entries, is_sorted-where_key, is_sorted-put, find-put, find-where_key, where_key}
+use Rattle.std.specs.FinMap.Entries.{is_sorted, same_entries, is_sorted-where_key, find-where_key, where_key}
 use Rattle.std.proofs.lemmas.Map.Lookups.{exact_bytes}
-use Rattle.doc.specs.Id.{Id, id_cmp, is_id}
+use Rattle.doc.specs.Id.{Id, id_cmp}
 use Rattle.op.specs.declared.operation.Op.{Op}
-use Rattle.op.specs.Documents.{Document, Documents, document_at, documents, document_of}
+use Rattle.op.specs.Documents.{Documents, document_at, documents, document_of}
 use Rattle.op.specs.Operations.{placed, add, op_at, is_on, last_on}
 use Rattle.op.proofs.DocumentLaws.{document_at-documents, is_sorted-documents}
 use Rattle.engine.specs.Live.{changed_live, unchanged}
 use Rattle.engine.specs.Parts.{merged, without, is_among, has_id}
 use Rattle.engine.specs.Published.{Published}
 use Rattle.engine.specs.SnapshotChange.{is_op}
-use Rattle.engine.proofs.PartLaws.{true_T, T_true, find-merged, in_order-merged, or_none}
+use Rattle.engine.proofs.PartLaws.{true_T, find-merged, in_order-merged, or_none}
 use Rattle.engine.proofs.ApartLaws.{find-without}
 
 none_of : (b : Bool) (l : Option Op) (o : Op) → b ≡ false → option_or l (if b then Some o else None) ≡ l

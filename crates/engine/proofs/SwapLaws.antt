@@ -16,7 +16,7 @@ use Rattle.doc.specs.Id.{Id, id_cmp}
 use Rattle.doc.specs.Mapping.{MappingData}
 use Rattle.op.specs.Documents.{Documents, document_at}
 use Rattle.engine.specs.Parts.{PartData, all_published, documents_of_parts, published_of, woven, merged, has_id, times, AreParts, AllInOrder, IsSplit, none, stays, goes}
-use Rattle.engine.specs.Published.{Published, IsLeft, IsReplaced, nothing, remains, was_taken}
+use Rattle.engine.specs.Published.{Published, AreTold, IsLeft, IsReplaced, nothing, remains, was_taken}
 use Rattle.engine.proofs.PartLaws.{T_true, find-merged, head_is, in_order-merged, or_none, or_or, tail_is}
 use Rattle.engine.proofs.ApartLaws.{has-woven, in_order-woven, none_has}
 
@@ -265,6 +265,10 @@ tested-more p ps i x lt is all one =
 -- what all have one has
 pub all-at : (P : Published → Type 0) (ps : List PartData) (i : ℕ) (x : PartData) → i < length ps → x ≡ get_or ps i x → All P (all_published ps) → P (published_of x)
 all-at P ps i x lt is all = subst P (get_or-map published_of ps i x (published_of x) lt ∙ ap published_of (sym is)) (all i (published_of x) (omega (arith, lt, length-map ps published_of)))
+
+-- it is told by its number among those that were taken
+pub told-at : (taken : List Published) (ps : List PartData) (i : ℕ) (x : PartData) → i < length ps → x ≡ get_or ps i x → AreTold taken (all_published ps) → All (λ (t : Published). t.number ≡ x.number → t ≡ published_of x) taken
+told-at taken ps i x lt is told = all-at (λ (s : Published). All (λ (t : Published). t.number ≡ s.number → t ≡ s) taken) ps i x lt is told
 
 -- each is among all
 pub there-at : (ps : List PartData) (i : ℕ) (x : PartData) → i < length ps → x ≡ get_or ps i x → Contains (all_published ps) (published_of x)

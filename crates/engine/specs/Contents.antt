@@ -5,7 +5,7 @@ use Rattle.op.specs.declared.record.Record.{Record}
 use Rattle.op.specs.Documents.{Documents, documents}
 use Rattle.op.specs.Records.{shown}
 use Rattle.engine.specs.Answer.{SnapshotData}
-use Rattle.engine.specs.Published.{Published, Segments}
+use Rattle.engine.specs.Published.{Published, Segments, IsBegun}
 
 -- the mapping, the records, and how many of them searches show
 pub record Contents : Type 0 where
@@ -40,6 +40,10 @@ pub record ShowingData : Type 0 where
 -- the segments that they look through
 abbrev pub segments_shown : ShowingData → Segments
 segments_shown s = record { mapping = s.snapshot.mapping; published = s.published; live = s.live; next = s.next }
+
+-- a merge that was begun before may be finished after
+abbrev pub KeepsBegun : ShowingData → ShowingData → Type 0
+KeepsBegun old new = (taken : List Published) → IsBegun old.next old.published taken → IsBegun new.next new.published taken
 
 -- searches show the documents of the records up to the point
 pub record Shows (m : MappingData) (rs : List Record) (point : ℕ) (s : SnapshotData) : Type 0 where

@@ -1,5 +1,5 @@
 -- The segments that searches look through, and merges of them.
-use Rattle.std.specs.Prelude.{◌≡◌, ◌<◌, ◌≤◌, ◌+◌, ◌++◌, ◌&&◌, ℕ, Bool, List, [], ◌∷◌, All, Contains, min, length, nat_le, nat_lt, filter, ◌==◌, if◌then◌else◌}
+use Rattle.std.specs.Prelude.{◌≡◌, ◌<◌, true, ◌≤◌, ◌+◌, ◌++◌, ◌&&◌, ℕ, Bool, List, [], ◌∷◌, All, Contains, min, length, nat_le, nat_lt, filter, ◌==◌, if◌then◌else◌}
 use Rattle.std.specs.List.{list_all, list_any}
 use Rattle.doc.specs.Mapping.{MappingData}
 use Rattle.op.specs.Documents.{Documents}
@@ -80,6 +80,22 @@ pub record IsSwapped (taken : List Published) (old new : Segments) : Type 0 wher
   pub gone : All (λ s. Contains old.published s → Contains new.published s → ⊥) taken
   pub next : new.next ≡ next_after old.next
   pub below : AreBelow new.next new.published
+
+-- some segments were merged, at least one of which was there
+pub record HasMerged (old new : Segments) : Type 0 where
+  pub taken : List Published
+  pub some : taken ≡ [] → ⊥
+  pub swapped : IsSwapped taken old new
+
+-- where a segment bears the number of one that was taken, it is that one
+abbrev pub AreTold : List Published → List Published → Type 0
+AreTold taken ss = All (λ s. All (λ t. t.number ≡ s.number → t ≡ s) taken) ss
+
+-- a merge may take these segments, and by their numbers alone they are told among those that are there
+pub record IsBegun (next : ℕ) (ss taken : List Published) : Type 0 where
+  pub are : are_taken taken ≡ true
+  pub below : All (λ t. t.number < next) taken
+  pub told : AreTold taken ss
 
 -- some of these segments, in their order
 pub data AreSome : List Published → List Published → Type 0 where

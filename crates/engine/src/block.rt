@@ -16,6 +16,7 @@ ghost use Rattle.engine.specs.Parts.{is_among};
 ghost use Rattle.engine.specs.Shown.{shown_view};
 
 use crate::documents::Entry;
+use crate::handed::HasDocuments;
 use crate::id_filter::IdFilter;
 use crate::sought::Sought;
 use crate::strands::places_among;
@@ -99,6 +100,12 @@ impl Model for Block {
     ghost invariant = { λ b. IsBlock b.documents.items b.segment.sources b.ids };
 }
 
+impl HasDocuments for Arc<Block, Global> {
+    ghost use Rattle.std.specs.Arc.{arc_value};
+
+    ghost documents = { λ b. (arc_value b).documents };
+}
+
 impl Block {
     /// The documents of entries, read under the mapping.
     pub(crate) fn of<
@@ -171,13 +178,6 @@ impl Block {
     {
         self.segment.mapping().is(other.segment.mapping())
             && are_same(&self.documents, &other.documents)
-    }
-
-    /// Whether its documents are these.
-    pub(crate) fn is_of(&self, documents: &[Shown]) -> bool
-        ensures { IsTrue result ↔ (self.now.documents ≡ map shown_view documents.now) }
-    {
-        are_same(&self.documents, documents)
     }
 
     /// Whether its documents were read under the mapping.
@@ -371,20 +371,6 @@ pub(crate) fn entry_of(shown: &Shown) -> Entry<'_>
         version: shown.version,
         source: &shown.source,
     }
-}
-
-/// Documents where they stand, as entries.
-pub(crate) fn entries_in<'a>(
-    alloc: Global,
-    documents: &'a [Shown],
-) -> Result<Vec<Entry<'a>>, AllocError>
-    ensures { IfOk result (λ v. map entry_view v.items ≡ map shown_view documents.now) }
-{
-    let mut entries = Vec::with_capacity(alloc, documents.len())?;
-    for document in documents {
-        entries.push(entry_of(document))?;
-    }
-    Ok(entries)
 }
 
 /// Documents where they stand.

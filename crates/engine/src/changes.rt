@@ -1,38 +1,41 @@
 //! What came behind what searches show.
-ghost use Rattle.std.specs.Prelude.{◌≡◌, ◌≤◌, true, None, if◌then◌else◌, length, map, IfOk, IfSome};
-ghost use Rattle.std.specs.FinMap.Entries.{is_sorted};
-ghost use Rattle.doc.specs.Id.{Id, id_cmp};
-ghost use Rattle.op.specs.Documents.{document_at, documents};
+ghost use Rattle.std.specs.Prelude.{◌≡◌, ◌≤◌, None, if◌then◌else◌, length, map, IfOk, IfSome};
+ghost use Rattle.doc.specs.Id.{Id};
+ghost use Rattle.op.specs.Operations.{last_on};
 ghost use Rattle.op.specs.Records.{operations};
 ghost use Rattle.engine.specs.Changes.{AreAt, LeadsOn};
+ghost use Rattle.engine.specs.Entry.{entry_view};
 ghost use Rattle.engine.specs.Parts.{is_among};
-ghost use Rattle.engine.specs.Shown.{shown_view};
 
-use crate::block::{Shown, shown_of};
-use crate::documents::documents_at;
+use crate::documents::{Entry, documents_of};
+use crate::handed::HasDocuments;
 use crate::history::History;
 use doc::DocId;
+use op::Op;
 use std::alloc::{AllocError, Global};
 use std::marker::Model;
 
-/// The ids that operations wrote behind what searches show, and the documents that stand there, as of so many records.
+/// The ids that operations wrote behind what searches show, and the last operations on them, as of so many records.
 #[derive(Drop)]
 pub(crate) struct Changes {
     point: usize,
     ids: Vec<DocId>,
-    documents: Vec<Shown>,
+    last: Vec<Op>,
 }
 
 impl Model for Changes {
-    ghost use Rattle.std.specs.Prelude.{map};
+    ghost use Rattle.op.specs.Documents.{documents};
     ghost use Rattle.engine.specs.Changes.{AreAt, ChangesData};
-    ghost use Rattle.engine.specs.Shown.{shown_view};
 
     ghost Value = { ChangesData };
 
-    ghost view = { λ c. record { point = c.point; ids = c.ids.items; documents = map shown_view c.documents.items } };
+    ghost view = { λ c. record { point = c.point; ids = c.ids.items; documents = documents c.last.items } };
 
-    ghost invariant = { λ c. AreAt c.ids.items (map shown_view c.documents.items) };
+    ghost invariant = { λ c. AreAt c.ids.items (documents c.last.items) };
+}
+
+impl HasDocuments for Changes {
+    ghost documents = { λ c. c.documents };
 }
 
 impl Changes {
@@ -50,11 +53,11 @@ impl Changes {
         let Some(ids) = history.ids_since(alloc, point)? else {
             return Ok(None);
         };
-        let documents = shown_at(alloc, history, &ids)?;
+        let last = last_at(alloc, history, &ids)?;
         Ok(Some(Changes {
             point: history.len(),
             ids,
-            documents,
+            last,
         }))
     }
 
@@ -72,19 +75,24 @@ impl Changes {
         &self.ids
     }
 
-    pub(crate) fn documents(&self) -> &[Shown]
-        ensures documents { map shown_view result.now ≡ self.now.documents }
+    /// The documents that stand at the ids, in their order.
+    pub(crate) fn documents(&self, alloc: Global) -> Result<Vec<Entry<'_>>, AllocError>
+        ensures documents { IfOk result (λ v. map entry_view v.items ≡ self.now.documents) }
         ensures are { AreAt self.now.ids self.now.documents }
     {
-        &self.documents
+        documents_of(alloc, &self.last)
     }
 }
 
-/// The documents that stand at some ids.
-fn shown_at(alloc: Global, history: &History, ids: &[DocId]) -> Result<Vec<Shown>, AllocError>
-    ensures sorted { IfOk result (λ v. is_sorted id_cmp (map shown_view v.items) ≡ true) }
-    ensures found { IfOk result (λ v. (id : Id) → document_at (map shown_view v.items) id ≡ (if is_among ids.now id then document_at (documents (operations history.now.records)) id else None)) }
+/// The last operations on some ids.
+fn last_at(alloc: Global, history: &History, ids: &[DocId]) -> Result<Vec<Op>, AllocError>
+    ensures { IfOk result (λ v. (id : Id) → last_on v.items id ≡ (if is_among ids.now id then last_on (operations history.now.records) id else None)) }
 {
-    let entries = documents_at(alloc, history, ids)?;
-    shown_of(alloc, &entries)
+    let mut last = Vec::with_capacity(alloc, ids.len())?;
+    for id in ids {
+        if let Some(op) = history.last(id) {
+            last.push(op.copy(alloc)?)?;
+        }
+    }
+    Ok(last)
 }

@@ -12,20 +12,20 @@ ghost use Rattle.engine.specs.Last.{last_of};
 ghost use Rattle.segment.specs.Builds.{Builds};
 ghost use Rattle.engine.specs.Contents.{contents_of, segments_of};
 ghost use Rattle.engine.specs.Live.{changed_live, changed_segments, is_live, live_of, small_count, woven, AreLive, FitOneMerge};
-ghost use Rattle.engine.specs.Published.{next_after, numbered, taken_of, AreBelow, AreGone, IsFronted, IsSwapped};
+ghost use Rattle.engine.specs.Published.{next_after, numbered, taken_of, AreBelow, AreGone, HasMerged, IsFronted, IsSwapped};
 ghost use Rattle.engine.specs.SnapshotChange.{changed, is_written, next_segment, ArePublished, IsNumbered, IsRefreshed, IsSnapshotChange, OnlyOps};
 ghost use Rattle.engine.specs.Staged.{put_in, records_of, IsStagedFrom};
 
 use crate::ahead::Ahead;
 use crate::block::Block;
-use crate::changes::Changes;
 use crate::documents::documents_at;
 use crate::history::{Applied, Found, History};
 use crate::listed::Listed;
 use crate::showing::Showing;
 use crate::snapshot::Snapshot;
 use crate::staged::{SnapshotChange, Staged};
-use crate::swapping::{Merged, Merging};
+use crate::swapping::{BegunMerge, Merged, Merging, are_taken};
+use crate::unshown::Begun;
 use doc::{DocId, Mapping, Source};
 use op::{Body, Op, Record};
 use segment::Segment;
@@ -53,7 +53,9 @@ pub struct Engine {
     showing: Showing,
     point: usize,
     /// What a refresh that was begun will show.
-    pending: Option<Arc<Changes, Global>>,
+    pending: Option<Begun>,
+    /// A merge that was begun beside.
+    merging: Option<BegunMerge>,
 }
 
 impl Drop for Engine {
@@ -64,6 +66,7 @@ impl Drop for Engine {
             showing: _showing,
             point: _,
             pending: _pending,
+            merging: _merging,
         } = self;
     }
 }
@@ -73,6 +76,7 @@ impl Model for Engine {
     ghost use Rattle.std.specs.Arc.{arc_value};
     ghost use Rattle.engine.specs.Changes.{LeadsOn};
     ghost use Rattle.engine.specs.Contents.{EngineData, Shows};
+    ghost use Rattle.engine.specs.Published.{IsBegun};
 
     ghost Value = { EngineData };
 
@@ -85,7 +89,7 @@ impl Model for Engine {
       next = e.showing.next;
     } };
 
-    ghost invariant = { λ e. Shows (arc_value e.mapping) e.history.records e.point e.showing.snapshot × (e.history.begin ≤ e.point) × IfSome e.pending (λ c. LeadsOn e.history.records e.point (arc_value c)) };
+    ghost invariant = { λ e. Shows (arc_value e.mapping) e.history.records e.point e.showing.snapshot × (e.history.begin ≤ e.point) × IfSome e.pending (LeadsOn e.history.records e.point) × IfSome e.merging (λ l. IsBegun e.showing.next e.showing.published (arc_value l).published) };
 }
 
 impl Engine {
@@ -135,6 +139,7 @@ impl Engine {
             showing,
             point,
             pending: None,
+            merging: None,
         })
     }
 
@@ -315,6 +320,50 @@ impl Engine {
         self.showing.begin_merge_of(alloc, numbers)
     }
 
+    /// The same, to be put in place by `finish_merge`, while this is no copy of what it was begun of. It changes nothing yet, but that a merge which was begun before
+    /// so can't be finished any more.
+    pub fn begin_merge_beside(
+        &mut self,
+        alloc: Global,
+        numbers: &[u64],
+    ) -> Result<Merging, AllocError>
+        ensures same { self.new ≡ self.old }
+        ensures merge { IfOk result (λ m. m ≡ record {
+          taken = taken_of (numbered numbers.now self.old.published);
+          mapping = self.old.mapping;
+          documents = woven (live_of numbers.now self.old.published self.old.live);
+        }) }
+    {
+        let begun = self.showing.take(alloc, numbers)?;
+        let parts = begun.again()?;
+        self.merging = if are_taken(begun.given().parts()) {
+            Some(begun)
+        } else {
+            None
+        };
+        Ok(Merging { parts })
+    }
+
+    /// Puts the segment in place that was built for the merge begun last by `begin_merge_beside`, as `swap_merged` does, in place of those that are there still; no
+    /// documents are compared, since they are those of this engine. Where none is there, none was built or none was begun, it is `false` and all stay.
+    pub fn finish_merge(&mut self, alloc: Global) -> Result<bool, AllocError>
+        ensures merged { IfOk result (λ b. b ≡ true → HasMerged (segments_of self.old) (segments_of self.new)) }
+        ensures stays { IfOk result (λ b. b ≡ false → self.new ≡ self.old) }
+        ensures contents { contents_of self.new ≡ contents_of self.old }
+        ensures err { OnErr result (self.new ≡ self.old) }
+    {
+        let Some(begun) = self.merging.take() else {
+            return Ok(false);
+        };
+        match self.showing.swapped_beside(alloc, &begun)? {
+            Some(after) => {
+                self.showing = after;
+                Ok(true)
+            }
+            None => Ok(false),
+        }
+    }
+
     /// The numbers of small segments that go well into one, where searches look through many of them.
     pub fn to_merge(&self, alloc: Global) -> Result<Option<Vec<u64>>, AllocError>
         ensures none { IfOk result (λ o. o ≡ None → small_count self.now.published self.now.live ≤ 16) }
@@ -349,6 +398,7 @@ impl Engine {
         match after? {
             Some(after) => {
                 self.showing = after;
+                self.merging = None;
                 Ok(true)
             }
             None => Ok(false),

@@ -7,6 +7,7 @@ mod changes;
 mod choosing;
 mod documents;
 pub mod engine;
+mod handed;
 mod history;
 mod id_filter;
 mod id_key;

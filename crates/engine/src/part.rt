@@ -14,6 +14,7 @@ ghost use Rattle.engine.specs.Parts.{published_of, without};
 
 use crate::block::{Block, Shown};
 use crate::documents::Entry;
+use crate::handed::HasDocuments;
 use crate::sought::Sought;
 use doc::{DocId, Mapping, Source};
 use marks::Marks;
@@ -76,6 +77,10 @@ pub(crate) struct Share<'a> {
 pub(crate) struct PartHits<'a> {
     pub(crate) total: u64,
     pub(crate) first: Vec<&'a Shown>,
+}
+
+impl HasDocuments for Part {
+    ghost documents = { λ p. p.documents };
 }
 
 impl Part {

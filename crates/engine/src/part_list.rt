@@ -10,13 +10,14 @@ ghost use Rattle.engine.specs.Answer.{is_found};
 ghost use Rattle.engine.specs.Entry.{entry_view};
 ghost use Rattle.engine.specs.Parts.{all_published, documents_of_parts, has_id, is_among, is_living, merged, without, woven, AllInOrder, AreParts};
 ghost use Rattle.engine.specs.Live.{changed_live, changed_segments, is_live, live_of, living, small_count, FitOneMerge};
-ghost use Rattle.engine.specs.Published.{numbered, AreDistinct, AreGone, IsReplaced};
+ghost use Rattle.engine.specs.Published.{numbered, AreDistinct, AreGone, AreTold, IsReplaced};
 ghost use Rattle.engine.specs.Before.{first_of_each};
 ghost use Rattle.engine.specs.Shown.{seen_all, shown_view};
 
 use crate::block::{Block, Shown, shown_of};
 use crate::choosing::{FEW_SMALL, count_small, parts_numbered, push_if, smallest_numbers};
 use crate::documents::{Entry, documents_of};
+use crate::handed::HasDocuments;
 use crate::merging::{merge, merge_owned};
 use crate::paging::{behind, find_pivot, page_behind};
 use crate::part::{Part, Share};
@@ -75,6 +76,12 @@ impl Model for PartList {
     ghost invariant = { λ l. AreParts (arc_value l.mapping) l.parts.items };
 }
 
+impl HasDocuments for Arc<PartList, Global> {
+    ghost use Rattle.std.specs.Arc.{arc_value};
+
+    ghost documents = { λ l. (arc_value l).documents };
+}
+
 impl PartList {
     ghost use Rattle.std.specs.Prelude.{◌∷◌, [], false};
 
@@ -103,6 +110,10 @@ impl PartList {
         let mut parts = Vec::new(alloc);
         parts.push(part)?;
         Ok(PartList { mapping, parts })
+    }
+
+    pub(crate) fn allocator(&self) -> Global {
+        *self.parts.allocator()
     }
 
     pub(crate) fn parts(&self) -> &[Part]
@@ -208,14 +219,16 @@ impl PartList {
     }
 
     /// The same with one part of this number in place of those that were taken and are there still, unless none is. It shows what is live in them, by a
-    /// part that was made of them where that can be.
+    /// part that was made of them where that can be. Where their numbers tell which they are, no documents are compared.
     pub(crate) fn swapped(
         &self,
         alloc: Global,
         number: u64,
         taken: &[Part],
         made: &Part,
+        by_number: bool,
     ) -> Result<Option<PartList>, AllocError>
+        requires told { by_number ≡ true → AreTold (all_published taken.now) self.now.published }
         requires order { AllInOrder (documents_of_parts taken.now) }
         requires made { made.now.documents ≡ woven (documents_of_parts taken.now) }
         ensures mapping { IfOk result (λ o. IfSome o (λ l. l.mapping ≡ self.now.mapping)) }
@@ -224,7 +237,7 @@ impl PartList {
         ensures swapped { IfOk result (λ o. IfSome o (λ l. IsReplaced (all_published taken.now) number self.now.mapping self.now.published l.published)) }
         ensures gone { IfOk result (λ o. o ≡ None → AreGone self.now.published (all_published taken.now)) }
     {
-        let halves = split(alloc, &self.parts, taken)?;
+        let halves = split(alloc, &self.parts, taken, by_number)?;
         let Halves { mut stay, go } = halves;
         if go.is_empty() {
             return Ok(None);

@@ -7,15 +7,16 @@ ghost use Rattle.op.specs.Documents.{documents};
 ghost use Rattle.segment.specs.Builds.{Builds};
 ghost use Rattle.engine.specs.Contents.{segments_shown};
 ghost use Rattle.engine.specs.Entry.{entry_view};
-ghost use Rattle.engine.specs.Parts.{has_id, is_among, merged, shown_through, without, IsMade};
+ghost use Rattle.engine.specs.Parts.{has_id, is_among, merge_of, merged, shown_through, without, IsMade};
 ghost use Rattle.engine.specs.Live.{changed_live, changed_segments, is_live, live_of, small_count, woven, FitOneMerge};
-ghost use Rattle.engine.specs.Published.{are_taken, next_after, numbered, taken_of, AreBelow, AreDistinct, AreGone, IsSwapped};
+ghost use Rattle.engine.specs.Published.{are_taken, next_after, numbered, taken_of, AreBelow, AreDistinct, AreGone, AreTold, HasMerged, IsBegun, IsSwapped};
 
 use crate::block::Block;
+use crate::handed::Handed;
 use crate::part::Part;
 use crate::part_list::PartList;
 use crate::snapshot::Snapshot;
-use crate::swapping::{Merged, Merging};
+use crate::swapping::{BegunMerge, Merged, Merging};
 use doc::{DocId, Mapping, Source};
 use op::Op;
 use segment::Segment;
@@ -126,6 +127,7 @@ impl Showing {
         ensures { IfOk result (λ m. m ≡ record { taken = taken_of self.now.published; mapping = self.now.snapshot.mapping; documents = self.now.snapshot.documents }) }
     {
         let parts = Arc::try_clone(&self.parts)?;
+        let parts = Handed::out(self.parts.allocator(), parts)?;
         Ok(Merging { parts })
     }
 
@@ -141,9 +143,22 @@ impl Showing {
           documents = woven (live_of numbers.now self.now.published self.now.live);
         }) }
     {
+        let parts = self.take(alloc, numbers)?;
+        Ok(Merging { parts })
+    }
+
+    /// The parts that bear these numbers, and a place for the part that is made of them. Where a merge takes them, they are told by their numbers from now on.
+    pub(crate) fn take(&self, alloc: Global, numbers: &[u64]) -> Result<BegunMerge, AllocError>
+        ensures merge { IfOk result (λ l. merge_of (arc_value l) ≡ record {
+          taken = taken_of (numbered numbers.now self.now.published);
+          mapping = self.now.snapshot.mapping;
+          documents = woven (live_of numbers.now self.now.published self.now.live);
+        }) }
+        ensures begun { IfOk result (λ l. are_taken (arc_value l).published ≡ true → IsBegun self.now.next self.now.published (arc_value l).published) }
+    {
         let parts = self.parts.numbered(alloc, numbers)?;
         let parts = Arc::new(alloc, parts)?;
-        Ok(Merging { parts })
+        Handed::out(alloc, parts)
     }
 
     /// The numbers of small parts that go well into one, where there are many.
@@ -179,8 +194,24 @@ impl Showing {
         ensures gone { IfOk result (λ o. o ≡ None → (AreGone self.now.published merged.now.taken → merged.now.taken ≡ []) → ⊥) }
     {
         match &merged.part {
-            Some(part) => self.swapped_by(alloc, &merged.parts, part),
+            Some(part) => self.swapped_by(alloc, merged.parts.given(), part, false),
             None => Ok(Some(self.copy()?)),
+        }
+    }
+
+    /// The same with the part of a merge that was begun here, once it is made. No documents are compared.
+    pub(crate) fn swapped_beside(
+        &self,
+        alloc: Global,
+        begun: &BegunMerge,
+    ) -> Result<Option<Showing>, AllocError>
+        requires { IsBegun self.now.next self.now.published (arc_value begun.now).published }
+        ensures snapshot { IfOk result (λ o. IfSome o (λ s. s.snapshot ≡ self.now.snapshot)) }
+        ensures merged { IfOk result (λ o. IfSome o (λ s. HasMerged (segments_shown self.now) (segments_shown s))) }
+    {
+        match begun.made() {
+            Some(part) => self.swapped_by(alloc, begun.given(), part, true),
+            None => Ok(None),
         }
     }
 
@@ -190,7 +221,9 @@ impl Showing {
         alloc: Global,
         taken: &PartList,
         made: &Part,
+        by_number: bool,
     ) -> Result<Option<Showing>, AllocError>
+        requires told { by_number ≡ true → AreTold taken.now.published self.now.published }
         requires are { are_taken taken.now.published ≡ true }
         requires made { made.now.documents ≡ taken.now.documents }
         ensures snapshot { IfOk result (λ o. IfSome o (λ s. s.snapshot ≡ self.now.snapshot)) }
@@ -198,7 +231,10 @@ impl Showing {
         ensures swapped { IfOk result (λ o. IfSome o (λ s. IsSwapped taken.now.published (segments_shown self.now) (segments_shown s))) }
         ensures gone { IfOk result (λ o. o ≡ None → AreGone self.now.published taken.now.published) }
     {
-        match self.parts.swapped(alloc, self.next, taken.parts(), made)? {
+        let after = self
+            .parts
+            .swapped(alloc, self.next, taken.parts(), made, by_number)?;
+        match after {
             Some(parts) => {
                 let showing = shown(alloc, parts, self.next.saturating_add(1))?;
                 Ok(Some(showing))

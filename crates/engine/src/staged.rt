@@ -1,4 +1,5 @@
 //! What is made ready of a change, before it is made.
+ghost use Rattle.engine.specs.Contents.{KeepsBegun};
 
 use crate::engine::Engine;
 use crate::history::History;
@@ -28,6 +29,7 @@ pub struct Staged {
     pub(crate) history: Option<History>,
     pub(crate) showing: Showing,
     pub(crate) point: usize,
+    ghost kept: { KeepsBegun before.value showing },
 }
 
 impl Model for Staged {

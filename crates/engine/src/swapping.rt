@@ -1,11 +1,12 @@
 //! Merges of parts beside searches.
-ghost use Rattle.std.specs.Prelude.{◌≡◌, ◌<◌, true, false, All, Contains, map, length, nat_lt, IfOk, IfSome};
+ghost use Rattle.std.specs.Prelude.{◌≡◌, ◌↔◌, ◌<◌, true, false, All, Contains, map, length, nat_lt, IfOk, IfSome, IsTrue};
 ghost use Rattle.std.specs.Arc.{arc_value};
 ghost use Rattle.engine.specs.Parts.{all_published, documents_of_parts, merge_of, published_of, woven, AllInOrder, IsMade, IsSplit};
-ghost use Rattle.engine.specs.Published.{are_taken, greatest};
+ghost use Rattle.engine.specs.Published.{are_taken, greatest, AreTold};
 ghost use Rattle.std.specs.List.{list_all};
 
 use crate::choosing::parts_numbered;
+use crate::handed::Handed;
 use crate::part::Part;
 use crate::part_list::{PartList, entries_of_parts, living_parts, parts_without};
 use crate::sought::sought_of;
@@ -15,10 +16,13 @@ use std::alloc::{AllocError, Global};
 use std::marker::Model;
 use std::sync::Arc;
 
+/// A merge that was begun: what it takes, and a place for the part that is made of that.
+pub(crate) type BegunMerge = Handed<Arc<PartList, Global>, Part>;
+
 /// A merge that was begun: what searches looked through then. It needs no engine.
 #[derive(Drop)]
 pub struct Merging {
-    pub(crate) parts: Arc<PartList, Global>,
+    pub(crate) parts: BegunMerge,
 }
 
 impl Model for Merging {
@@ -36,8 +40,11 @@ impl Merging {
     pub fn build(&self, alloc: Global) -> Result<Merged, AllocError>
         ensures { IfOk result (λ m. m ≡ self.now) }
     {
-        let part = made_of(alloc, &self.parts)?;
-        let parts = Arc::try_clone(&self.parts)?;
+        let part = made_of(alloc, self.parts.given())?;
+        if let Some(made) = &part {
+            self.parts.note(made.copy()?);
+        }
+        let parts = self.parts.again()?;
         Ok(Merged { parts, part })
     }
 }
@@ -45,7 +52,7 @@ impl Merging {
 /// The parts that a merge takes, and one part of all documents that were live in them; none where it takes none.
 #[derive(Drop)]
 pub struct Merged {
-    pub(crate) parts: Arc<PartList, Global>,
+    pub(crate) parts: BegunMerge,
     pub(crate) part: Option<Part>,
 }
 
@@ -73,7 +80,7 @@ fn made_of(alloc: Global, parts: &PartList) -> Result<Option<Part>, AllocError>
 }
 
 /// Whether a merge takes these parts.
-fn are_taken(parts: &[Part]) -> bool
+pub(crate) fn are_taken(parts: &[Part]) -> bool
     ensures { result ≡ are_taken (all_published parts.now) }
 {
     2 <= parts.len() && are_below_greatest(parts)
@@ -91,13 +98,26 @@ fn are_below_greatest(parts: &[Part]) -> bool
     true
 }
 
+/// Whether two parts are one segment, whichever of its documents are live. Where their numbers tell that, no document is looked at.
+fn are_one(one: &Part, other: &Part, by_number: bool) -> bool
+    requires { by_number ≡ true → one.now.number ≡ other.now.number → published_of one.now ≡ published_of other.now }
+    ensures { IsTrue result ↔ (published_of one.now ≡ published_of other.now) }
+{
+    if by_number {
+        one.number() == other.number()
+    } else {
+        one.is_as(other)
+    }
+}
+
 /// Whether a part is among all, whichever of its documents are live there.
-fn is_among(all: &[Part], part: &Part) -> bool
+fn is_among(all: &[Part], part: &Part, by_number: bool) -> bool
+    requires { by_number ≡ true → All (λ t. t.number ≡ part.now.number → t ≡ published_of part.now) (all_published all.now) }
     ensures yes { result ≡ true → Contains (all_published all.now) (published_of part.now) }
     ensures no { result ≡ false → Contains (all_published all.now) (published_of part.now) → ⊥ }
 {
     for other in all {
-        if other.is_as(part) {
+        if are_one(other, part, by_number) {
             return true;
         }
     }
@@ -112,14 +132,20 @@ pub(crate) struct Halves {
 }
 
 /// Parts in two halves: those that were taken go, the others stay.
-pub(crate) fn split(alloc: Global, parts: &[Part], taken: &[Part]) -> Result<Halves, AllocError>
+pub(crate) fn split(
+    alloc: Global,
+    parts: &[Part],
+    taken: &[Part],
+    by_number: bool,
+) -> Result<Halves, AllocError>
+    requires { by_number ≡ true → AreTold (all_published taken.now) (all_published parts.now) }
     ensures { IfOk result (λ h. IsSplit (all_published taken.now) parts.now h.stay.items h.go.items) }
 {
     let mut stay = Vec::new(alloc);
     let mut go = Vec::new(alloc);
     for part in parts {
         let copy = part.copy()?;
-        if is_among(taken, part) {
+        if is_among(taken, part, by_number) {
             go.push(copy)?;
         } else {
             stay.push(copy)?;

@@ -3,20 +3,24 @@ ghost use Rattle.std.specs.Prelude.{◌≡◌, IfOk};
 ghost use Rattle.std.specs.Arc.{arc_value};
 ghost use Rattle.segment.specs.Builds.{Builds};
 
-use crate::block::{Block, entries_in};
+use crate::block::Block;
 use crate::changes::Changes;
+use crate::handed::Handed;
 use doc::{Mapping, Source};
 use segment::Segment;
 use std::alloc::{AllocError, Global};
 use std::marker::Model;
 use std::sync::Arc;
 
+/// A refresh that was begun: what changed, and a place for the block of what stands there.
+pub(crate) type Begun = Handed<Changes, Arc<Block, Global>>;
+
 /// Documents that searches don't show yet, with what they are read under. It needs no engine.
 #[derive(Drop)]
 pub struct Unshown {
     alloc: Global,
     mapping: Arc<Mapping, Global>,
-    changes: Arc<Changes, Global>,
+    begun: Begun,
 }
 
 impl Model for Unshown {
@@ -25,23 +29,23 @@ impl Model for Unshown {
 
     ghost Value = { UnshownData };
 
-    ghost view = { λ u. record { mapping = arc_value u.mapping; documents = (arc_value u.changes).documents; point = (arc_value u.changes).point } };
+    ghost view = { λ u. record { mapping = arc_value u.mapping; documents = u.begun.documents; point = u.begun.point } };
 }
 
 impl Unshown {
     pub(crate) fn of(
         alloc: Global,
         mapping: &Arc<Mapping, Global>,
-        changes: &Arc<Changes, Global>,
+        begun: &Begun,
     ) -> Result<Unshown, AllocError>
-        ensures { IfOk result (λ u. u ≡ record { mapping = arc_value mapping.now; documents = (arc_value changes.now).documents; point = (arc_value changes.now).point }) }
+        ensures { IfOk result (λ u. u ≡ record { mapping = arc_value mapping.now; documents = begun.now.documents; point = begun.now.point }) }
     {
         let mapping = Arc::try_clone(mapping)?;
-        let changes = Arc::try_clone(changes)?;
+        let begun = begun.again()?;
         Ok(Unshown {
             alloc,
             mapping,
-            changes,
+            begun,
         })
     }
 
@@ -53,21 +57,21 @@ impl Unshown {
         requires { Builds F.Fn builder.now }
         ensures { IfOk result (λ b. b ≡ self.now) }
     {
-        let entries = entries_in(self.alloc, self.changes.documents())?;
+        let entries = self.begun.given().documents(self.alloc)?;
         let block = Block::of(builder, self.alloc, &self.mapping, &entries)?;
         let block = Arc::new(self.alloc, block)?;
-        Ok(Prebuilt {
-            block,
-            point: self.changes.point(),
-        })
+        self.begun.note(block);
+        let mapping = Arc::try_clone(&self.mapping)?;
+        let begun = self.begun.again()?;
+        Ok(Prebuilt { mapping, begun })
     }
 }
 
-/// The segment of documents that searches didn't show when the refresh was begun.
+/// Documents that searches didn't show when the refresh was begun, whose segment was built.
 #[derive(Drop)]
 pub struct Prebuilt {
-    pub(crate) block: Arc<Block, Global>,
-    pub(crate) point: usize,
+    mapping: Arc<Mapping, Global>,
+    begun: Begun,
 }
 
 impl Model for Prebuilt {
@@ -76,5 +80,14 @@ impl Model for Prebuilt {
 
     ghost Value = { UnshownData };
 
-    ghost view = { λ b. record { mapping = (arc_value b.block).mapping; documents = (arc_value b.block).documents; point = b.point } };
+    ghost view = { λ b. record { mapping = arc_value b.mapping; documents = b.begun.documents; point = b.begun.point } };
+}
+
+impl Prebuilt {
+    /// Of how many records they are.
+    pub(crate) fn point(&self) -> usize
+        ensures { result ≡ self.now.point }
+    {
+        self.begun.given().point()
+    }
 }

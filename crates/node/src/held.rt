@@ -26,7 +26,7 @@ use crate::syncing::synced;
 use crate::telling::{Entered, Inputs, Told, tell};
 use chronicle::{Ledger, Prefix, Registered, Registry, RegistryName, Upto};
 use doc::DocId;
-use engine::Merged;
+use engine::Merging;
 use journal::{Deed, Deeds, Journal, Opening};
 use replica::{Copy, CopyFault, Input};
 use std::alloc::{AllocError, Global};
@@ -329,12 +329,20 @@ impl<D: LogDevice, J: RegistryName> Held<D, J> {
         self.copy.is_synced()
     }
 
-    /// Puts a merged segment in place of those that it is made of, as the copy does; it makes no entry.
+    /// Begins a merge of segments that go well into one, where searches look through many, for `finish_merge`; it makes no entry.
     #[tactic(auto, using(crate::proofs::Calls::held_merged))]
-    pub fn swap_merged(&mut self, alloc: Global, merged: Merged) -> Result<bool, AllocError>
+    pub fn begin_merge_beside(&mut self, alloc: Global) -> Result<Option<Merging>, AllocError>
         ensures { self.new ≡ self.old }
     {
-        self.copy.swap_merged(alloc, merged)
+        self.copy.begin_merge_beside(alloc)
+    }
+
+    /// Puts the segment in place that was built for it, as the copy does; it makes no entry.
+    #[tactic(auto, using(crate::proofs::Calls::held_merged))]
+    pub fn finish_merge(&mut self, alloc: Global) -> Result<bool, AllocError>
+        ensures { self.new ≡ self.old }
+    {
+        self.copy.finish_merge(alloc)
     }
 
     /// The journal where memory has it, for which the copy is given up.

@@ -26,3 +26,4 @@ pub mod TurnLaws
 pub mod WovenLaws
 pub mod WeavingLaws
 pub mod ListingLaws
+pub mod GroupingLaws

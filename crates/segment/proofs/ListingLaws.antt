@@ -47,7 +47,7 @@ module _ {K : Type 0} where
 
 -- ---- pairs in order
 
-tied : (a b : Ordering) → b ≡ ordering_reverse a → (not (is_lt a) && not (is_lt b)) ≡ is_eq a
+pub tied : (a b : Ordering) → b ≡ ordering_reverse a → (not (is_lt a) && not (is_lt b)) ≡ is_eq a
 tied Less b is = refl
 tied Equal b is = ap (λ o. not (is_lt o)) is
 tied Greater b is = ap (λ o. not (is_lt o)) is
@@ -100,7 +100,7 @@ module _ {K : Type 0} (eq : K → K → Bool) (closed : List (K × Places)) (las
       keys-push [] = refl
       keys-push (e ∷ es) = ap (λ js. e.0 ∷ js) (keys-push es)
 
-equal : (o : Ordering) → is_eq o ≡ true → o ≡ Equal
+pub equal : (o : Ordering) → is_eq o ≡ true → o ≡ Equal
 equal Less is = absurd cc
 equal Equal is = refl
 equal Greater is = absurd cc

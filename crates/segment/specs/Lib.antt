@@ -3,6 +3,7 @@ pub mod Indexed
 pub mod Joined
 pub mod Builds
 pub mod Term
+pub mod Grouped
 pub mod Posted
 pub mod Spans
 pub mod Limits

@@ -5,6 +5,7 @@ use Rattle.std.specs.Str.{bytes_eq}
 use Rattle.doc.specs.Scalar.{Scalar, text, long, flag}
 use Rattle.terms.specs.Terms.{has}
 use Rattle.segment.specs.Blocks.{AreBlocks}
+use Rattle.segment.specs.Grouped.{places_posted}
 use Rattle.segment.specs.Places.{added, places_at, places_in, places_at_long, places_listed}
 use Rattle.segment.specs.declared.column.Column.{Column}
 use Rattle.segment.specs.declared.longs.Longs.{Longs}
@@ -22,6 +23,7 @@ places_so_far (Listed pairs) w = places_listed (λ k. bytes_eq w (string_bytes k
 -- the same of a number
 abbrev pub places_so_far_long : Longs → ℤ → List ℕ
 places_so_far_long (longs.Ordered m) z = places_at_long m z
+places_so_far_long (longs.Posted postings) z = places_posted (int_eq z) postings.items
 places_so_far_long (longs.Listed pairs) z = places_listed (int_eq z) pairs.items
 
 -- the places with this one added, or as they are

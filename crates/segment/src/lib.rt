@@ -6,6 +6,7 @@ pub mod blocks;
 mod building;
 pub mod column;
 mod finishing;
+mod grouping;
 mod joining;
 mod limits;
 mod listing;

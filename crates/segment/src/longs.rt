@@ -1,10 +1,12 @@
 //! The numbers of a column in the making.
 ghost use Rattle.std.specs.Prelude.{◌≡◌, ◌++◌, [], ℤ, false, IfOk, OnOk};
 ghost use Rattle.std.specs.Ordering.{int_eq};
+ghost use Rattle.segment.specs.Grouped.{places_posted};
 ghost use Rattle.segment.specs.Places.{added, places_at_long, places_listed};
 ghost use Rattle.segment.specs.Posted.{places_so_far_long};
 ghost use Rattle.segment.specs.Woven.{risen};
 
+use crate::grouping::{grouped, in_turn};
 use crate::listing::map_of;
 use crate::places::Places;
 use crate::texts::add_place;
@@ -12,19 +14,27 @@ use std::alloc::{AllocError, Global};
 use std::collections::BTreeMap;
 use std::mem;
 
-/// Numbers with their places, in order, or else those of pieces listed behind one another.
+/// The numbers of so many documents are sooner listed as they come, and put in order at the end, than looked for.
+const LEAST_DOCUMENTS: usize = 64;
+
+/// Numbers with their places, in order from the first, or else each with a place as they come. Those of pieces are listed behind one another.
 #[derive(Drop)]
 pub enum Longs {
     Ordered(BTreeMap<i64, Places>),
+    Posted(Vec<(i64, u32)>),
     Listed(Vec<(i64, Places)>),
 }
 
 impl Longs {
-    /// No number.
-    pub(crate) fn none(alloc: Global) -> Longs
+    /// No number of so many documents.
+    pub(crate) fn none(alloc: Global, len: usize) -> Longs
         ensures { (z : ℤ) → places_so_far_long result z ≡ [] }
     {
-        Longs::Ordered(BTreeMap::new(alloc))
+        if len < LEAST_DOCUMENTS {
+            Longs::Ordered(BTreeMap::new(alloc))
+        } else {
+            Longs::Posted(Vec::new(alloc))
+        }
     }
 
     /// Adds a place to those of a number.
@@ -32,7 +42,10 @@ impl Longs {
         ensures here { OnOk result (places_so_far_long self.new number ≡ added (places_so_far_long self.old number) at) }
         ensures others { OnOk result ((z : ℤ) → int_eq number z ≡ false → places_so_far_long self.new z ≡ places_so_far_long self.old z) }
     {
-        let mut longs = mem::replace(self, Longs::none(alloc)).in_order(alloc)?;
+        if let Longs::Posted(postings) = self {
+            return post_behind(postings, number, at);
+        }
+        let mut longs = mem::replace(self, Longs::Listed(Vec::new(alloc))).in_order(alloc)?;
         post_at(alloc, &mut longs, number, at)?;
         *self = Longs::Ordered(longs);
         Ok(())
@@ -48,7 +61,7 @@ impl Longs {
         ensures here { OnOk result (places_so_far_long self.new number ≡ risen (places_so_far_long self.old number) later.now) }
         ensures others { OnOk result ((z : ℤ) → int_eq number z ≡ false → places_so_far_long self.new z ≡ places_so_far_long self.old z) }
     {
-        let mut longs = mem::replace(self, Longs::none(alloc)).in_order(alloc)?;
+        let mut longs = mem::replace(self, Longs::Listed(Vec::new(alloc))).in_order(alloc)?;
         merge_at(alloc, &mut longs, number, later)?;
         *self = Longs::Ordered(longs);
         Ok(())
@@ -63,7 +76,7 @@ impl Longs {
     ) -> Result<(), AllocError>
         ensures { OnOk result ((z : ℤ) → places_so_far_long self.new z ≡ places_so_far_long self.old z ++ places_so_far_long later z) }
     {
-        let mut listed = mem::replace(self, Longs::none(alloc)).listed(alloc)?;
+        let mut listed = mem::replace(self, Longs::Listed(Vec::new(alloc))).listed(alloc)?;
         listed.reserve_exact(room.saturating_sub(listed.len()))?;
         let mut more = later.listed(alloc)?;
         listed.append(&mut more)?;
@@ -71,11 +84,22 @@ impl Longs {
         Ok(())
     }
 
-    /// How many numbers are listed.
+    /// How many numbers are listed, where equal neighbours are one.
     pub(crate) fn len(&self) -> usize {
         match self {
             Longs::Ordered(longs) => longs.len(),
+            Longs::Posted(postings) => count_runs(postings),
             Longs::Listed(pairs) => pairs.len(),
+        }
+    }
+
+    /// The same places. Numbers that are listed as they came are put in order: a piece does so beside the others.
+    pub(crate) fn sorted(self) -> Result<Longs, AllocError>
+        ensures { IfOk result (λ l. (z : ℤ) → places_so_far_long l z ≡ places_so_far_long self z) }
+    {
+        match self {
+            Longs::Posted(postings) => Ok(Longs::Posted(sort(postings)?)),
+            longs => Ok(longs),
         }
     }
 
@@ -85,6 +109,7 @@ impl Longs {
     {
         match self {
             Longs::Ordered(longs) => list_of(alloc, longs),
+            Longs::Posted(postings) => group(alloc, postings),
             Longs::Listed(pairs) => Ok(pairs),
         }
     }
@@ -95,6 +120,7 @@ impl Longs {
     {
         match self {
             Longs::Ordered(longs) => Ok(longs),
+            Longs::Posted(postings) => put_in_order(alloc, postings),
             Longs::Listed(pairs) => unite(alloc, pairs),
         }
     }
@@ -107,12 +133,62 @@ fn list_of(alloc: Global, longs: BTreeMap<i64, Places>) -> Result<Vec<(i64, Plac
     Vec::from_iter(alloc, longs)
 }
 
+/// The same postings in order of their numbers.
+fn sort(postings: Vec<(i64, u32)>) -> Result<Vec<(i64, u32)>, AllocError>
+    ensures { IfOk result (λ v. (z : ℤ) → places_posted (int_eq z) v.items ≡ places_posted (int_eq z) postings.items) }
+{
+    let sorted = in_turn(postings)?;
+    Ok(sorted)
+}
+
+/// Each number of the postings with its places.
+fn group(alloc: Global, postings: Vec<(i64, u32)>) -> Result<Vec<(i64, Places)>, AllocError>
+    ensures { IfOk result (λ v. (z : ℤ) → places_listed (int_eq z) v.items ≡ places_posted (int_eq z) postings.items) }
+{
+    let grouped = grouped(alloc, postings)?;
+    Ok(grouped)
+}
+
+/// The same in order of the numbers.
+fn put_in_order(
+    alloc: Global,
+    postings: Vec<(i64, u32)>,
+) -> Result<BTreeMap<i64, Places>, AllocError>
+    ensures { IfOk result (λ m. (z : ℤ) → places_at_long m z ≡ places_posted (int_eq z) postings.items) }
+{
+    let pairs = group(alloc, postings)?;
+    let united = unite(alloc, pairs)?;
+    Ok(united)
+}
+
+/// How many numbers there are, where equal neighbours are one. It is a hint.
+fn count_runs(postings: &[(i64, u32)]) -> usize {
+    let mut count = 0usize;
+    let mut last: Option<i64> = None;
+    for posting in postings {
+        if last != Some(posting.0) {
+            count = count.saturating_add(1);
+            last = Some(posting.0);
+        }
+    }
+    count
+}
+
 /// Each number with all its places.
 fn unite(alloc: Global, pairs: Vec<(i64, Places)>) -> Result<BTreeMap<i64, Places>, AllocError>
     ensures { IfOk result (λ m. (z : ℤ) → places_at_long m z ≡ places_listed (int_eq z) pairs.items) }
 {
     let united = map_of(alloc, pairs)?;
     Ok(united)
+}
+
+/// Lists a number with a place behind the others.
+fn post_behind(postings: &mut Vec<(i64, u32)>, number: i64, at: u32) -> Result<(), AllocError>
+    ensures here { OnOk result (places_posted (int_eq number) postings.new.items ≡ added (places_posted (int_eq number) postings.old.items) at) }
+    ensures others { OnOk result ((z : ℤ) → int_eq number z ≡ false → places_posted (int_eq z) postings.new.items ≡ places_posted (int_eq z) postings.old.items) }
+{
+    postings.push((number, at))?;
+    Ok(())
 }
 
 fn post_at(

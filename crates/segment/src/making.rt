@@ -36,19 +36,21 @@ impl Making {
         Ok(Making {
             has: Marks::none(alloc, len)?,
             texts: Texts::none(alloc, len),
-            longs: Longs::none(alloc),
+            longs: Longs::none(alloc, len),
             yes: Marks::none(alloc, len)?,
             no: Marks::none(alloc, len)?,
             word: String::new(alloc),
         })
     }
 
-    /// Lists the texts, so that they can be put behind those of earlier documents. Numbers are listed as they are joined: a list here would stand beside the memory of their tree, which a thread's heap keeps.
+    /// Lists the texts and sorts the numbers, so that they can be put behind those of earlier documents. Numbers are listed with all their places as they are joined, since that takes twice the room.
     pub(crate) fn list(&mut self, alloc: Global) -> Result<(), AllocError>
         ensures { OnOk result (IsPut self.old self.new) }
     {
         let texts = mem::replace(&mut self.texts, Texts::Listed(Vec::new(alloc)));
         self.texts = Texts::Listed(texts.listed(alloc)?);
+        let longs = mem::replace(&mut self.longs, Longs::Listed(Vec::new(alloc)));
+        self.longs = longs.sorted()?;
         Ok(())
     }
 

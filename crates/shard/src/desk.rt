@@ -266,7 +266,7 @@ impl<D: LogDevice, N: HistoryName> SharedShard<D, N> {
         let told = held.call(known, asked);
         drop(self.show(rt, &*held));
         if refreshes {
-            self.begin_merge(rt, &*held);
+            self.begin_merge(rt, &mut *held);
         }
         told
     }
@@ -325,7 +325,7 @@ impl<D: LogDevice, N: HistoryName> SharedShard<D, N> {
             return None;
         }
         let before = self.show(rt, &*held);
-        self.begin_merge(rt, &*held);
+        self.begin_merge(rt, &mut *held);
         Some(before)
     }
 
@@ -344,12 +344,14 @@ impl<D: LogDevice, N: HistoryName> SharedShard<D, N> {
     }
 
     /// Has a merge built where searches look through many segments and none is being built. Without memory for that the next refresh tries again.
-    fn begin_merge<R: Wait>(&self, rt: &R, kept: &Kept<D, N>) {
+    fn begin_merge<R: Wait>(&self, rt: &R, kept: &mut Kept<D, N>)
+        ensures { kept.new ≡ kept.old }
+    {
         let mut is_merging = self.is_merging.lock(rt);
         if *is_merging {
             return;
         }
-        if let Ok(Some(merging)) = kept.begin_next_merge() {
+        if let Ok(Some(merging)) = kept.begin_merge() {
             *is_merging = self.to_merger.send(rt, Order::Build(merging)).is_ok();
         }
     }
@@ -373,20 +375,21 @@ impl<D: LogDevice, N: HistoryName> SharedShard<D, N> {
 
     /// Puts a merge in place that was built, and begins the next one. One whose segments are gone is let go.
     fn put_merged<R: Wait>(&self, rt: &R, merged: Option<Merged>) {
+        let before = self.finish_merge(rt, merged.is_some());
         // The segments that it replaced are let go of while commands go on.
-        drop(self.swap_merged(rt, merged));
+        drop(before);
+        drop(merged);
     }
 
     /// The same, and gives back what searches saw.
-    fn swap_merged<R: Wait>(&self, rt: &R, merged: Option<Merged>) -> Option<Seen<D, N>> {
+    fn finish_merge<R: Wait>(&self, rt: &R, is_built: bool) -> Option<Seen<D, N>> {
         let mut held = self.shard.lock(rt);
         self.note_built(rt);
-        let merged = merged?;
-        if held.swap_merged(merged).is_err() {
+        if !is_built || held.finish_merge().is_err() {
             return None;
         }
         let before = self.show(rt, &*held);
-        self.begin_merge(rt, &*held);
+        self.begin_merge(rt, &mut *held);
         before
     }
 

@@ -4,15 +4,14 @@ ghost use Rattle.std.specs.Arc.{arc_value};
 ghost use mathlib.Core.List.{IsPrefix};
 ghost use Rattle.front.specs.CommandView.{command_view};
 ghost use Rattle.front.specs.ReplyView.{reply_view};
-ghost use Rattle.replica.specs.Logged.{searched};
-ghost use Rattle.replica.specs.Searched.{IsSwapOf};
+ghost use Rattle.engine.specs.Published.{HasMerged};
 ghost use Rattle.shard.specs.History.{AreUnder, EndsIn, IsDone, IsHistory, DiffersInSegments, IsNext, IsSeenOf, DiffersInPoint};
 
 use crate::asked::Asked;
 use crate::shard::Shard;
 use chronicle::{Chronicle, Mark, Writer};
 use doc::Mapping;
-use engine::{Merged, Merging, Prebuilt, Snapshot, Unshown};
+use engine::{Merging, Prebuilt, Snapshot, Unshown};
 use front::{Reply, Service};
 use std::alloc::{AllocError, Global};
 use std::marker::{Brand, Model, PhantomData};
@@ -280,17 +279,19 @@ impl<D: LogDevice, N: HistoryName> Kept<D, N> {
     }
 
     /// Begins a merge of segments that go well into one, where searches look through many. The index stays as it is.
-    pub(crate) fn begin_next_merge(&self) -> Result<Option<Merging>, AllocError> {
-        self.shard.begin_next_merge()
+    pub(crate) fn begin_merge(&mut self) -> Result<Option<Merging>, AllocError>
+        ensures { self.new ≡ self.old }
+    {
+        self.shard.begin_merge()
     }
 
-    /// Puts a merged segment in place of those that it is made of and that are still there, and tells whether one is. What the index has and shows stays.
+    /// Puts the segment in place that was built for it, and tells whether it is there. What the index has and shows stays.
     #[tactic(auto, using(crate::proofs::Histories::merged_by, crate::proofs::Histories::unmerged))]
-    pub(crate) fn swap_merged(&mut self, merged: Merged) -> Result<bool, AllocError>
+    pub(crate) fn finish_merge(&mut self) -> Result<bool, AllocError>
         ensures differs { DiffersInSegments self.old self.new }
-        ensures swapped { IfOk result (IsSwapOf merged (searched self.old.copy) (searched self.new.copy)) }
+        ensures merged { IfOk result (λ b. b ≡ true → HasMerged self.old.copy.segments self.new.copy.segments) }
     {
-        let is_there = self.shard.swap_merged(merged)?;
+        let is_there = self.shard.finish_merge()?;
         let mark = self.writer.append(&self.chronicle, &self.shard);
         self.last = self.last.behind(mark);
         Ok(is_there)

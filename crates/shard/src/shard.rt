@@ -10,14 +10,15 @@ ghost use Rattle.shard.specs.Answering.{begun_under};
 ghost use Rattle.shard.specs.Ready as spec;
 ghost use Rattle.shard.specs.Ready.{IsReady, IsServed, IsUnready};
 ghost use Rattle.replica.specs.Logged.{searched, IsLogged};
-ghost use Rattle.replica.specs.Searched.{IsRefreshTo, IsSwapOf};
+ghost use Rattle.engine.specs.Published.{HasMerged};
+ghost use Rattle.replica.specs.Searched.{IsRefreshTo};
 ghost use Rattle.shard.specs.History.{seen_of};
 
 use crate::answering::reply_to;
 use crate::asked::Asked;
 use crate::ready::{is_primary, make_ready};
 use doc::{DocFault, Mapping};
-use engine::{Merged, Merging, Prebuilt, Snapshot, Unshown};
+use engine::{Merging, Prebuilt, Snapshot, Unshown};
 use front::reply::Refusal;
 use front::{Command, Reply, Service};
 use master::Master;
@@ -116,18 +117,20 @@ impl<D: LogDevice> Shard<D> {
     }
 
     /// Begins a merge of segments that go well into one, where searches look through many. The index stays as it is.
-    pub(crate) fn begin_next_merge(&self) -> Result<Option<Merging>, AllocError> {
-        self.copy.begin_next_merge(self.alloc)
+    pub(crate) fn begin_merge(&mut self) -> Result<Option<Merging>, AllocError>
+        ensures { self.new ≡ self.old }
+    {
+        self.copy.begin_merge_beside(self.alloc)
     }
 
-    /// Puts a merged segment in place of those that it is made of and that are still there, and tells whether one is. What the index has and shows stays.
-    pub(crate) fn swap_merged(&mut self, merged: Merged) -> Result<bool, AllocError>
-        ensures swapped { IfOk result (IsSwapOf merged (searched self.old.copy) (searched self.new.copy)) }
+    /// Puts the segment in place that was built for it, and tells whether it is there. What the index has and shows stays.
+    pub(crate) fn finish_merge(&mut self) -> Result<bool, AllocError>
+        ensures merged { IfOk result (λ b. b ≡ true → HasMerged self.old.copy.segments self.new.copy.segments) }
         ensures copy { self.new.copy ≡ record self.old.copy { segments = self.new.copy.segments } }
         ensures master { self.new.master ≡ self.old.master }
         ensures err { OnErr result (self.new.copy ≡ self.old.copy) }
     {
-        self.copy.swap_merged(self.alloc, merged)
+        self.copy.finish_merge(self.alloc)
     }
 
     /// Begins a refresh whose segment is built while commands go on, where much has to be built. The index stays as it is.

@@ -10,7 +10,7 @@ ghost use Rattle.engine.specs.SnapshotChange.{ShowsMore};
 use crate::changes::Changes;
 use crate::engine::Engine;
 use crate::showing::Showing;
-use crate::unshown::{Prebuilt, Unshown};
+use crate::unshown::{Begun, Prebuilt, Unshown};
 use std::alloc::{AllocError, Global};
 use std::sync::Arc;
 
@@ -28,12 +28,12 @@ impl Engine {
         let Some(changes) = Changes::of(alloc, &self.history, self.point)? else {
             return Ok(None);
         };
-        if changes.documents().len() < MANY {
+        if changes.ids().len() < MANY {
             return Ok(None);
         }
-        let changes = Arc::new(alloc, changes)?;
-        let unshown = Unshown::of(alloc, &self.mapping, &changes)?;
-        self.pending = Some(changes);
+        let begun = Begun::out(alloc, changes)?;
+        let unshown = Unshown::of(alloc, &self.mapping, &begun)?;
+        self.pending = Some(begun);
         Ok(Some(unshown))
     }
 
@@ -44,42 +44,40 @@ impl Engine {
         ensures stays { IfOk result (λ b. b ≡ false → self.new ≡ self.old) }
         ensures err { OnErr result (self.new ≡ self.old) }
     {
-        let Some(changes) = self.pending.take() else {
+        let Some(begun) = self.pending.take() else {
             return Ok(false);
         };
-        let Some(showing) = self.showing_with(alloc, &changes, prebuilt)? else {
+        let point = begun.given().point();
+        if prebuilt.point() != point {
+            return Ok(false);
+        }
+        let Some(showing) = self.showing_with(alloc, &begun)? else {
             return Ok(false);
         };
-        self.history.forget_to(changes.point());
+        self.history.forget_to(point);
         self.showing = showing;
-        self.point = changes.point();
+        self.point = point;
         Ok(true)
     }
 
-    /// What searches show with changes, where this was built for them.
-    fn showing_with(
-        &self,
-        alloc: Global,
-        changes: &Changes,
-        prebuilt: Prebuilt,
-    ) -> Result<Option<Showing>, AllocError>
-        ensures point { IfOk result (λ o. IfSome o (λ s. prebuilt.point ≡ changes.now.point)) }
+    /// What searches show with the changes of a refresh, where a block was built of them.
+    fn showing_with(&self, alloc: Global, begun: &Begun) -> Result<Option<Showing>, AllocError>
         ensures snapshot { IfOk result (λ o. IfSome o (λ s. s.snapshot ≡ record {
           mapping = self.now.mapping;
-          documents = merged changes.now.documents (without changes.now.ids (documents (shown self.now.records self.now.point)));
+          documents = merged begun.now.documents (without begun.now.ids (documents (shown self.now.records self.now.point)));
         })) }
         ensures numbers { IfOk result (λ o. IfSome o (λ s. IsFronted self.now.next self.now.published s.published)) }
         ensures rises { IfOk result (λ o. IfSome o (λ s. self.now.next ≤ s.next)) }
         ensures live { IfOk result (λ o. IfSome o (λ s. AreLive s.live)) }
     {
-        let Prebuilt { block, point } = prebuilt;
-        let is_for = point == changes.point()
-            && block.is_under(&self.mapping)
-            && block.is_of(changes.documents());
-        if !is_for {
+        let Some(block) = begun.made() else {
+            return Ok(None);
+        };
+        if !block.is_under(&self.mapping) {
             return Ok(None);
         }
-        let showing = self.showing.with(alloc, changes.ids(), block)?;
+        let block = Arc::try_clone(block)?;
+        let showing = self.showing.with(alloc, begun.given().ids(), block)?;
         Ok(Some(showing))
     }
 }

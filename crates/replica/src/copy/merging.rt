@@ -1,7 +1,7 @@
 //! Merges of what searches look through, and refreshes that are built beside the copy. They are no steps.
 ghost use Rattle.std.specs.Prelude.{◌≡◌, ◌≤◌, false, true, None, length, IfOk, IfSome, OnErr};
 ghost use Rattle.engine.specs.Live.{small_count};
-ghost use Rattle.engine.specs.Published.{taken_of};
+ghost use Rattle.engine.specs.Published.{taken_of, HasMerged};
 ghost use Rattle.op.specs.Documents.{documents};
 ghost use Rattle.op.specs.Records.{shown};
 ghost use Rattle.replica.specs.Logged.{searched};
@@ -57,6 +57,27 @@ impl<D: LogDevice> Copy<D> {
         ensures err { OnErr result (self.new ≡ self.old) }
     {
         self.state.swap_merged(alloc, merged)
+    }
+
+    /// Begins such a merge for `finish_merge`. It is no step of the copy, which stays as it is, but that a merge which was begun so before can't be finished any more.
+    pub fn begin_merge_beside(&mut self, alloc: Global) -> Result<Option<Merging>, AllocError>
+        ensures same { self.new ≡ self.old }
+        ensures none { IfOk result (λ o. o ≡ None → small_count self.old.segments.published self.old.segments.live ≤ 16) }
+        ensures some { IfOk result (λ o. IfSome o (IsNextMerge self.old.segments)) }
+        ensures mapping { IfOk result (λ o. IfSome o (λ m. m.mapping ≡ self.old.copy.mapping)) }
+    {
+        self.state.begin_merge_beside(alloc)
+    }
+
+    /// Puts the segment in place that was built for the merge begun last so, as `swap_merged` does, but without comparing documents, however many they are. Where none
+    /// was built, none was begun, or its segments are gone, it is `false` and all stays. It is no step either.
+    pub fn finish_merge(&mut self, alloc: Global) -> Result<bool, AllocError>
+        ensures merged { IfOk result (λ b. b ≡ true → HasMerged self.old.segments self.new.segments) }
+        ensures rest { self.new ≡ record self.old { segments = self.new.segments } }
+        ensures stays { IfOk result (λ b. b ≡ false → self.new ≡ self.old) }
+        ensures err { OnErr result (self.new ≡ self.old) }
+    {
+        self.state.finish_merge(alloc)
     }
 
     /// Begins a refresh that shows the records that are there now, where many documents have to be built for it: these may be built beside the copy. It is no step,

@@ -1,8 +1,12 @@
 use Rattle.std.proofs.Common.{refl}
 use Rattle.engine.specs.Parts.{all_published}
-use Rattle.engine.proofs.SwapLaws.{splits-none, one-goes, one-stays}
+use Rattle.engine.proofs.SwapLaws.{splits-none, one-goes, one-stays, told-at}
 use Rattle.engine.proofs.swapping.split.Goals.{then-is_among+in_ok-push, else-is_among+in_ok-push-2}
 use Rattle.engine.proofs.swapping.split.Goals as goal
+
+-- it is told by its number where all are
+pub is_among-requires : goal.is_among-requires
+is_among-requires c = λ by. told-at (all_published c.args.taken.now) c.args.parts.now c.loop-part.part-index c.part-item.result c.loop-part-test.true c.part-item.is (c.requires by)
 
 pub loop-part-init : goal.loop-part-init
 loop-part-init c = splits-none (all_published c.args.taken.now) c.args.parts.now c.new-stay.result.items c.new-go.result.items c.new-stay.ensures.items c.new-go.ensures.items

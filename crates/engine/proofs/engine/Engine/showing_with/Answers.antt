@@ -19,5 +19,5 @@ returns-clause-numbers c =
 pub returns-clause-live : goal.returns-clause-live
 returns-clause-live c =
     let before = c.self.inside.showing in
-    let new : Published = record { number = before.next; mapping = before.snapshot.mapping; documents = (arc_value c.prebuilt.inside.block).documents } in
+    let new : Published = record { number = before.next; mapping = before.snapshot.mapping; documents = (arc_value c.in_ok-block.block).documents } in
     passing-live c.in_ok-showing.showing.live (changed_live (is_among c.ids.result.now) new before.live) c.in_ok-showing.ensures.live

@@ -1,11 +1,8 @@
-use Rattle.std.proofs.Common.{◌≡◌, ◌∙◌, true, ap, sym, subst, map}
-use Rattle.std.specs.Arc.{arc_value}
+use Rattle.std.proofs.Common.{◌≡◌, true, sym, subst}
 use Rattle.std.specs.FinMap.Entries.{is_sorted}
 use Rattle.doc.specs.Id.{id_cmp}
 use Rattle.op.specs.Documents.{Documents}
 use Rattle.op.proofs.DocumentLaws.{is_sorted-documents}
-use Rattle.engine.specs.Parts.{PartData}
-use Rattle.engine.proofs.SnapshotLaws.{one-part}
 use Rattle.engine.proofs.part_list.PartList.of.Goals as goal
 
 -- documents of operations are in order

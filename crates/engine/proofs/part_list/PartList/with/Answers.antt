@@ -1,10 +1,8 @@
-use Rattle.std.proofs.Common.{◌≡◌, ◌<◌, ◌≤◌, ◌∙◌, List, ◌∷◌, true, refl, ap, sym, arith, map, filter, length}
+use Rattle.std.proofs.Common.{◌<◌, ◌∙◌, List, ◌∷◌, ap, sym, arith, map, filter, length}
 use Rattle.std.specs.Arc.{arc_value}
-use Rattle.std.specs.FinMap.Entries.{is_sorted}
 use Rattle.std.proofs.lemmas.Result.{IfOk-weaker}
-use Rattle.doc.specs.Id.{id_cmp}
 use Rattle.op.specs.Documents.{Documents}
-use Rattle.engine.specs.Live.{changed_live, changed_segments, is_live, living}
+use Rattle.engine.specs.Live.{changed_live, is_live, living}
 use Rattle.engine.specs.Parts.{PartData, PartListData, all_published, documents_of_parts, is_among, merged, published_of, without, woven}
 use Rattle.engine.specs.Published.{Published}
 use Rattle.engine.proofs.SnapshotLaws.{front-parts, front-woven}

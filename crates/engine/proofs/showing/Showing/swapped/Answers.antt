@@ -22,7 +22,7 @@ returns-in-Some-clause-there c =
     let are : are_taken all ≡ true = sym c.merged.invariant.some ∙ ap (λ (o : Option PartData). is_some o) c.in-Some.is in
     let same : all ≡ taken = taken-all all are ∙ ap (λ (m : MergeData). m.taken) c.merged.view_is in
     IfOk-weaker c.swapped_by.result _ _ (λ o is. there-then (AreGone c.args.self.now.published taken) taken o is)
-    (subst (λ (ss : List Published). IfOk c.swapped_by.result (λ o. IfSome o (λ s. AreGone c.args.self.now.published ss → ⊥))) same (rw c.deref.ensures at c.swapped_by.ensures.there))
+    (subst (λ (ss : List Published). IfOk c.swapped_by.result (λ o. IfSome o (λ s. AreGone c.args.self.now.published ss → ⊥))) same (rw (c.deref.ensures, c.given.ensures) at c.swapped_by.ensures.there))
 
 pub returns-in-Some-clause-gone : goal.returns-in-Some-clause-gone
 returns-in-Some-clause-gone c =
@@ -30,7 +30,7 @@ returns-in-Some-clause-gone c =
     let are : are_taken all ≡ true = sym c.merged.invariant.some ∙ ap (λ (o : Option PartData). is_some o) c.in-Some.is in
     let same : all ≡ c.args.merged.now.taken = taken-all all are ∙ ap (λ (m : MergeData). m.taken) c.merged.view_is in
     IfOk-weaker c.swapped_by.result _ _ (λ o is none some. no_none (sym (ap are_taken (same ∙ some (is none))) ∙ are))
-    (subst (λ (ss : List Published). IfOk c.swapped_by.result (λ o. o ≡ None → AreGone c.args.self.now.published ss)) same (rw c.deref.ensures at c.swapped_by.ensures.gone))
+    (subst (λ (ss : List Published). IfOk c.swapped_by.result (λ o. o ≡ None → AreGone c.args.self.now.published ss)) same (rw (c.deref.ensures, c.given.ensures) at c.swapped_by.ensures.gone))
 
 pub returns-in-Some-clause-swapped : goal.returns-in-Some-clause-swapped
 returns-in-Some-clause-swapped c =
@@ -38,7 +38,7 @@ returns-in-Some-clause-swapped c =
     let are : are_taken all ≡ true = sym c.merged.invariant.some ∙ ap (λ (o : Option PartData). is_some o) c.in-Some.is in
     let same : all ≡ c.args.merged.now.taken = taken-all all are ∙ ap (λ (m : MergeData). m.taken) c.merged.view_is in
     subst (λ (ss : List Published). IfOk c.swapped_by.result (λ o. IfSome o (λ s. (ss ≡ [] → ⊥) → IsSwapped ss (segments_shown c.args.self.now) (segments_shown s)))) same
-    (IfOk-weaker c.swapped_by.result _ _ weaker (rw c.deref.ensures at c.swapped_by.ensures.swapped))
+    (IfOk-weaker c.swapped_by.result _ _ weaker (rw (c.deref.ensures, c.given.ensures) at c.swapped_by.ensures.swapped))
   where
     weaker : (o : Option ShowingData) → IfSome o (λ s. IsSwapped (arc_value c.merged.inside.parts).published (segments_shown c.args.self.now) (segments_shown s))
         → IfSome o (λ s. ((arc_value c.merged.inside.parts).published ≡ [] → ⊥) → IsSwapped (arc_value c.merged.inside.parts).published (segments_shown c.args.self.now) (segments_shown s))
