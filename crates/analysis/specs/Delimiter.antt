@@ -1,4 +1,5 @@
 -- The characters that may stand around a word and are seen at once to be no part of it.
+-- For proofs alone: no public contract rests on it.
 use Rattle.std.specs.Prelude.{ℕ, Bool, not, ◌&&◌, ◌==◌, nat_lt}
 use Rattle.std.specs.Char.{is_ascii_alphanumeric}
 

@@ -63,7 +63,7 @@ none-has bits id none [] all = tt
 none-has bits id none (d ∷ ds) all = (other bits d.id id (is_id d.id id) refl all.0 none, none-has bits id none ds all.1)
 
 -- one byte more
-pub hash-more : (bs : Id) (i hash d : ℕ) → i < length bs → hash_from hash (drop i bs) ≡ hash_from (((hash + get_or bs i d) + 1) * 16777619 % 4294967291) (drop (i + 1) bs)
+pub hash-more : (bs : Id) (i hash d : ℕ) → i < length bs → hash_from hash (drop i bs) ≡ hash_from (((hash + get_or bs i d) + 1) * 16777619 % 4294967296) (drop (i + 1) bs)
 hash-more bs i hash d lt = at_drop_more (hash_from hash) bs i d lt
 
 -- and none any more

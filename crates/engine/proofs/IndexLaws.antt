@@ -34,7 +34,7 @@ IsIndexed-placed os latest new local count o is free noted counted = record {
 -- ---- what the number at an id finds
 
 -- the last on an id is one of the operations
-last_has : (P : Op → Type 0) (os : List Op) (id : Id) → AllByRecursion P os → IfSome (last_on os id) P
+pub last_has : (P : Op → Type 0) (os : List Op) (id : Id) → AllByRecursion P os → IfSome (last_on os id) P
 last_has P [] id all = tt
 last_has P (o ∷ os) id all =
     elim (last_on os id) as (λ l. IfSome l P → IfSome (option_or l (if is_on id o then Some o else None)) P) [

@@ -1,7 +1,9 @@
 pub mod PlaceLaws
+pub mod SlotLaws
 pub mod KeptLaws
 pub mod NotedLaws
 pub mod IdFilterLaws
+pub mod IdTablesLaws
 pub mod IndexLaws
 pub mod FoundLaws
 pub mod PartLaws
@@ -21,5 +23,6 @@ pub mod ChoosingLaws
 pub mod LatestLaws
 pub mod LeftLaws
 pub mod ResyncLaws
+pub mod HeldLaws
 pub mod QuietLaws
 pub mod ChangesLaws

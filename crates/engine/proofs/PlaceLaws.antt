@@ -8,7 +8,9 @@ use Rattle.std.proofs.lemmas.Bool.Decides.{nat_tests}
 use Rattle.op.specs.declared.operation.Op.{Op}
 use Rattle.op.specs.Operations.{IsAscending, op_at}
 use Rattle.op.proofs.OperationLaws.{above_less}
+use Rattle.std.proofs.lemmas.List.{get_or-map, length-map}
 use Rattle.engine.specs.Place.{IsGap}
+use Rattle.engine.specs.Slot.{SlotData, ops}
 
 -- the operations before place i are below the number
 abbrev pub IsBelowBefore : List Op → ℕ → ℕ → Type 0
@@ -75,6 +77,17 @@ gap-above os n i d up len above =
     (λ k e low lt.
     let last : (get_or os i e).seq < n = subst (λ (o : Op). o.seq < n) (same_or os i d e (omega (arith, len))) above in
     grind (arith, len, last, rise os k i e up, λ (same : k ≡ i). ap (λ j. (get_or os j e).seq) same))
+
+-- the same of slots
+pub op_at-slot : (ss : List SlotData) (n : ℕ) (d : SlotData) → IsAscending (ops ss) → n < length ss → (get_or ss n d).op.seq ≡ n → slice_get (ops ss) n ≡ op_at (ops ss) n
+op_at-slot ss n d up lt is =
+    op_at-here (ops ss) n n d.op up (omega (arith, lt, length-map ss (λ (s : SlotData). s.op))) (ap (λ (o : Op). o.seq) (get_or-map (λ (s : SlotData). s.op) ss n d d.op lt) ∙ is)
+
+pub gap-slot : (ss : List SlotData) (n i : ℕ) (d : SlotData) → IsAscending (ops ss) → length ss ≡ suc i → (get_or ss i d).op.seq < n → IsGap (ops ss) n (length ss)
+gap-slot ss n i d up len above =
+    let long = length-map ss (λ (s : SlotData). s.op) in
+    subst (λ k. IsGap (ops ss) n k) long
+    (gap-above (ops ss) n i d.op up (long ∙ len) (subst (λ (o : Op). o.seq < n) (sym (get_or-map (λ (s : SlotData). s.op) ss i d d.op (omega (arith, len)))) above))
 
 module _ (n : ℕ) where
   -- the comparisons with the number rise along the list, as a binary search asks

@@ -21,11 +21,11 @@ use Rattle.engine.proofs.KeptLaws.{IsKept-push, weaker}
 pub operations_in-more : (os : List Op) (g : ℤ) (o : Op) (r : Record) (left rs : List Record) → r ≡ Kept g o → os ++ operations_in (r ∷ left) ≡ operations_in rs → (os ++ o ∷ []) ++ operations_in left ≡ operations_in rs
 operations_in-more os g o r left rs is so_far = append_assoc os (o ∷ []) (operations_in left) ∙ sym (ap (λ (q : Record). os ++ operations_in (q ∷ left)) is) ∙ so_far
 
-placed_end : (os : List Op) (o : Op) → AllByRecursion (λ p. p.seq < o.seq) os → placed os o ≡ os ++ o ∷ []
+pub placed_end : (os : List Op) (o : Op) → AllByRecursion (λ p. p.seq < o.seq) os → placed os o ≡ os ++ o ∷ []
 placed_end [] o all = refl
 placed_end (p ∷ ps) o all = let h : p.seq < o.seq = all.0 in grind (arith, nat_tests, placed_end ps o all.1)
 
-free_end : (os : List Op) (o : Op) → AllByRecursion (λ p. p.seq < o.seq) os → op_at os o.seq ≡ None
+pub free_end : (os : List Op) (o : Op) → AllByRecursion (λ p. p.seq < o.seq) os → op_at os o.seq ≡ None
 free_end [] o all = refl
 free_end (p ∷ ps) o all = let h : p.seq < o.seq = all.0 in grind (arith, nat_tests, free_end ps o all.1)
 
@@ -72,7 +72,7 @@ either_number : (a b : Option Op) → option_or (option_map (λ o. o.seq) a) (op
 either_number None b = refl
 either_number (Some o) b = refl
 
-last_on-append : (os ps : List Op) (id : Id) → last_on (os ++ ps) id ≡ option_or (last_on ps id) (last_on os id)
+pub last_on-append : (os ps : List Op) (id : Id) → last_on (os ++ ps) id ≡ option_or (last_on ps id) (last_on os id)
 last_on-append [] ps id = either_none (last_on ps id)
 last_on-append (o ∷ os) ps id =
     ap (λ l. option_or l (if is_on id o then Some o else None)) (last_on-append os ps id)

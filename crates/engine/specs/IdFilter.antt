@@ -6,7 +6,7 @@ use Rattle.doc.specs.Id.{Id}
 -- a number for the bytes of an id, behind those that made this one
 abbrev pub hash_from : ℕ → Id → ℕ
 hash_from hash [] = hash
-hash_from hash (b ∷ bs) = hash_from (((hash + b) + 1) * 16777619 % 4294967291) bs
+hash_from hash (b ∷ bs) = hash_from (((hash + b) + 1) * 16777619 % 4294967296) bs
 
 -- the place of an id's bit among so many
 abbrev pub place_in : ℕ → Id → ℕ

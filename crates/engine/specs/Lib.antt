@@ -14,7 +14,9 @@ pub mod Staged
 pub mod SnapshotChange
 pub mod Last
 pub mod IdFilter
+pub mod IdTables
 pub mod OperationIndex
+pub mod Slot
 pub mod Before
 pub mod Latest
 pub mod Changes

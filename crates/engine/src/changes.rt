@@ -7,7 +7,7 @@ ghost use Rattle.engine.specs.Changes.{AreAt, LeadsOn};
 ghost use Rattle.engine.specs.Entry.{entry_view};
 ghost use Rattle.engine.specs.Parts.{is_among};
 
-use crate::documents::{Entry, documents_of};
+use crate::documents::{Entry, documents_made};
 use crate::handed::HasDocuments;
 use crate::history::History;
 use doc::DocId;
@@ -80,7 +80,7 @@ impl Changes {
         ensures documents { IfOk result (λ v. map entry_view v.items ≡ self.now.documents) }
         ensures are { AreAt self.now.ids self.now.documents }
     {
-        documents_of(alloc, &self.last)
+        documents_made(alloc, &self.last)
     }
 }
 

@@ -4,13 +4,16 @@ ghost use Rattle.std.specs.BTreeMap.{values};
 ghost use Rattle.std.specs.FinMap.Entries.{is_sorted};
 ghost use Rattle.doc.specs.Id.{Id, id_cmp};
 ghost use Rattle.op.specs.Documents.{document_at, documents};
-ghost use Rattle.op.specs.Operations.{is_on, last_on};
+ghost use Rattle.op.specs.Operations.{is_on, last_on, IsAscending};
 ghost use Rattle.op.specs.Records.{operations};
 ghost use Rattle.engine.specs.Entry.{entry_view};
 ghost use Rattle.engine.specs.Latest.{last_in, left_all, left_of, AreOn, IsLastBy, IsLatest, Key};
 ghost use Rattle.engine.specs.Parts.{is_among};
+ghost use Rattle.engine.specs.Slot.{ops, AreHeld};
 
 use crate::history::History;
+use crate::operation_index::OperationIndex;
+use crate::slot::Slot;
 use doc::{DocId, Source};
 use op::{Body, Op};
 use std::alloc::{AllocError, Global};
@@ -29,26 +32,27 @@ pub(crate) struct Entry<'a> {
 /// The documents of operations in ascending order.
 pub(crate) fn documents_of<'a>(
     alloc: Global,
-    operations: &'a [Op],
+    operations: &'a OperationIndex,
 ) -> Result<Vec<Entry<'a>>, AllocError>
     ensures { IfOk result (λ v. map entry_view v.items ≡ documents operations.now) }
 {
-    let latest = latest_of(alloc, operations)?;
+    let latest = latest_of(alloc, operations.as_slice())?;
     let last = in_order(alloc, &latest)?;
     let entries = entries_left(alloc, &last)?;
     Ok(entries)
 }
 
 /// The last operation on each id. Sorted at once: by far less is compared than where each goes to its place.
-fn latest_of<'a>(
-    alloc: Global,
-    operations: &'a [Op],
-) -> Result<BTreeMap<&'a str, &'a Op>, AllocError>
-    ensures { IfOk result (IsLatest operations.now) }
+fn latest_of<'a>(alloc: Global, slots: &'a [Slot]) -> Result<BTreeMap<&'a str, &'a Op>, AllocError>
+    requires ascending { IsAscending (ops slots.now) }
+    requires held { AreHeld (ops slots.now) slots.now }
+    ensures { IfOk result (IsLatest (ops slots.now)) }
 {
-    let mut pairs = Vec::with_capacity(alloc, operations.len())?;
-    for op in operations {
-        note_last(&mut pairs, op)?;
+    let mut pairs = Vec::with_capacity(alloc, slots.len())?;
+    for slot in slots {
+        if let Ok(op) = slot.op() {
+            note_last(&mut pairs, op)?;
+        }
     }
     BTreeMap::from_iter(alloc, pairs)
 }
@@ -111,6 +115,33 @@ fn entry_left(op: &Op) -> Option<Entry<'_>>
         Body::Delete(_) => None,
         Body::NoOp => None,
     }
+}
+
+/// The documents that some operations make, which aren't kept in an index.
+pub(crate) fn documents_made<'a>(
+    alloc: Global,
+    operations: &'a [Op],
+) -> Result<Vec<Entry<'a>>, AllocError>
+    ensures { IfOk result (λ v. map entry_view v.items ≡ documents operations.now) }
+{
+    let latest = latest_in(alloc, operations)?;
+    let last = in_order(alloc, &latest)?;
+    let entries = entries_left(alloc, &last)?;
+    Ok(entries)
+}
+
+/// The last of them on each id.
+fn latest_in<'a>(
+    alloc: Global,
+    operations: &'a [Op],
+) -> Result<BTreeMap<&'a str, &'a Op>, AllocError>
+    ensures { IfOk result (IsLatest operations.now) }
+{
+    let mut pairs = Vec::with_capacity(alloc, operations.len())?;
+    for op in operations {
+        note_last(&mut pairs, op)?;
+    }
+    BTreeMap::from_iter(alloc, pairs)
 }
 
 /// The documents that are at some ids, in byte order.

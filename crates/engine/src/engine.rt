@@ -1,7 +1,8 @@
 //! The documents of one copy.
-ghost use Rattle.std.specs.Prelude.{◌≡◌, ◌↔◌, ◌++◌, ◌∷◌, ◌<◌, ◌≤◌, ◌^◌, [], true, false, All, filter, length, None, IsTrue, IfOk, IfSome, OnOk, OnErr};
+ghost use Rattle.std.specs.Prelude.{◌≡◌, ◌↔◌, ◌++◌, ◌∷◌, ◌<◌, ◌≤◌, ◌^◌, [], true, false, All, filter, length, is_some, None, IsTrue, IfOk, IfSome, OnOk, OnErr};
 ghost use Rattle.std.specs.Option.{option_copied, option_map};
 ghost use Rattle.std.specs.Arc.{arc_value};
+ghost use Rattle.doc.specs.Id.{Id};
 ghost use Rattle.op.specs.Checkpoint.{checkpoint_of, known};
 ghost use Rattle.op.specs.Documents.{document_at, documents};
 ghost use Rattle.op.specs.Operations.{IsAscending, add, from_number, is_stale, last_on, local_checkpoint, next_seq, op_at};
@@ -22,12 +23,13 @@ use crate::documents::documents_at;
 use crate::history::{Applied, Found, History};
 use crate::listed::Listed;
 use crate::showing::Showing;
+use crate::slot::LetGo;
 use crate::snapshot::Snapshot;
 use crate::staged::{SnapshotChange, Staged};
 use crate::swapping::{BegunMerge, Merged, Merging, are_taken};
 use crate::unshown::Begun;
 use doc::{DocId, Mapping, Source};
-use op::{Body, Op, Record};
+use op::{Body, Op, Operations, Record};
 use segment::Segment;
 use std::alloc::{AllocError, Global};
 use std::marker::Model;
@@ -320,7 +322,7 @@ impl Engine {
         self.showing.begin_merge_of(alloc, numbers)
     }
 
-    /// The same, to be put in place by `finish_merge`, while this is no copy of what it was begun of. It changes nothing yet, but that a merge which was begun before
+    /// The same, to be put in place by `finish_merge`. It changes nothing yet, but that a merge which was begun before
     /// so can't be finished any more.
     pub fn begin_merge_beside(
         &mut self,
@@ -461,9 +463,10 @@ impl Engine {
         }
     }
 
-    /// The operation with the number.
-    pub fn op_at(&self, seq: u64) -> Option<&Op>
-        ensures { option_copied result ≡ op_at (operations self.now.records) seq }
+    /// The operation with the number, unless its text was let go.
+    pub fn op_at(&self, seq: u64) -> Result<Option<&Op>, LetGo>
+        ensures ok { IfOk result (λ o. option_copied o ≡ op_at (operations self.now.records) seq) }
+        ensures gone { OnErr result (is_some (op_at (operations self.now.records) seq) ≡ true) }
     {
         self.history.op_at(seq)
     }
@@ -500,11 +503,42 @@ impl Engine {
         self.history.is_stale(op)
     }
 
-    /// The operations above a global checkpoint, in order of number; above -1 all of them.
+    /// The operations above a global checkpoint, in order of number; above -1 all of them. Refused, as for want of memory, where the text of one of them was let go.
     pub fn above(&self, alloc: Global, global: i64) -> Result<Vec<Op>, AllocError>
         ensures { IfOk result (λ v. v.items ≡ from_number (known global) (operations self.now.records)) }
     {
         self.history.above(alloc, global)
+    }
+
+    /// The last operation on each id, and others, in order of number: what the documents are made of.
+    pub fn last_ops(&self, alloc: Global) -> Result<Vec<Op>, AllocError>
+        ensures { IfOk result (λ v. (id : Id) → last_on v.items id ≡ last_on (operations self.now.records) id) }
+    {
+        self.history.last_ops(alloc)
+    }
+
+    /// Whether no text was let go.
+    pub fn has_all(&self) -> bool {
+        self.history.has_all()
+    }
+
+    /// Whether the texts are there of all operations above a checkpoint.
+    pub fn has_above(&self, global: i64) -> bool {
+        self.history.has_above(global)
+    }
+
+    /// Whether a resync from a checkpoint on needs no text that was let go: it leaves all as it is, or all are there.
+    pub fn may_resync(&self, global: i64, tail: &Operations) -> bool {
+        self.history.may_resync(global, tail)
+    }
+
+    /// Brings back the texts that were let go, from its own records. It changes nothing else, and a refresh lets them go again.
+    pub fn take_back(&mut self, alloc: Global, records: Vec<Record>) -> Result<(), AllocError>
+        requires own { records.items ≡ self.old.records }
+        requires rules { All IsRecord records.items }
+        ensures { self.new ≡ self.old }
+    {
+        self.history.take_back(alloc, &records)
     }
 
     /// All records, as clauses see them.

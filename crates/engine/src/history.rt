@@ -1,5 +1,5 @@
 //! The records of a copy, and their operations.
-ghost use Rattle.std.specs.Prelude.{◌≡◌, ◌<◌, ◌≤◌, ◌^◌, ◌||◌, ◌++◌, false, None, if◌then◌else◌, All, drop, IfOk, IfSome, OnOk, OnErr};
+ghost use Rattle.std.specs.Prelude.{◌≡◌, ◌<◌, ◌≤◌, ◌^◌, ◌||◌, ◌++◌, true, false, None, is_some, if◌then◌else◌, All, drop, IfOk, IfSome, OnOk, OnErr};
 ghost use Rattle.chronicle.specs.Written.{written};
 ghost use Rattle.doc.specs.Id.{Id};
 ghost use Rattle.std.specs.Option.{option_copied, option_map};
@@ -8,15 +8,16 @@ ghost use Rattle.op.specs.Documents.{left_by};
 ghost use Rattle.op.specs.Operations.{IsAscending, add, from_number, is_on, is_stale, last_on, local_checkpoint, next_seq, op_at};
 ghost use Rattle.op.specs.Records.{IsRecord, operations, shown};
 ghost use Rattle.engine.specs.Found.{found_document};
+ghost use Rattle.engine.specs.Kept.{IsKept};
 ghost use Rattle.engine.specs.Parts.{is_among};
 ghost use Rattle.engine.specs.SnapshotChange.{is_op, is_write, StayShown};
 ghost use Rattle.std.specs.List.{list_any, AllPass};
 
 use crate::operation_index::OperationIndex;
-use crate::operations;
+use crate::slot::LetGo;
 use chronicle::{Chronicle, Writer};
 use doc::{DocId, Source};
-use op::{Body, Op, Record, checkpoint};
+use op::{Body, Op, Operations, Record, checkpoint};
 use std::alloc::{AllocError, Global};
 use std::marker::Model;
 
@@ -88,10 +89,7 @@ impl History {
         requires { All IsRecord records.items }
         ensures { IfOk result (λ h. h ≡ record { records = records.items; begin = 0 }) }
     {
-        let mut operations = OperationIndex::new(alloc);
-        for kept in &records {
-            operations.keep(alloc, kept)?;
-        }
+        let operations = operations_of(alloc, &records)?;
         let chronicle = Chronicle::new();
         let before = chronicle.writer();
         let rebuilt = records.len();
@@ -105,11 +103,38 @@ impl History {
         })
     }
 
-    /// Lets memory forget the records that are there. Clauses see them still.
+    /// Brings back the texts that were let go, from its own records. It changes nothing else.
+    pub(crate) fn take_back(&mut self, alloc: Global, records: &[Record]) -> Result<(), AllocError>
+        requires own { records.now ≡ self.old.records }
+        requires rules { All IsRecord records.now }
+        ensures { self.new ≡ self.old }
+    {
+        let operations = operations_of(alloc, records)?;
+        self.operations = operations;
+        Ok(())
+    }
+
+    /// Whether no text was let go.
+    pub(crate) fn has_all(&self) -> bool {
+        self.operations.has_all()
+    }
+
+    /// Whether the texts are there of all operations above a checkpoint.
+    pub(crate) fn has_above(&self, global: i64) -> bool {
+        self.operations.has_from(checkpoint::count(global))
+    }
+
+    /// Whether a resync from a checkpoint on needs no text that was let go: it leaves all as it is, or all are there.
+    pub(crate) fn may_resync(&self, global: i64, tail: &Operations) -> bool {
+        self.has_all() || self.operations.is_resynced(checkpoint::count(global), tail)
+    }
+
+    /// Lets memory forget the records that are there, and texts that newer operations replaced. Clauses see them still.
     pub(crate) fn forget(&mut self)
         ensures records { self.new.records ≡ self.old.records }
         ensures begin { self.new.begin ≤ length self.new.records }
     {
+        self.operations.let_go();
         let end = self.begin + self.recent.len();
         if end <= MOST_FORGOTTEN {
             append_all(&self.chronicle, &mut self.before, &self.recent);
@@ -119,13 +144,14 @@ impl History {
         }
     }
 
-    /// Lets memory forget the records up to a point, where it can.
+    /// Lets memory forget the records up to a point, where it can, and texts that newer operations replaced.
     pub(crate) fn forget_to(&mut self, point: usize)
         requires begin { self.old.begin ≤ point }
         requires within { point ≤ length self.old.records }
         ensures records { self.new.records ≡ self.old.records }
         ensures begin { self.new.begin ≤ point }
     {
+        self.operations.let_go();
         if point > MOST_FORGOTTEN {
             return;
         }
@@ -145,10 +171,10 @@ impl History {
     }
 
     /// The operations in order of number.
-    pub(crate) fn operations(&self) -> &[Op]
+    pub(crate) fn operations(&self) -> &OperationIndex
         ensures { result.now ≡ operations self.now.records }
     {
-        self.operations.as_slice()
+        &self.operations
     }
 
     /// The last operation on the id.
@@ -169,8 +195,9 @@ impl History {
     }
 
     /// The operation with the number.
-    pub(crate) fn op_at(&self, seq: u64) -> Option<&Op>
-        ensures { option_copied result ≡ op_at (operations self.now.records) seq }
+    pub(crate) fn op_at(&self, seq: u64) -> Result<Option<&Op>, LetGo>
+        ensures ok { IfOk result (λ o. option_copied o ≡ op_at (operations self.now.records) seq) }
+        ensures gone { OnErr result (is_some (op_at (operations self.now.records) seq) ≡ true) }
     {
         self.operations.op_at(seq)
     }
@@ -180,7 +207,7 @@ impl History {
         ensures number { result ≡ checkpoint_of (next_seq (operations self.now.records)) }
         ensures ascending { IsAscending (operations self.now.records) }
     {
-        operations::greatest(self.operations.as_slice())
+        self.operations.greatest()
     }
 
     /// The greatest number up to which none is missing, or -1.
@@ -207,11 +234,19 @@ impl History {
         self.operations.is_stale(op)
     }
 
-    /// The operations above a checkpoint.
+    /// The operations above a checkpoint; refused, as for want of memory, where the text of one of them was let go.
     pub(crate) fn above(&self, alloc: Global, global: i64) -> Result<Vec<Op>, AllocError>
         ensures { IfOk result (λ v. v.items ≡ from_number (known global) (operations self.now.records)) }
     {
-        operations::from_number(alloc, self.operations.as_slice(), checkpoint::count(global))
+        self.operations
+            .from_number(alloc, checkpoint::count(global))
+    }
+
+    /// The last operation on each id, and others.
+    pub(crate) fn last_ops(&self, alloc: Global) -> Result<Vec<Op>, AllocError>
+        ensures { IfOk result (λ v. (id : Id) → last_on v.items id ≡ last_on (operations self.now.records) id) }
+    {
+        self.operations.last_ops(alloc)
     }
 
     /// The ids of the operations that came behind a point, if nothing else came there that changed the operations.
@@ -277,6 +312,18 @@ impl History {
         self.recent.append(&mut records)?;
         Ok(())
     }
+}
+
+/// The operations of records.
+fn operations_of(alloc: Global, records: &[Record]) -> Result<OperationIndex, AllocError>
+    requires { All IsRecord records.now }
+    ensures { IfOk result (λ i. IsKept i records.now) }
+{
+    let mut operations = OperationIndex::with_room(alloc, records.len())?;
+    for kept in records {
+        operations.keep(alloc, kept)?;
+    }
+    Ok(operations)
 }
 
 /// Notes records behind those that are noted.

@@ -15,8 +15,8 @@ const LEAST_BITS: usize = 64;
 
 const MOST_BITS: usize = 4_294_967_295;
 
-/// The greatest prime number below 2^32.
-const PRIME: u64 = 4_294_967_291;
+/// Numbers of ids are below this power of two: to take one by a prime number costs a division for each byte.
+const NUMBERS: u64 = 4_294_967_296;
 
 /// A bit for each place that an id of some may have.
 pub(crate) struct IdFilter {
@@ -85,7 +85,7 @@ fn hash_of(bytes: &[u8]) -> u64
 {
     let mut hash = 0u64;
     for byte in bytes {
-        hash = (hash + *byte as u64 + 1) * 16_777_619 % PRIME;
+        hash = (hash + *byte as u64 + 1) * 16_777_619 % NUMBERS;
     }
     hash
 }

@@ -1,39 +1,47 @@
-//! The operations of a copy in order of number, found by number and by id without a walk.
-ghost use Rattle.std.specs.Prelude.{◌≡◌, ◌++◌, true, false, ℕ, Option, None, [], fold, if◌then◌else◌, IfOk, OnOk, OnErr};
+//! The operations of a copy in order of number, found by number and by id without a walk. Texts are let go of operations that newer ones replaced.
+ghost use Rattle.std.specs.Prelude.{◌≡◌, ◌≤◌, ◌^◌, ◌++◌, true, false, ℕ, Option, None, [], fold, is_some, if◌then◌else◌, IfOk, IfSome, OnOk, OnErr};
 ghost use Rattle.std.specs.Option.{option_copied, option_map, option_or};
 ghost use Rattle.doc.specs.Id.{Id, is_id};
-ghost use Rattle.op.specs.Operations.{IsAscending, add, below, is_newer, is_on, is_stale, last_on, local_count, next_seq, op_at};
+ghost use Rattle.op.specs.Checkpoint.{checkpoint_of};
+ghost use Rattle.op.specs.Operations.{IsAscending, add, below, from_number, is_newer, is_on, is_stale, last_on, local_count, next_seq, op_at};
 ghost use Rattle.op.specs.Records.{IsRecord, RunsFrom, after_record};
 ghost use Rattle.engine.specs.Applied as spec;
 ghost use Rattle.engine.specs.Applied.{RiseFrom};
 ghost use Rattle.engine.specs.SnapshotChange.{is_op};
-ghost use Rattle.engine.specs.OperationIndex.{noted, number_at, operations_in, raised};
+ghost use Rattle.engine.specs.IdTables.{number_among};
+ghost use Rattle.engine.specs.OperationIndex.{noted, operations_in, raised};
+ghost use Rattle.engine.specs.Slot.{ops, AreHeld, AreWhole, IsReplaced};
 
 use crate::history::Applied;
-use crate::id_key::IdKey;
+use crate::latest::Latest;
 use crate::operations;
+use crate::slot::{LetGo, Slot};
 use doc::DocId;
 use op::{Body, Op, Operations, Record, checkpoint};
 use std::alloc::{AllocError, Global};
-use std::collections::HashMap;
 use std::marker::Model;
 
-/// By id, the number of the last operation on it. Each key shares the text of an operation's id.
-type Latest = HashMap<IdKey, u64>;
+/// So many of the last operations keep their texts: those that a primary has unacknowledged, and the tail of a resync, lie among them.
+const NEAR: usize = 1024;
 
 /// Operations in ascending order of their numbers.
 pub(crate) struct OperationIndex {
-    operations: Vec<Op>,
+    slots: Vec<Slot>,
     latest: Latest,
     local: u64,
+    /// Up to this place it was looked at what each operation replaced.
+    settled: usize,
+    has_all: bool,
 }
 
 impl Drop for OperationIndex {
     fn drop(self) {
         let OperationIndex {
-            operations: _operations,
+            slots: _slots,
             latest: _latest,
             local: _,
+            settled: _,
+            has_all: _,
         } = self;
     }
 }
@@ -42,13 +50,15 @@ impl Model for OperationIndex {
     ghost use Rattle.std.specs.Prelude.{List};
     ghost use Rattle.op.specs.declared.operation.Op.{Op};
     ghost use Rattle.engine.specs.SnapshotChange.{is_op};
-    ghost use Rattle.engine.specs.OperationIndex.{IsIndexed, number_at};
+    ghost use Rattle.engine.specs.IdTables.{number_among};
+    ghost use Rattle.engine.specs.OperationIndex.{IsIndexed};
+    ghost use Rattle.engine.specs.Slot.{ops, AreHeld};
 
     ghost Value = { List Op };
 
-    ghost view = { λ i. i.operations.items };
+    ghost view = { λ i. ops i.slots.items };
 
-    ghost invariant = { λ i. IsIndexed i.operations.items (λ id. number_at i.latest id) i.local };
+    ghost invariant = { λ i. IsIndexed (ops i.slots.items) (λ id. number_among i.latest.tables.items id) i.local × AreHeld (ops i.slots.items) i.slots.items };
 }
 
 impl OperationIndex {
@@ -57,31 +67,70 @@ impl OperationIndex {
         ensures { result ≡ [] }
     {
         OperationIndex {
-            operations: Vec::new(alloc),
-            latest: HashMap::new(alloc),
+            slots: Vec::new(alloc),
+            latest: Latest::new(alloc),
             local: 0,
+            settled: 0,
+            has_all: true,
         }
     }
 
-    /// These operations.
-    fn of(alloc: Global, operations: Vec<Op>) -> Result<OperationIndex, AllocError>
-        requires { IsAscending operations.items }
-        ensures { IfOk result (λ i. i ≡ operations.items) }
+    /// No operations, and room for so many: no table grows much while they come.
+    pub(crate) fn with_room(alloc: Global, room: usize) -> Result<OperationIndex, AllocError>
+        ensures { IfOk result (λ i. i ≡ []) }
     {
-        let latest = latest_of(alloc, &operations)?;
-        let local = operations::local_count(&operations);
         Ok(OperationIndex {
-            operations,
-            latest,
-            local,
+            slots: Vec::with_capacity(alloc, room)?,
+            latest: Latest::with_room(alloc, room)?,
+            local: 0,
+            settled: 0,
+            has_all: true,
         })
     }
 
-    pub(crate) fn as_slice(&self) -> &[Op]
-        ensures same { result.now ≡ self.now }
+    /// These operations.
+    fn of(alloc: Global, operations: &[Op]) -> Result<OperationIndex, AllocError>
+        requires { IsAscending operations.now }
+        ensures { IfOk result (λ i. i ≡ operations.now) }
+    {
+        let mut index = OperationIndex::with_room(alloc, operations.len())?;
+        for op in operations {
+            index.add(alloc, op)?;
+        }
+        Ok(index)
+    }
+
+    pub(crate) fn as_slice(&self) -> &[Slot]
+        ensures same { ops result.now ≡ self.now }
+        ensures held { AreHeld self.now result.now }
         ensures ascending { IsAscending self.now }
     {
-        &self.operations
+        &self.slots
+    }
+
+    /// Whether no text was let go.
+    pub(crate) fn has_all(&self) -> bool {
+        self.has_all
+    }
+
+    /// Whether the texts of all operations from a number on are there.
+    pub(crate) fn has_from(&self, first: u64) -> bool {
+        operations::has_from(&self.slots, first)
+    }
+
+    /// The greatest number, or -1 where there is none.
+    pub(crate) fn greatest(&self) -> i64
+        requires { next_seq self.now ≤ 2 ^ 63 }
+        ensures { result ≡ checkpoint_of (next_seq self.now) }
+    {
+        operations::greatest(&self.slots)
+    }
+
+    /// The operations from a number on; refused, as for want of memory, where the text of one of them was let go.
+    pub(crate) fn from_number(&self, alloc: Global, first: u64) -> Result<Vec<Op>, AllocError>
+        ensures { IfOk result (λ v. v.items ≡ from_number first self.now) }
+    {
+        operations::from_number(alloc, &self.slots, first)
     }
 
     /// How many operations from number 0 up are there without a gap.
@@ -91,13 +140,34 @@ impl OperationIndex {
         self.local
     }
 
-    /// The operation with the number.
-    pub(crate) fn op_at(&self, seq: u64) -> Option<&Op>
-        ensures { option_copied result ≡ op_at self.now seq }
+    /// The last operation on each id, and others.
+    pub(crate) fn last_ops(&self, alloc: Global) -> Result<Vec<Op>, AllocError>
+        ensures { IfOk result (λ v. (id : Id) → last_on v.items id ≡ last_on self.now id) }
     {
-        match operations::place_of(&self.operations, seq) {
-            Ok(at) => Some(&self.operations[at]),
-            Err(_) => None,
+        operations::whole(alloc, &self.slots)
+    }
+
+    /// Whether there is an operation with the number.
+    fn has(&self, seq: u64) -> bool
+        ensures { result ≡ is_some (op_at self.now seq) }
+    {
+        match operations::place_of(&self.slots, seq) {
+            Ok(_) => true,
+            Err(_) => false,
+        }
+    }
+
+    /// The operation with the number.
+    pub(crate) fn op_at(&self, seq: u64) -> Result<Option<&Op>, LetGo>
+        ensures ok { IfOk result (λ o. option_copied o ≡ op_at self.now seq) }
+        ensures gone { OnErr result (is_some (op_at self.now seq) ≡ true) }
+    {
+        match operations::place_of(&self.slots, seq) {
+            Ok(at) => {
+                let op = self.slots[at].op()?;
+                Ok(Some(op))
+            }
+            Err(_) => Ok(None),
         }
     }
 
@@ -106,10 +176,10 @@ impl OperationIndex {
         ensures number { result ≡ option_map (λ o. o.seq) (last_on self.now id.now) }
         ensures ascending { IsAscending self.now }
     {
-        match id.copy(*self.operations.allocator()) {
-            Ok(shared) => self.latest.get(&IdKey(shared)).copied(),
+        match id.copy(*self.slots.allocator()) {
+            Ok(shared) => self.latest.number_on(shared),
             // The text has as many owners as can be counted.
-            Err(_) => operations::last_number_on(&self.operations, id),
+            Err(_) => operations::last_number_on(&self.slots, id),
         }
     }
 
@@ -117,9 +187,13 @@ impl OperationIndex {
     pub(crate) fn last_on(&self, id: &DocId) -> Option<&Op>
         ensures { option_copied result ≡ last_on self.now id.now }
     {
-        match self.number_on(id) {
-            Some(seq) => self.op_at(seq),
-            None => None,
+        let seq = self.number_on(id)?;
+        let Ok(at) = operations::place_of(&self.slots, seq) else {
+            return None;
+        };
+        match self.slots[at].op() {
+            Ok(op) => Some(op),
+            Err(_) => None,
         }
     }
 
@@ -159,7 +233,7 @@ impl OperationIndex {
     fn outcome(&self, op: &Op) -> Applied
         ensures { result ≡ spec.outcome self.now op.now }
     {
-        if self.op_at(op.seq).is_some() {
+        if self.has(op.seq) {
             Applied::Repeated
         } else if self.is_stale(op) {
             Applied::Stale
@@ -173,7 +247,7 @@ impl OperationIndex {
         requires { op_at self.now op.now.seq ≡ None }
         ensures { result ≡ local_count (add self.now op.now) }
     {
-        operations::local_count_with(&self.operations, self.local, op)
+        operations::local_count_with(&self.slots, self.local, op)
     }
 
     /// Takes one more record. Tells whether the operations stay as they are, where it isn't an operation.
@@ -190,26 +264,33 @@ impl OperationIndex {
             }
             Record::Resync(_, known, tail) => self.resync(alloc, checkpoint::count(*known), tail),
             Record::Recover(_, all) => {
-                *self = OperationIndex::of(alloc, all.copy(alloc)?.into_vec())?;
+                *self = OperationIndex::of(alloc, all.as_slice())?;
                 Ok(false)
             }
         }
     }
 
     /// Takes these operations behind so many numbers, and tells whether all stays as it is. A copy that goes on where it was is resynced at each start; then nothing
-    /// is made anew.
+    /// is made anew. Where something is, it is refused, as for want of memory, if the text of an operation that stays was let go.
     fn resync(&mut self, alloc: Global, count: u64, tail: &Operations) -> Result<bool, AllocError>
         requires { RunsFrom count tail.now }
         ensures ok { OnOk result (self.new ≡ below count self.old ++ tail.now) }
         ensures quiet { IfOk result (λ b. b ≡ true → below count self.old ++ tail.now ≡ self.old) }
         ensures err { OnErr result (self.new ≡ self.old) }
     {
-        if operations::is_resynced(&self.operations, count, tail.as_slice()) {
+        if self.is_resynced(count, tail) {
             return Ok(true);
         }
-        let all = operations::resynced(alloc, &self.operations, count, tail)?;
-        *self = OperationIndex::of(alloc, all)?;
+        let all = operations::resynced(alloc, &self.slots, count, tail)?;
+        *self = OperationIndex::of(alloc, &all)?;
         Ok(false)
+    }
+
+    /// Whether these operations behind so many numbers leave all as it is, as far as memory knows.
+    pub(crate) fn is_resynced(&self, count: u64, tail: &Operations) -> bool
+        ensures { result ≡ true → RunsFrom count tail.now → below count self.now ++ tail.now ≡ self.now }
+    {
+        operations::is_resynced(&self.slots, count, tail.as_slice())
     }
 
     /// Adds the operation, where its number is free.
@@ -217,14 +298,14 @@ impl OperationIndex {
         ensures ok { OnOk result (self.new ≡ add self.old op.now) }
         ensures err { OnErr result (self.new ≡ self.old) }
     {
-        match operations::place_of(&self.operations, op.seq) {
+        match operations::place_of(&self.slots, op.seq) {
             Ok(_) => Ok(()),
             Err(at) => {
-                let local = operations::local_count_with(&self.operations, self.local, op);
-                let copy = op.copy(alloc)?;
-                self.operations.reserve(1)?;
+                let local = operations::local_count_with(&self.slots, self.local, op);
+                let slot = slot_of(alloc, &self.latest, op, false)?;
+                self.slots.reserve(1)?;
                 note(alloc, &mut self.latest, op)?;
-                self.operations.insert(at, copy)?;
+                self.slots.insert(at, slot)?;
                 self.local = local;
                 Ok(())
             }
@@ -237,89 +318,150 @@ impl OperationIndex {
         ensures ok { OnOk result (self.new ≡ fold after_record self.old records.now) }
         ensures err { OnErr result (self.new ≡ self.old) }
     {
-        let mut added = copied(alloc, records)?;
-        let numbers = numbers_of(alloc, &added)?;
-        self.operations.reserve(added.len())?;
-        note_all(&mut self.latest, numbers)?;
-        self.operations.append(&mut added)?;
-        self.local = operations::local_count_on(&self.operations, self.local);
+        let added = slots_of(alloc, &self.latest, records)?;
+        self.slots.reserve(added.len())?;
+        let mut noted = note_slots(alloc, &mut self.latest, added)?;
+        self.slots.append(&mut noted)?;
+        self.local = operations::local_count_on(&self.slots, self.local);
         Ok(())
+    }
+
+    /// Lets the texts of operations go that newer ones on their ids replaced. An operation that replaced one has to have many behind it.
+    pub(crate) fn let_go(&mut self)
+        ensures { self.new ≡ self.old }
+    {
+        let end = self.slots.len().saturating_sub(NEAR);
+        for at in self.settled..end {
+            self.settle(at);
+        }
+        self.settled = self.settled.max(end);
+    }
+
+    /// Lets the text of the operation go that the one at a place replaced.
+    fn settle(&mut self, at: usize)
+        ensures { self.new ≡ self.old }
+    {
+        let Some(slot) = self.slots.get(at) else {
+            return;
+        };
+        let seq = slot.seq();
+        let is_of_many = slot.is_of_many();
+        if let Some(before) = slot.before() {
+            self.let_go_at(before);
+        }
+        // One that came with it may be on its id too.
+        if is_of_many {
+            self.let_go_at(seq);
+        }
+    }
+
+    /// Lets the text of the operation with the number go, if a newer one is on its id.
+    fn let_go_at(&mut self, seq: u64)
+        ensures { self.new ≡ self.old }
+    {
+        if !self.is_replaced(seq) {
+            return;
+        }
+        if let Ok(at) = operations::place_of(&self.slots, seq) {
+            operations::let_go(&mut self.slots, at);
+            self.has_all = false;
+        }
+    }
+
+    /// Whether a newer operation is on the id of the one with the number.
+    fn is_replaced(&self, seq: u64) -> bool
+        ensures { result ≡ true → IfSome (op_at self.now seq) (IsReplaced self.now) }
+    {
+        let Ok(at) = operations::place_of(&self.slots, seq) else {
+            return false;
+        };
+        match self.slots[at].id() {
+            Some(id) => self.has_newer(id, seq),
+            None => false,
+        }
     }
 }
 
-/// The operations that stand in records.
-fn copied(alloc: Global, records: &[Record]) -> Result<Vec<Op>, AllocError>
-    ensures { IfOk result (λ v. v.items ≡ operations_in records.now) }
+/// The operation as it is kept: its id shares the text of the one noted first.
+fn slot_of(alloc: Global, latest: &Latest, op: &Op, is_of_many: bool) -> Result<Slot, AllocError>
+    ensures { IfOk result (λ s. s ≡ record { op = op.now; gone = false }) }
 {
-    let mut operations = Vec::new(alloc);
+    let (body, before) = match &op.body {
+        Body::Index(id, source) => {
+            let (id, before) = latest.known(alloc, id)?;
+            (Body::Index(id, source.copy(alloc)?), before)
+        }
+        Body::Delete(id) => {
+            let (id, before) = latest.known(alloc, id)?;
+            (Body::Delete(id), before)
+        }
+        Body::NoOp => (Body::NoOp, None),
+    };
+    let copy = Op {
+        seq: op.seq,
+        term: op.term,
+        version: op.version,
+        body,
+    };
+    Slot::of(alloc, copy, before, is_of_many)
+}
+
+/// The operations that stand in records.
+fn slots_of(alloc: Global, latest: &Latest, records: &[Record]) -> Result<Vec<Slot>, AllocError>
+    ensures ops { IfOk result (λ v. ops v.items ≡ operations_in records.now) }
+    ensures whole { IfOk result (λ v. AreWhole v.items) }
+{
+    let mut slots = Vec::new(alloc);
     for kept in records {
         match kept {
-            Record::Op(_, op) => operations.push(op.copy(alloc)?)?,
+            Record::Op(_, op) => slots.push(slot_of(alloc, latest, op, true)?)?,
             Record::Resync(_, _, _) => {}
             Record::Recover(_, _) => {}
         }
     }
-    Ok(operations)
+    Ok(slots)
 }
 
 /// The ids of operations, each with its number.
-fn numbers_of(alloc: Global, operations: &[Op]) -> Result<Vec<(DocId, u64)>, AllocError>
-    ensures { IfOk result (λ v. (id : Id) (n : Option ℕ) → noted v.items id n ≡ option_or (option_map (λ o. o.seq) (last_on operations.now id)) n) }
+fn numbers_of(alloc: Global, slots: &[Slot]) -> Result<Vec<(DocId, u64)>, AllocError>
+    requires { AreWhole slots.now }
+    ensures { IfOk result (λ v. (id : Id) (n : Option ℕ) → noted v.items id n ≡ option_or (option_map (λ o. o.seq) (last_on (ops slots.now) id)) n) }
 {
     let mut numbers = Vec::new(alloc);
-    for op in operations {
-        match &op.body {
-            Body::Index(id, _) => numbers.push((id.copy(alloc)?, op.seq))?,
-            Body::Delete(id) => numbers.push((id.copy(alloc)?, op.seq))?,
-            Body::NoOp => {}
+    for slot in slots {
+        if let Some(id) = slot.id() {
+            numbers.push((id.copy(alloc)?, slot.seq()))?;
         }
     }
     Ok(numbers)
 }
 
-/// Notes numbers at ids in turn, all of them or, where memory is wanting, none.
-fn note_all(latest: &mut Latest, numbers: Vec<(DocId, u64)>) -> Result<(), AllocError>
-    ensures ok { OnOk result ((id : Id) → number_at latest.new id ≡ noted numbers.items id (number_at latest.old id)) }
-    ensures err { OnErr result ((id : Id) → number_at latest.new id ≡ number_at latest.old id) }
+/// Notes the numbers of operations at their ids. The operations stay, but that it is noted where no two of them are on one id.
+fn note_slots(alloc: Global, latest: &mut Latest, slots: Vec<Slot>) -> Result<Vec<Slot>, AllocError>
+    requires { AreWhole slots.items }
+    ensures same { IfOk result (λ v. v.items ≡ slots.items) }
+    ensures ok { OnOk result ((id : Id) → number_among latest.new.tables.items id ≡ option_or (option_map (λ o. o.seq) (last_on (ops slots.items) id)) (number_among latest.old.tables.items id)) }
+    ensures err { OnErr result ((id : Id) → number_among latest.new.tables.items id ≡ number_among latest.old.tables.items id) }
 {
-    latest.reserve(numbers.len())?;
-    for (id, seq) in numbers {
-        latest.insert(IdKey(id), seq)?;
+    let mut noted = slots;
+    let numbers = numbers_of(alloc, &noted)?;
+    let known = latest.len();
+    latest.note_all(alloc, numbers)?;
+    // As many ids came as operations that are the first on theirs: no two of these are on one.
+    if latest.len().saturating_sub(known) == operations::count_first(&noted) {
+        operations::note_first(&mut noted);
     }
-    Ok(())
-}
-
-/// By id, the number of the last of these operations.
-fn latest_of(alloc: Global, operations: &[Op]) -> Result<Latest, AllocError>
-    requires { IsAscending operations.now }
-    ensures { IfOk result (λ m. (id : Id) → number_at m id ≡ option_map (λ o. o.seq) (last_on operations.now id)) }
-{
-    let mut latest = HashMap::new(alloc);
-    for op in operations {
-        note(alloc, &mut latest, op)?;
-    }
-    Ok(latest)
+    Ok(noted)
 }
 
 /// Notes the number of an operation at its id, unless a greater one is there.
 fn note(alloc: Global, latest: &mut Latest, op: &Op) -> Result<(), AllocError>
-    ensures ok { OnOk result ((id : Id) → number_at latest.new id ≡ (if is_on id op.now then raised op.now.seq (number_at latest.old id) else number_at latest.old id)) }
-    ensures err { OnErr result ((id : Id) → number_at latest.new id ≡ number_at latest.old id) }
+    ensures ok { OnOk result ((id : Id) → number_among latest.new.tables.items id ≡ (if is_on id op.now then raised op.now.seq (number_among latest.old.tables.items id) else number_among latest.old.tables.items id)) }
+    ensures err { OnErr result ((id : Id) → number_among latest.new.tables.items id ≡ number_among latest.old.tables.items id) }
 {
     match &op.body {
-        Body::Index(id, _) => raise(alloc, latest, id, op.seq),
-        Body::Delete(id) => raise(alloc, latest, id, op.seq),
+        Body::Index(id, _) => latest.raise(alloc, id, op.seq),
+        Body::Delete(id) => latest.raise(alloc, id, op.seq),
         Body::NoOp => Ok(()),
     }
-}
-
-/// Raises the number at an id to this one.
-fn raise(alloc: Global, latest: &mut Latest, id: &DocId, seq: u64) -> Result<(), AllocError>
-    ensures ok { OnOk result ((w : Id) → number_at latest.new w ≡ (if is_id w id.now then raised seq (number_at latest.old w) else number_at latest.old w)) }
-    ensures err { OnErr result ((w : Id) → number_at latest.new w ≡ number_at latest.old w) }
-{
-    let key = IdKey(id.copy(alloc)?);
-    let last = latest.entry(key)?.or_insert(seq);
-    *last = seq.max(*last);
-    Ok(())
 }

@@ -19,13 +19,13 @@ use crate::choosing::{FEW_SMALL, count_small, parts_numbered, push_if, smallest_
 use crate::documents::{Entry, documents_of};
 use crate::handed::HasDocuments;
 use crate::merging::{merge, merge_owned};
+use crate::operation_index::OperationIndex;
 use crate::paging::{behind, find_pivot, page_behind};
 use crate::part::{Part, Share};
 use crate::sought::{Sought, sought_of};
 use crate::strands::strands_of;
 use crate::swapping::{Halves, part_showing, split};
 use doc::{DocId, Mapping, Source};
-use op::Op;
 use query::Query;
 use segment::Segment;
 use std::alloc::{AllocError, Global};
@@ -93,7 +93,7 @@ impl PartList {
         alloc: Global,
         mapping: Arc<Mapping, Global>,
         number: u64,
-        operations: &[Op],
+        operations: &OperationIndex,
     ) -> Result<PartList, AllocError>
         requires { Builds F.Fn builder.now }
         ensures { IfOk result (λ l. l ≡ record {
@@ -256,7 +256,7 @@ impl PartList {
 }
 
 /// The documents that operations in ascending order leave. By what they were found is let go of.
-fn documents_left(alloc: Global, operations: &[Op]) -> Result<Vec<Shown>, AllocError>
+fn documents_left(alloc: Global, operations: &OperationIndex) -> Result<Vec<Shown>, AllocError>
     ensures { IfOk result (λ v. map shown_view v.items ≡ documents operations.now) }
 {
     let entries = documents_of(alloc, operations)?;

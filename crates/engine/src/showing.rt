@@ -13,12 +13,12 @@ ghost use Rattle.engine.specs.Published.{are_taken, next_after, numbered, taken_
 
 use crate::block::Block;
 use crate::handed::Handed;
+use crate::operation_index::OperationIndex;
 use crate::part::Part;
 use crate::part_list::PartList;
 use crate::snapshot::Snapshot;
 use crate::swapping::{BegunMerge, Merged, Merging};
 use doc::{DocId, Mapping, Source};
-use op::Op;
 use segment::Segment;
 use std::alloc::{AllocError, Global};
 use std::marker::Model;
@@ -62,7 +62,7 @@ impl Showing {
         alloc: Global,
         mapping: &Arc<Mapping, Global>,
         number: u64,
-        operations: &[Op],
+        operations: &OperationIndex,
     ) -> Result<Showing, AllocError>
         requires { Builds F.Fn builder.now }
         ensures { IfOk result (λ s. s ≡ record {

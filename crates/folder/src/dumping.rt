@@ -111,7 +111,7 @@ fn write_documents<O: Write>(
     engine: &Engine,
     output: &mut O,
 ) -> Result<(), DumpFault> {
-    for op in &engine.above(alloc, -1)? {
+    for op in &engine.last_ops(alloc)? {
         write_operation(alloc, engine, op, output)?;
     }
     Ok(())

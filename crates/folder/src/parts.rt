@@ -34,7 +34,7 @@ where
     make_empty(rt, parts.folder)?;
     let mut number: u64 = 1;
     let mut part = Vec::new(alloc);
-    for op in &engine.above(alloc, -1)? {
+    for op in &engine.last_ops(alloc)? {
         let mut lines = Vec::new(alloc);
         write_operation(alloc, engine, op, &mut lines)?;
         if let Some(full) = filled(&mut part, lines, parts.bytes)? {

@@ -27,3 +27,4 @@ pub mod WovenLaws
 pub mod WeavingLaws
 pub mod ListingLaws
 pub mod GroupingLaws
+pub mod HalvingLaws

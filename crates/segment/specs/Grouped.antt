@@ -1,4 +1,5 @@
 -- Keys with a place each, listed as they come.
+-- For proofs alone: no public contract rests on it.
 use Rattle.std.specs.Prelude.{ℕ, Bool, List, [], ◌∷◌, ◌++◌, if◌then◌else◌, map}
 use Rattle.segment.specs.Places.{added, as_list}
 use Rattle.segment.specs.declared.places.Places.{Places}

@@ -9,12 +9,13 @@ use Rattle.std.specs.Map.{lookup}
 use Rattle.std.specs.Ordering.{int_eq}
 use Rattle.std.specs.HashMap.{HashMap, get_by_text}
 use Rattle.segment.specs.declared.places.Places.{Places}
-use Rattle.segment.specs.declared.places.Places.TheVariants.{One, Many}
+use Rattle.segment.specs.declared.places.Places.TheVariants.{One, Two, Many}
 
 -- the places, one after another
 abbrev pub as_list : Places → List ℕ
 as_list (One at) = at ∷ []
-as_list (Many places) = places.items
+as_list (Two both) = both
+as_list (Many places) = places.value.items
 
 -- whether a word is among the words
 abbrev pub has_word : List ℕ → List (List ℕ) → Bool

@@ -7,6 +7,7 @@ mod building;
 pub mod column;
 mod finishing;
 mod grouping;
+mod halving;
 mod joining;
 mod limits;
 mod listing;

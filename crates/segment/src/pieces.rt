@@ -6,7 +6,8 @@ ghost use Rattle.segment.specs.Joined.{behind, AreMakings};
 
 use crate::building::makings_of;
 use crate::column::Column;
-use crate::finishing::{finish_all, list_all};
+use crate::finishing::list_all;
+use crate::halving::finish_halves;
 use crate::joining::join;
 use crate::making::Makings;
 use crate::rooms::rooms_of;
@@ -19,8 +20,11 @@ use std::thread::Threads;
 /// So many pieces keep the processors of most machines at work.
 const MOST_PIECES: usize = 8;
 
+/// Columns are finished in up to two parts: each has room of its own for what it puts together.
+const HALVINGS: u32 = 1;
+
 /// A piece of fewer documents isn't worth a thread.
-const LEAST_PIECE: usize = 512;
+const LEAST_PIECE: usize = 4096;
 
 /// The columns of the fields that some documents have.
 pub(crate) fn columns_of<R: Threads + Sync>(
@@ -50,7 +54,7 @@ pub(crate) fn columns_of<R: Threads + Sync>(
     for piece in pieces {
         join(alloc, &mut makings, piece?, &rooms, len)?;
     }
-    finish_all(alloc, makings, len)
+    finish_halves(rt, alloc, makings, len, HALVINGS)
 }
 
 /// The columns of a piece. Where it isn't all, their texts are listed, to be put behind those of the pieces before it.

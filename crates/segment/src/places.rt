@@ -7,14 +7,15 @@ use crate::moving::risen;
 use std::alloc::{AllocError, Global};
 use std::slice;
 
-/// A list of two places grows to six, which is what an allocator hands out at least.
-const LEAST_GROWTH: usize = 4;
+/// A list of three places grows to six, which is what an allocator hands out at least.
+const LEAST_GROWTH: usize = 3;
 
-/// The places of a term. Most terms are in one document, and one place needs no allocation.
+/// The places of a term. Most terms are in few documents, and one place or two need no allocation. More are in a box, so that those few take no more room than they must.
 #[derive(Drop)]
 pub enum Places {
     One(u32),
-    Many(Vec<u32>),
+    Two([u32; 2]),
+    Many(Box<Vec<u32>>),
 }
 
 impl Places {
@@ -25,7 +26,11 @@ impl Places {
         if places.len() == 1 {
             return Ok(Places::One(places[0]));
         }
-        Ok(Places::Many(Vec::from_slice(alloc, places)?))
+        if places.len() == 2 {
+            return Ok(Places::Two([places[0], places[1]]));
+        }
+        let many = Vec::from_slice(alloc, places)?;
+        Ok(Places::Many(Box::new(alloc, many)?))
     }
 
     /// The places one after another.
@@ -34,7 +39,8 @@ impl Places {
     {
         match self {
             Places::One(at) => slice::from_ref(at),
-            Places::Many(places) => places,
+            Places::Two(both) => both,
+            Places::Many(places) => places.as_ref(),
         }
     }
 
@@ -44,8 +50,12 @@ impl Places {
     {
         match self {
             Places::One(first) => {
-                let both = vec![in alloc; *first, at]?;
-                *self = Places::Many(both);
+                let first = *first;
+                *self = Places::Two([first, at]);
+            }
+            Places::Two(both) => {
+                let many = vec![in alloc; both[0], both[1], at]?;
+                *self = Places::Many(Box::new(alloc, many)?);
             }
             Places::Many(places) => push(places, at)?,
         }
@@ -56,17 +66,16 @@ impl Places {
     pub(crate) fn append(&mut self, alloc: Global, later: &[u32]) -> Result<(), AllocError>
         ensures { OnOk result (as_list self.new ≡ as_list self.old ++ later.now) }
     {
-        match self {
-            Places::One(first) => {
-                let mut all = vec![in alloc; *first]?;
-                all.extend_from_slice(later)?;
-                *self = Places::Many(all);
-            }
-            Places::Many(places) => {
-                places.reserve_exact(later.len())?;
-                places.extend_from_slice(later)?;
-            }
+        if let Places::Many(places) = self {
+            places.reserve_exact(later.len())?;
+            places.extend_from_slice(later)?;
+            return Ok(());
         }
+        let first = self.as_slice();
+        let mut all = Vec::with_capacity(alloc, 2 + later.len())?;
+        all.extend_from_slice(first)?;
+        all.extend_from_slice(later)?;
+        *self = Places::of(alloc, &all)?;
         Ok(())
     }
 
@@ -75,7 +84,7 @@ impl Places {
         ensures { OnOk result (as_list self.new ≡ risen (as_list self.old) later.now) }
     {
         let all = risen(alloc, self.as_slice(), later)?;
-        *self = Places::Many(all);
+        *self = Places::Many(Box::new(alloc, all)?);
         Ok(())
     }
 }

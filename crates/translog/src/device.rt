@@ -104,6 +104,10 @@ pub trait LogDevice: Drop {
         ensures room { room self.old ≤ room self.new }
         ensures in_memory { in_memory ≡ true → IsOk result };
 
+    /// All its bytes, as it holds them in memory. Nothing is read.
+    fn held(&self) -> &[u8]
+        ensures { result.now ≡ bytes self.now };
+
     /// How often it has failed. At its greatest value the count stays.
     fn faults(&self) -> u64
         ensures { result ≡ failures self.now };

@@ -1,5 +1,5 @@
 //! A device in a file.
-ghost use Rattle.std.specs.Prelude.{◌≡◌, ◌≤◌, ◌++◌, ◌⊎◌, true, false, length, take, drop, is_err, IfOk, IfSome, OnOk, OnErr};
+ghost use Rattle.std.specs.Prelude.{◌≡◌, ◌≤◌, ◌++◌, ◌⊎◌, [], true, false, length, take, drop, is_err, IfOk, IfSome, OnOk, OnErr};
 ghost use Rattle.std.specs.Io.KnownBytes.{Appends};
 ghost use Rattle.translog.specs.Device.{AddsFront, count_after};
 ghost use Rattle.translog.specs.Fault.{errs_with, is_failed};
@@ -10,6 +10,9 @@ use std::alloc::{AllocError, Global};
 use std::fs::OpenFile;
 use std::io;
 use std::io::{Read, Write};
+
+/// Behind what a file holds there is so much room, in which its end is found.
+const SPARE_ROOM: u64 = 65_536;
 
 /// A file that was opened to be read and appended to. What it holds is kept in memory too, for no contract can say what a disk gives back:
 /// what a log is opened with is what was read at first, and what was written since. Nobody else may change the file.
@@ -113,7 +116,7 @@ fn opened<F: Read + Write + OpenFile + Drop>(
     ensures kind { IfOk result (λ d. d.is_lazy ≡ is_lazy) }
 {
     let mut file = file;
-    let mut bytes = Vec::new(alloc);
+    let mut bytes = room_for(alloc, &file);
     file.read_to_end(&mut bytes)?;
     if !bytes.is_empty() {
         file.sync_data()?;
@@ -128,6 +131,20 @@ fn opened<F: Read + Write + OpenFile + Drop>(
         overhangs: false,
         is_doubtful: false,
     })
+}
+
+/// Room for what a file holds, as far as its length is told, so that nothing is moved while it is read. Without memory for it there is none yet.
+fn room_for<F: OpenFile>(alloc: Global, file: &F) -> Vec<u8>
+    ensures { result.items ≡ [] }
+{
+    let len = match file.metadata() {
+        Ok(found) => found.len(),
+        Err(_) => 0,
+    };
+    match Vec::with_capacity(alloc, len.saturating_add(SPARE_ROOM) as usize) {
+        Ok(room) => room,
+        Err(_) => Vec::new(alloc),
+    }
 }
 
 /// Adds a piece to a file and waits until it is on the disk, unless that is left for a sync.
@@ -263,6 +280,10 @@ impl<F: Read + Write + OpenFile + Drop> LogDevice for FileDevice<F> {
             return Err(Failed);
         }
         Ok(())
+    }
+
+    fn held(&self) -> &[u8] {
+        &self.bytes
     }
 
     fn faults(&self) -> u64 {

@@ -114,6 +114,16 @@ impl<D: LogDevice> Translog<D> {
         Ok((records, torn))
     }
 
+    /// The records that the translog keeps, as `read` gives them, of what the device holds in memory. Nothing is read, and nothing changes.
+    #[tactic(auto, using(crate::proofs::KeptLaws::torn_rules))]
+    pub fn records(&self, alloc: Global) -> Result<Vec<Record>, LogFault>
+        ensures found { Gives fault_of (λ rs. rs.items) result (kept (D.bytes self.now.device)) }
+        ensures rules { IfOk result (λ rs. All IsRecord rs.items) }
+    {
+        let (records, _torn, _groups) = pieces::found(alloc, self.device.held())?;
+        Ok(records)
+    }
+
     /// The same; the frames' contents are read on all processors.
     #[tactic(auto, using(crate::proofs::KeptLaws::torn_rules))]
     pub fn read_on<R: Threads + Sync>(

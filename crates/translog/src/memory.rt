@@ -81,6 +81,10 @@ impl LogDevice for MemDevice {
         Ok(())
     }
 
+    fn held(&self) -> &[u8] {
+        self.bytes()
+    }
+
     fn faults(&self) -> u64 {
         self.failures
     }

@@ -38,7 +38,8 @@ impl State {
         let Some(role) = self.role.follower() else {
             return Err(CopyFault::Mismatch);
         };
-        let Some(found) = self.engine.op_at(op.seq) else {
+        let there = self.op_at(op.seq)?;
+        let Some(found) = there else {
             return self.take_new(alloc, from, known, op, role);
         };
         if !op.is(found) {

@@ -108,7 +108,8 @@ impl State {
         let numbers = settled.to_vec(alloc)?;
         let mut items = Vec::new(alloc);
         for number in numbers.as_slice() {
-            if let Some(op) = self.op_among(latest, *number) {
+            let found = self.op_among(latest, *number)?;
+            if let Some(op) = found {
                 items.push(op.copy(alloc)?)?;
             }
         }
@@ -116,16 +117,20 @@ impl State {
     }
 
     /// The operation at a number, which may be the latest one.
-    fn op_among<'a>(&'a self, latest: Option<&'a Op>, number: u64) -> Option<&'a Op>
-        ensures { option_copied result ≡ op_among (operations self.now.copy) (option_copied latest.entry) number }
+    fn op_among<'a>(
+        &'a self,
+        latest: Option<&'a Op>,
+        number: u64,
+    ) -> Result<Option<&'a Op>, AllocError>
+        ensures { IfOk result (λ o. option_copied o ≡ op_among (operations self.now.copy) (option_copied latest.entry) number) }
     {
         match latest {
             Some(op) => if op.seq == number {
-                Some(op)
+                Ok(Some(op))
             } else {
-                self.engine.op_at(number)
+                self.op_at(number)
             },
-            None => self.engine.op_at(number),
+            None => self.op_at(number),
         }
     }
 

@@ -112,7 +112,7 @@ impl State {
     fn filled(&self, alloc: Global, number: u64, term: u64) -> Result<Op, AllocError>
         ensures { IfOk result (λ o. o ≡ unwrap_or (op_at (operations self.now.copy) number) (no_op term number)) }
     {
-        match self.engine.op_at(number) {
+        match self.op_at(number)? {
             Some(op) => op.copy(alloc),
             None => Ok(Op {
                 seq: number,

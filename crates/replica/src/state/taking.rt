@@ -13,7 +13,7 @@ use crate::planned::Handled;
 use crate::role::Role;
 use crate::state::State;
 use op::rules::{is_checkpoint, is_op_record, is_recover_record, is_resync_record, is_term};
-use op::{Content, Msg};
+use op::{Content, Msg, checkpoint};
 use std::alloc::Global;
 
 impl State {
@@ -31,6 +31,20 @@ impl State {
             ..
         } = message;
         self.take_content(alloc, from, term, content)
+    }
+
+    /// Whether a message that isn't refused at once needs texts that were let go.
+    pub(crate) fn needs_texts(&self, message: &Msg) -> bool {
+        if self.engine.has_all() || self.check(message).is_err() {
+            return false;
+        }
+        match &message.content {
+            Content::Op(_, op) => self.engine.op_at(op.seq).is_err(),
+            Content::Promoted(_) => !self.engine.has_above(checkpoint::from_count(self.known)),
+            Content::Resync(known, tail) => !self.engine.may_resync(*known, tail),
+            Content::Track(_) => true,
+            _ => false,
+        }
     }
 
     /// Why a message is refused before its case: its address, an empty copy, its term, its shape.

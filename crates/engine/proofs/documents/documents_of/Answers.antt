@@ -1,9 +1,12 @@
 use Rattle.std.proofs.Common.{◌∙◌, ap}
+use Rattle.op.specs.Documents.{documents}
 use Rattle.engine.specs.Latest.{left_all}
+use Rattle.engine.specs.Slot.{ops}
 use Rattle.engine.proofs.LatestLaws.{documents-latest}
 use Rattle.engine.proofs.documents.documents_of.Goals as goal
 
 -- what the last operations leave
 pub returns : goal.returns
 returns c =
-    c.in_ok-entries.ensures ∙ ap left_all (c.deref.ensures.value ∙ c.in_ok-last.ensures) ∙ documents-latest c.args.operations.now c.in_ok-latest.latest c.in_ok-latest.ensures
+    c.in_ok-entries.ensures ∙ ap left_all (c.deref.ensures.value ∙ c.in_ok-last.ensures) ∙ documents-latest (ops c.as_slice.result.now) c.in_ok-latest.latest c.in_ok-latest.ensures
+    ∙ ap documents c.as_slice.ensures.same

@@ -1,3 +1,4 @@
+use denote.Param.Send.{sendable}
 use Rattle.std.proofs.Common.{◌≡◌, ◌∙◌, ◌<◌, ◌≤◌, ◌+◌, ◌*◌, ◌/◌, ◌%◌, ◌∷◌, [], min, rules, arith, sym, ap, subst, map, length, get_or, List, ℕ, Result}
 use Rattle.std.specs.Prelude.{IfOk}
 use Rattle.std.specs.declared.alloc.AllocError.{AllocError}
@@ -60,14 +61,16 @@ loop-piece-preserved g c =
       omega (arith, steps.1, c.loop-piece.invariant.1, ap length steps.0),
     )
 
-pub finish_all-requires : goal.finish_all-requires
-finish_all-requires g c =
+pub finish_halves-requires : goal.finish_halves-requires
+finish_halves-requires g c =
     let m = c.args.mapping.now in
     let ss = c.args.sources.now in
     let left = c.loop-piece.piece-iterator.rest.items in
-    let none : left ≡ [] = nil_from_length left (omega (arith, c.loop-piece.invariant.1, c.in-None.ensures.steps.0)) in
-    makings-few m.fields (map (all_values m) ss) (length ss) c.loop-piece.makings (sym (length-map ss (all_values m)))
-    (all-pieces m c.max-size.result (length ss) ss c.loop-piece.makings (subst (IsSoFar m c.max-size.result (length ss) ss c.loop-piece.makings) none c.loop-piece.invariant.0))
+    let none : left ≡ [] = nil_from_length left (omega (arith, c.loop-piece.invariant.1, c.in-None.ensures.steps.0)) in (
+      search (rules, sendable) depth 20,
+      makings-few m.fields (map (all_values m) ss) (length ss) c.loop-piece.makings (sym (length-map ss (all_values m)))
+          (all-pieces m c.max-size.result (length ss) ss c.loop-piece.makings (subst (IsSoFar m c.max-size.result (length ss) ss c.loop-piece.makings) none c.loop-piece.invariant.0)),
+    )
 
 -- all documents
 pub returns : goal.returns
@@ -76,6 +79,6 @@ returns g c =
     let ss = c.args.sources.now in
     let left = c.loop-piece.piece-iterator.rest.items in
     let none : left ≡ [] = nil_from_length left (omega (arith, c.loop-piece.invariant.1, c.in-None.ensures.steps.0)) in
-    IfOk-weaker c.finish_all.result (AreFinished (length ss) c.loop-piece.makings) _
+    IfOk-weaker c.finish_halves.result (AreFinished (length ss) c.loop-piece.makings) _
     (λ columns made. makings-finished m.fields (map (all_values m) ss) (length ss) c.loop-piece.makings columns (sym (length-map ss (all_values m)))
-    (all-pieces m c.max-size.result (length ss) ss c.loop-piece.makings (subst (IsSoFar m c.max-size.result (length ss) ss c.loop-piece.makings) none c.loop-piece.invariant.0)) made) c.finish_all.ensures
+    (all-pieces m c.max-size.result (length ss) ss c.loop-piece.makings (subst (IsSoFar m c.max-size.result (length ss) ss c.loop-piece.makings) none c.loop-piece.invariant.0)) made) c.finish_halves.ensures

@@ -15,5 +15,5 @@ resync-requires c =
 -- what a recovery brings rises
 pub of-requires : goal.of-requires
 of-requires c =
-    rw (c.into_vec.ensures, c.in_ok-copy-in-Recover.ensures)
+    rw c.as_slice.ensures
     (rw c.in-Recover.is at (IsAscending-after [] c.args.kept.now tt c.requires))

@@ -1,6 +1,6 @@
 use Rattle.std.proofs.lemmas.Result.{err_from_is_err_and}
 use Rattle.replica.specs.Step.{copy_step}
-use Rattle.replica.proofs.Failures.{refused_at_once, refused_in}
+use Rattle.replica.proofs.Failures.{open_in, refused_at_once, refused_in}
 use Rattle.replica.proofs.Searching.{done_searches, refused_stays}
 use Rattle.replica.proofs.copy.Copy.step.Goals as goal
 
@@ -26,3 +26,8 @@ returns-clause-searched g c =
 
 pub returns-clause-stays : goal.returns-clause-stays
 returns-clause-stays g c = refused_stays c.commit.result c.args.self.now c.prepare.new.self c.commit.new.self c.in_ok-prepared.ensures.segments c.commit.ensures.refused
+
+pub returns-clause-open : goal.returns-clause-open
+returns-clause-open g c =
+    let ready = c.in_ok-prepared.ensures in
+    open_in c.commit.result c.args.self.now.closed c.prepare.new.self.closed c.commit.new.self.closed c.args.input c.in_ok-prepared.prepared c.commit.ensures.open ready.prepared.kind ready.prepared.closed ready.untouched.stays
