@@ -1,8 +1,8 @@
 -- The documents of the last operation on each id are those of all operations.
 use denote.Ref.{Bor}
 use lib.Dec.{T}
-use Rattle.std.proofs.Common.{◌≡◌, ◌<◌, ◌+◌, ◌++◌, ◌||◌, ℕ, length, take, get_or, Bool, true, false, cond, List, [], ◌∷◌, append_assoc, append-nil, Option, Some, None, BTreeMap, option_map, if◌then◌else◌, refl, sym, ap, ◌∙◌, subst, true≢false}
-use Rattle.std.specs.List.{AllByRecursion}
+use Rattle.std.proofs.Common.{◌≡◌, ◌<◌, ◌+◌, ◌++◌, ◌||◌, ℕ, length, take, get_or, Bool, true, false, cond, List, [], ◌∷◌, append_assoc, append-nil, Option, Some, None, option_map, if◌then◌else◌, refl, sym, ap, ◌∙◌, subst, true≢false}
+use Rattle.std.specs.List.{AllByRecursion, Contains}
 use Rattle.std.specs.List.Sorted.{IsStrictlySortedBy}
 use Rattle.std.specs.Option.{IfSome, option_or}
 use Rattle.std.specs.Ordering.{is_eq, nat_cmp, eq_by_cmp, ordering_reverse}
@@ -10,14 +10,14 @@ use Rattle.std.specs.declared.cmp.Ordering.{Ordering}
 use Rattle.std.specs.declared.cmp.Ordering.TheVariants.{Less, Equal, Greater}
 use Rattle.std.specs.Cmp.{tied_itself}
 use Rattle.std.specs.Cmp.Lexicographic.{slice_cmp, nat_list_cmp_total, on_texts}
-use Rattle.std.specs.BTreeMap as tree
 use Rattle.std.specs.FinMap.Entries.{is_sorted, below_all, same_entries}
 use Rattle.std.specs.Map.{keys_of, values_of, lookup, update, update_all}
-use Rattle.std.proofs.lemmas.Map.Keys.{sorted_head, sorted_tail}
+use Rattle.std.proofs.lemmas.Cmp.{eq_by_cmp_equiv}
+use Rattle.std.proofs.lemmas.Map.Keys.{sorted_head, sorted_tail, IsDistinct-from_sorted}
 use Rattle.std.proofs.lemmas.Map.Lookups.{exact_bytes}
 use Rattle.std.proofs.lemmas.List.Sums.{fold-append}
-use Rattle.std.proofs.lemmas.List.Elements.{recursion_from_All, All-weaker}
-use Rattle.std.proofs.lemmas.Map.Views.{All-found}
+use Rattle.std.proofs.lemmas.List.Elements.{recursion_from_All, All-contains_itself, All-weaker}
+use Rattle.std.proofs.lemmas.Map.Views.{lookup-from_Contains}
 use Rattle.doc.specs.Id.{Id, id_cmp, is_id}
 use Rattle.op.specs.declared.operation.Op.{Op}
 use Rattle.op.specs.declared.operation.Body.{Body}
@@ -26,7 +26,8 @@ use Rattle.op.specs.Documents.{Documents, document_at, document_of, documents, l
 use Rattle.op.specs.Operations.{concerns, is_on, last_on}
 use Rattle.op.proofs.DocumentLaws.{document_at-documents, is_sorted-documents}
 use Rattle.op.proofs.OperationLaws.{last_on-push}
-use Rattle.engine.specs.Latest.{Key, key_cmp, last_in, left_all, left_of, AreOn, IsLastBy, IsLatest}
+use Rattle.engine.specs.Latest.{Key, key_cmp, last_in, left_all, left_of, AreOn, AreLastBy, AreLatest}
+use Rattle.engine.specs.LastOfEach.{IsLastOfEach}
 use Rattle.engine.specs.Parts.{is_among}
 use Rattle.engine.proofs.ChosenLaws.{among-more}
 use Rattle.engine.proofs.PartLaws.{both, is_less, true_T, T_true, find_below}
@@ -102,11 +103,11 @@ module _ (q : Id) where
       ∙ sym (of_cond (is_eq (id_cmp q e.0.now)) e.1 (lookup (λ (k : Key). is_eq (slice_cmp nat_cmp q k.now)) es))
 
 -- the operations that are told leave their documents, in order of the ids
-pub sorted-by : (told : Id → Option Op) (m : BTreeMap Key (Bor Op)) → IsLastBy told m → is_sorted id_cmp (left_all (values_of m.entries)) ≡ true
-sorted-by told m is = T_true _ (sorted-left m.entries is.ordered is.on)
+pub sorted-by : (told : Id → Option Op) (ls : List (Bor Op)) → AreLastBy told ls → is_sorted id_cmp (left_all ls) ≡ true
+sorted-by told ls are = ap (λ os. is_sorted id_cmp (left_all os)) are.are ∙ T_true _ (sorted-left are.entries are.ordered are.on)
 
-pub found-by : (told : Id → Option Op) (m : BTreeMap Key (Bor Op)) → IsLastBy told m → (id : Id) → document_at (left_all (values_of m.entries)) id ≡ document_of (told id)
-found-by told m is id = found-left id m.entries is.ordered is.on ∙ ap document_of (is.last id)
+pub found-by : (told : Id → Option Op) (ls : List (Bor Op)) → AreLastBy told ls → (id : Id) → document_at (left_all ls) id ≡ document_of (told id)
+found-by told ls are id = ap (λ os. document_at (left_all os) id) are.are ∙ found-left id are.entries are.ordered are.on ∙ ap document_of (are.last id)
 
 -- told are the last ones at some ids
 pub found-among : (os : List Op) (id : Id) (b : Bool) → document_of (if b then last_on os id else None) ≡ (if b then document_at (documents os) id else None)
@@ -114,12 +115,13 @@ found-among os id true = sym (document_at-documents os id)
 found-among os id false = refl
 
 -- the documents that the last operations leave are those of all
-pub documents-latest : (os : List Op) (m : BTreeMap Key (Bor Op)) → IsLatest os m → left_all (values_of m.entries) ≡ documents os
-documents-latest os m is =
-    same_entries id_cmp nat_list_cmp_total exact_bytes _ _ (sorted-left m.entries is.ordered is.on) (true_T _ (is_sorted-documents os))
-    (λ id. found-left id m.entries is.ordered is.on ∙ ap document_of (is.last id) ∙ sym (document_at-documents os id))
+pub documents-latest : (os : List Op) (ls : List (Bor Op)) → AreLatest os ls → left_all ls ≡ documents os
+documents-latest os ls are =
+    ap left_all are.are
+    ∙ same_entries id_cmp nat_list_cmp_total exact_bytes _ _ (sorted-left are.entries are.ordered are.on) (true_T _ (is_sorted-documents os))
+    (λ id. found-left id are.entries are.ordered are.on ∙ ap document_of (are.last id) ∙ sym (document_at-documents os id))
 
--- ---- a map of pairs has the last operation on each id
+-- ---- of pairs the last operation on each id
 
 abbrev equal : Key → Key → Bool
 equal = eq_by_cmp key_cmp
@@ -160,17 +162,21 @@ pub on_last : (os : List Op) (id : Id) → IfSome (last_on os id) (λ o. is_on i
 on_last [] id = tt
 on_last (o ∷ os) id = on_or id (last_on os id) o (is_on id o) refl (on_last os id)
 
--- so a map made of the pairs has the operations that are told
-pub IsLastBy-made : (told : Id → Option Op) → ((id : Id) → IfSome (told id) (λ o. is_on id o ≡ true)) → (ps : List (Key × Bor Op)) (m : BTreeMap Key (Bor Op)) → tree.IsFromIterResult key_cmp ps m
-    → ((q : Key) → last_in ps q ≡ told q.now) → IsLastBy told m
-IsLastBy-made told on ps m made last =
-    let at : (q : Key) → option_map (λ o. o.now) (tree.get key_cmp m q) ≡ told q.now = λ q. ap (option_map (λ o. o.now)) (made.0 q) ∙ last q in
+-- so the last of the pairs are the operations that are told
+pub AreLastBy-made : (told : Id → Option Op) → ((id : Id) → IfSome (told id) (λ o. is_on id o ≡ true)) → (ps : List (Key × Bor Op)) (ls : List (Bor Op)) → IsLastOfEach key_cmp ps ls
+    → ((q : Key) → last_in ps q ≡ told q.now) → AreLastBy told ls
+AreLastBy-made told on ps ls made last =
+    let at : (q : Key) → option_map (λ o. o.now) (lookup (λ k. is_eq (key_cmp q k)) made.entries) ≡ told q.now = λ q. ap (option_map (λ o. o.now)) (made.last q) ∙ last q in
+    let found : (e : Key × Bor Op) → Contains made.entries e → lookup (equal e.0) made.entries ≡ Some e.1 =
+    λ e is. lookup-from_Contains (eq_by_cmp_equiv (on_texts (λ (k : Key). k.now))) e.0 e.1 made.entries (IsDistinct-from_sorted key_cmp (keys_of made.entries) made.ordered) is in
+    let is_at : (e : Key × Bor Op) → lookup (equal e.0) made.entries ≡ Some e.1 → is_on e.0.now e.1.now ≡ true =
+    λ e is. subst (λ (l : Option Op). IfSome l (λ o. is_on e.0.now o ≡ true)) (sym (at e.0) ∙ ap (option_map (λ o. o.now)) is) (on e.0.now) in
     record {
-      ordered = made.1;
-      on = recursion_from_All (λ (e : Key × Bor Op). is_on e.0.now e.1.now ≡ true) m.entries
-          (All-weaker (λ (e : Key × Bor Op). tree.get key_cmp m e.0 ≡ Some e.1) (λ (e : Key × Bor Op). is_on e.0.now e.1.now ≡ true)
-          (λ e is. subst (λ (l : Option Op). IfSome l (λ o. is_on e.0.now o ≡ true)) (sym (at e.0) ∙ ap (option_map (λ o. o.now)) is) (on e.0.now))
-          m.entries (All-found (on_texts (λ (k : Key). k.now)) m made.1));
+      entries = made.entries;
+      are = made.are;
+      ordered = made.ordered;
+      on = recursion_from_All (λ (e : Key × Bor Op). is_on e.0.now e.1.now ≡ true) made.entries
+          (All-weaker (Contains made.entries) (λ (e : Key × Bor Op). is_on e.0.now e.1.now ≡ true) (λ e is. is_at e (found e is)) made.entries (All-contains_itself made.entries));
       last = λ id. at (key_of id);
     }
 

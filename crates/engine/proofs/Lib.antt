@@ -11,6 +11,7 @@ pub mod ApartLaws
 pub mod ChosenLaws
 pub mod RefreshLaws
 pub mod RiseLaws
+pub mod RisenLaws
 pub mod ShareLaws
 pub mod SnapshotLaws
 pub mod PageLaws
@@ -20,6 +21,7 @@ pub mod BegunLaws
 pub mod AheadLaws
 pub mod LivingLaws
 pub mod ChoosingLaws
+pub mod LastOfEachLaws
 pub mod LatestLaws
 pub mod LeftLaws
 pub mod ResyncLaws

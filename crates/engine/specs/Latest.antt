@@ -8,8 +8,7 @@ use Rattle.std.specs.List.Sorted.{IsStrictlySortedBy}
 use Rattle.std.specs.Ordering.{is_eq, nat_cmp, eq_by_cmp}
 use Rattle.std.specs.declared.cmp.Ordering.{Ordering}
 use Rattle.std.specs.Cmp.Lexicographic.{slice_cmp}
-use Rattle.std.specs.BTreeMap.{BTreeMap}
-use Rattle.std.specs.Map.{keys_of, lookup, update_all}
+use Rattle.std.specs.Map.{keys_of, values_of, lookup, update_all}
 use Rattle.doc.specs.Id.{Id}
 use Rattle.op.specs.declared.operation.Op.{Op}
 use Rattle.op.specs.declared.operation.Body.{Body}
@@ -32,18 +31,20 @@ abbrev pub AreOn : List (Key × Bor Op) → Type 0
 AreOn ps = AllByRecursion (λ p. is_on p.0.now p.1.now ≡ true) ps
 
 -- the operation at an id
-abbrev pub latest_at : BTreeMap Key (Bor Op) → Id → Option Op
-latest_at m id = option_map (λ o. o.now) (lookup (λ k. is_eq (slice_cmp nat_cmp id k.now)) m.entries)
+abbrev pub latest_at : List (Key × Bor Op) → Id → Option Op
+latest_at es id = option_map (λ o. o.now) (lookup (λ k. is_eq (slice_cmp nat_cmp id k.now)) es)
 
 -- by id, the operations that are told
-pub record IsLastBy (told : Id → Option Op) (m : BTreeMap Key (Bor Op)) : Type 0 where
-  pub ordered : IsStrictlySortedBy key_cmp (keys_of m.entries)
-  pub on : AreOn m.entries
-  pub last : (id : Id) → latest_at m id ≡ told id
+pub record AreLastBy (told : Id → Option Op) (os : List (Bor Op)) : Type 0 where
+  pub entries : List (Key × Bor Op)
+  pub are : os ≡ values_of entries
+  pub ordered : IsStrictlySortedBy key_cmp (keys_of entries)
+  pub on : AreOn entries
+  pub last : (id : Id) → latest_at entries id ≡ told id
 
 -- the last operation on each id
-abbrev pub IsLatest : List Op → BTreeMap Key (Bor Op) → Type 0
-IsLatest os m = IsLastBy (last_on os) m
+abbrev pub AreLatest : List Op → List (Bor Op) → Type 0
+AreLatest os ls = AreLastBy (last_on os) ls
 
 -- the document of an operation
 abbrev pub left_of : Op → Body → Documents

@@ -18,5 +18,6 @@ pub mod IdTables
 pub mod OperationIndex
 pub mod Slot
 pub mod Before
+pub mod LastOfEach
 pub mod Latest
 pub mod Changes

@@ -1,23 +1,22 @@
 //! The documents that operations make, as a list in byte order of their ids.
 ghost use Rattle.std.specs.Prelude.{◌≡◌, ◌∷◌, [], true, None, Some, if◌then◌else◌, map, All, IfOk, IfSome, OnOk};
-ghost use Rattle.std.specs.BTreeMap.{values};
 ghost use Rattle.std.specs.FinMap.Entries.{is_sorted};
 ghost use Rattle.doc.specs.Id.{Id, id_cmp};
 ghost use Rattle.op.specs.Documents.{document_at, documents};
 ghost use Rattle.op.specs.Operations.{is_on, last_on, IsAscending};
 ghost use Rattle.op.specs.Records.{operations};
 ghost use Rattle.engine.specs.Entry.{entry_view};
-ghost use Rattle.engine.specs.Latest.{last_in, left_all, left_of, AreOn, IsLastBy, IsLatest, Key};
+ghost use Rattle.engine.specs.Latest.{last_in, left_all, left_of, AreOn, AreLastBy, AreLatest, Key};
 ghost use Rattle.engine.specs.Parts.{is_among};
 ghost use Rattle.engine.specs.Slot.{ops, AreHeld};
 
 use crate::history::History;
+use crate::last_of_each::last_of_each;
 use crate::operation_index::OperationIndex;
 use crate::slot::Slot;
 use doc::{DocId, Source};
 use op::{Body, Op};
 use std::alloc::{AllocError, Global};
-use std::collections::BTreeMap;
 
 /// A document, its id and its text where they stand in the operation that wrote it.
 #[derive(Clone, Copy)]
@@ -37,16 +36,15 @@ pub(crate) fn documents_of<'a>(
     ensures { IfOk result (λ v. map entry_view v.items ≡ documents operations.now) }
 {
     let latest = latest_of(alloc, operations.as_slice())?;
-    let last = in_order(alloc, &latest)?;
-    let entries = entries_left(alloc, &last)?;
+    let entries = entries_left(alloc, &latest)?;
     Ok(entries)
 }
 
-/// The last operation on each id. Sorted at once: by far less is compared than where each goes to its place.
-fn latest_of<'a>(alloc: Global, slots: &'a [Slot]) -> Result<BTreeMap<&'a str, &'a Op>, AllocError>
+/// The last operation on each id, in byte order of the ids. All are sorted at once: by far less is compared than where each goes to its place.
+fn latest_of<'a>(alloc: Global, slots: &'a [Slot]) -> Result<Vec<&'a Op>, AllocError>
     requires ascending { IsAscending (ops slots.now) }
     requires held { AreHeld (ops slots.now) slots.now }
-    ensures { IfOk result (IsLatest (ops slots.now)) }
+    ensures { IfOk result (λ v. AreLatest (ops slots.now) v.items) }
 {
     let mut pairs = Vec::with_capacity(alloc, slots.len())?;
     for slot in slots {
@@ -54,17 +52,7 @@ fn latest_of<'a>(alloc: Global, slots: &'a [Slot]) -> Result<BTreeMap<&'a str, &
             note_last(&mut pairs, op)?;
         }
     }
-    BTreeMap::from_iter(alloc, pairs)
-}
-
-/// The operations of a map, in byte order of the ids.
-fn in_order<'a>(
-    alloc: Global,
-    latest: &BTreeMap<&'a str, &'a Op>,
-) -> Result<Vec<&'a Op>, AllocError>
-    ensures { IfOk result (λ v. v.items ≡ values latest.entry.now) }
-{
-    latest.values().copied().collect(alloc)
+    last_of_each(alloc, pairs)
 }
 
 /// Notes an operation at its id, where it has one.
@@ -125,23 +113,19 @@ pub(crate) fn documents_made<'a>(
     ensures { IfOk result (λ v. map entry_view v.items ≡ documents operations.now) }
 {
     let latest = latest_in(alloc, operations)?;
-    let last = in_order(alloc, &latest)?;
-    let entries = entries_left(alloc, &last)?;
+    let entries = entries_left(alloc, &latest)?;
     Ok(entries)
 }
 
 /// The last of them on each id.
-fn latest_in<'a>(
-    alloc: Global,
-    operations: &'a [Op],
-) -> Result<BTreeMap<&'a str, &'a Op>, AllocError>
-    ensures { IfOk result (IsLatest operations.now) }
+fn latest_in<'a>(alloc: Global, operations: &'a [Op]) -> Result<Vec<&'a Op>, AllocError>
+    ensures { IfOk result (λ v. AreLatest operations.now v.items) }
 {
     let mut pairs = Vec::with_capacity(alloc, operations.len())?;
     for op in operations {
         note_last(&mut pairs, op)?;
     }
-    BTreeMap::from_iter(alloc, pairs)
+    last_of_each(alloc, pairs)
 }
 
 /// The documents that are at some ids, in byte order.
@@ -154,8 +138,7 @@ pub(crate) fn documents_at<'a>(
     ensures found { IfOk result (λ v. (id : Id) → document_at (map entry_view v.items) id ≡ (if is_among ids.now id then document_at (documents (operations history.now.records)) id else None)) }
 {
     let latest = latest_at(alloc, history, ids)?;
-    let last = in_order(alloc, &latest)?;
-    let entries = entries_left(alloc, &last)?;
+    let entries = entries_left(alloc, &latest)?;
     Ok(entries)
 }
 
@@ -164,8 +147,8 @@ fn latest_at<'a>(
     alloc: Global,
     history: &'a History,
     ids: &[DocId],
-) -> Result<BTreeMap<&'a str, &'a Op>, AllocError>
-    ensures { IfOk result (IsLastBy (λ id. if is_among ids.now id then last_on (operations history.now.records) id else None)) }
+) -> Result<Vec<&'a Op>, AllocError>
+    ensures { IfOk result (λ v. AreLastBy (λ id. if is_among ids.now id then last_on (operations history.now.records) id else None) v.items) }
 {
     let mut noted = Vec::with_capacity(alloc, ids.len())?;
     for id in ids {
@@ -173,5 +156,5 @@ fn latest_at<'a>(
             note_last(&mut noted, op)?;
         }
     }
-    BTreeMap::from_iter(alloc, noted)
+    last_of_each(alloc, noted)
 }

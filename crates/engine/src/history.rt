@@ -9,6 +9,7 @@ ghost use Rattle.op.specs.Operations.{IsAscending, add, from_number, is_on, is_s
 ghost use Rattle.op.specs.Records.{IsRecord, operations, shown};
 ghost use Rattle.engine.specs.Found.{found_document};
 ghost use Rattle.engine.specs.Kept.{IsKept};
+ghost use Rattle.engine.specs.OperationIndex.{operations_in};
 ghost use Rattle.engine.specs.Parts.{is_among};
 ghost use Rattle.engine.specs.SnapshotChange.{is_op, is_write, StayShown};
 ghost use Rattle.std.specs.List.{list_any, AllPass};
@@ -53,6 +54,8 @@ pub(crate) struct History {
     operations: OperationIndex,
     /// Behind so many records each one that isn't an operation left the operations as they were.
     rebuilt: usize,
+    /// Behind so many records only operations came, each with a number above all before it.
+    risen: usize,
 }
 
 impl Drop for History {
@@ -64,19 +67,20 @@ impl Drop for History {
             recent: _recent,
             operations: _operations,
             rebuilt: _,
+            risen: _,
         } = self;
     }
 }
 
 impl Model for History {
     ghost use Rattle.std.specs.Prelude.{◌≡◌, ◌≤◌, ◌^◌, ◌++◌, [], length};
-    ghost use Rattle.engine.specs.Kept.{HistoryData, IsKept, IsQuiet};
+    ghost use Rattle.engine.specs.Kept.{HasRisen, HistoryData, IsKept, IsQuiet};
 
     ghost Value = { HistoryData };
 
     ghost view = { λ h. record { records = h.before.entries ++ h.recent.items; begin = h.begin } };
 
-    ghost invariant = { λ h. IsKept h.operations (h.before.entries ++ h.recent.items) × (h.before.line.book ≡ h.chronicle) × (length h.before.entries ≡ h.begin) × (h.begin ≤ 2 ^ 63) × IsQuiet [] h.rebuilt (h.before.entries ++ h.recent.items) };
+    ghost invariant = { λ h. IsKept h.operations (h.before.entries ++ h.recent.items) × (h.before.line.book ≡ h.chronicle) × (length h.before.entries ≡ h.begin) × (h.begin ≤ 2 ^ 63) × IsQuiet [] h.rebuilt (h.before.entries ++ h.recent.items) × HasRisen h.risen (h.before.entries ++ h.recent.items) };
 }
 
 impl History {
@@ -92,14 +96,15 @@ impl History {
         let operations = operations_of(alloc, &records)?;
         let chronicle = Chronicle::new();
         let before = chronicle.writer();
-        let rebuilt = records.len();
+        let len = records.len();
         Ok(History {
             chronicle,
             before,
             begin: 0,
             recent: records,
             operations,
-            rebuilt,
+            rebuilt: len,
+            risen: len,
         })
     }
 
@@ -152,7 +157,7 @@ impl History {
         ensures begin { self.new.begin ≤ point }
     {
         self.operations.let_go();
-        if point > MOST_FORGOTTEN {
+        if point == self.begin || point > MOST_FORGOTTEN {
             return;
         }
         let Ok(later) = self.recent.split_off(point - self.begin) else {
@@ -274,6 +279,24 @@ impl History {
         Ok(Some(ids))
     }
 
+    /// The operations that came behind a point, where nothing else came there, and each had a number above all before it.
+    pub(crate) fn ops_since(
+        &self,
+        alloc: Global,
+        point: usize,
+    ) -> Result<Option<Vec<Op>>, AllocError>
+        requires begin { self.now.begin ≤ point }
+        requires within { point ≤ length self.now.records }
+        ensures are { IfOk result (λ o. IfSome o (λ v. v.items ≡ operations_in (drop point self.now.records))) }
+        ensures behind { IfOk result (λ o. IfSome o (λ v. operations self.now.records ≡ shown self.now.records point ++ v.items)) }
+    {
+        if point < self.risen {
+            return Ok(None);
+        }
+        let ops = ops_in(alloc, &self.recent[point - self.begin..])?;
+        Ok(Some(ops))
+    }
+
     /// Keeps the record, where it isn't an operation whose number is there.
     pub(crate) fn apply(&mut self, alloc: Global, kept: &Record) -> Result<Applied, AllocError>
         requires { IsRecord kept.now }
@@ -288,10 +311,12 @@ impl History {
         }
         self.recent.reserve(1)?;
         let copy = kept.copy(alloc)?;
+        let is_next = self.operations.is_next(kept);
         let is_quiet = self.operations.keep(alloc, kept)?;
         self.recent.push(copy)?;
         let len = self.begin + self.recent.len();
-        self.rebuilt = rebuilt_after(is_quiet, self.rebuilt, len);
+        self.rebuilt = before_rule(is_quiet, self.rebuilt, len);
+        self.risen = before_rule(is_next, self.risen, len);
         Ok(applied)
     }
 
@@ -336,11 +361,26 @@ fn append_all(chronicle: &Chronicle<Record>, before: &mut Writer<Record>, record
     }
 }
 
-/// How many records stand before those behind which all is quiet, once there are so many.
-fn rebuilt_after(is_quiet: bool, before: usize, len: usize) -> usize
-    ensures { result ≡ (if is_quiet then before else len) }
+/// The operations that stand in records.
+fn ops_in(alloc: Global, records: &[Record]) -> Result<Vec<Op>, AllocError>
+    ensures { IfOk result (λ v. v.items ≡ operations_in records.now) }
 {
-    if is_quiet { before } else { len }
+    let mut ops = Vec::with_capacity(alloc, records.len())?;
+    for kept in records {
+        match kept {
+            Record::Op(_, op) => ops.push(op.copy(alloc)?)?,
+            Record::Resync(_, _, _) => {}
+            Record::Recover(_, _) => {}
+        }
+    }
+    Ok(ops)
+}
+
+/// How many records stand before those that keep a rule, once there are so many: all, where the last one doesn't.
+fn before_rule(keeps: bool, before: usize, len: usize) -> usize
+    ensures { result ≡ (if keeps then before else len) }
+{
+    if keeps { before } else { len }
 }
 
 /// Adds the id that a record writes, and tells whether it is an operation.

@@ -11,6 +11,7 @@ mod handed;
 mod history;
 mod id_filter;
 mod id_key;
+mod last_of_each;
 mod latest;
 pub mod listed;
 mod merging;

@@ -9,6 +9,7 @@ ghost use Rattle.engine.specs.Applied as spec;
 ghost use Rattle.engine.specs.Applied.{RiseFrom};
 ghost use Rattle.engine.specs.SnapshotChange.{is_op};
 ghost use Rattle.engine.specs.IdTables.{number_among};
+ghost use Rattle.engine.specs.Kept.{IsNext};
 ghost use Rattle.engine.specs.OperationIndex.{noted, operations_in, raised};
 ghost use Rattle.engine.specs.Slot.{ops, AreHeld, AreWhole, IsReplaced};
 
@@ -124,6 +125,18 @@ impl OperationIndex {
         ensures { result ≡ checkpoint_of (next_seq self.now) }
     {
         operations::greatest(&self.slots)
+    }
+
+    /// Whether a record is an operation with a number above all that are there.
+    pub(crate) fn is_next(&self, kept: &Record) -> bool
+        requires { next_seq self.now ≤ 2 ^ 63 }
+        ensures { result ≡ true → IsNext self.now kept.now }
+    {
+        match kept {
+            Record::Op(_, op) => checkpoint::count(self.greatest()) <= op.seq,
+            Record::Resync(_, _, _) => false,
+            Record::Recover(_, _) => false,
+        }
     }
 
     /// The operations from a number on; refused, as for want of memory, where the text of one of them was let go.

@@ -104,9 +104,9 @@ pub trait LogDevice: Drop {
         ensures room { room self.old ≤ room self.new }
         ensures in_memory { in_memory ≡ true → IsOk result };
 
-    /// All its bytes, as it holds them in memory. Nothing is read.
-    fn held(&self) -> &[u8]
-        ensures { result.now ≡ bytes self.now };
+    /// All its bytes, as a copy of what it holds in memory. Nothing is read.
+    fn held(&self, alloc: Global) -> Result<Vec<u8>, AllocError>
+        ensures { IfOk result (λ held. held.items ≡ bytes self.now) };
 
     /// How often it has failed. At its greatest value the count stays.
     fn faults(&self) -> u64

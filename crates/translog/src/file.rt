@@ -3,9 +3,9 @@ ghost use Rattle.std.specs.Prelude.{◌≡◌, ◌≤◌, ◌++◌, ◌⊎◌, [
 ghost use Rattle.std.specs.Io.KnownBytes.{Appends};
 ghost use Rattle.translog.specs.Device.{AddsFront, count_after};
 ghost use Rattle.translog.specs.Fault.{errs_with, is_failed};
-ghost use Rattle.translog.specs.Memory.{room_in};
 
 use crate::device::{DeviceFault, Failed, LogDevice};
+use packed::PackedBytes;
 use std::alloc::{AllocError, Global};
 use std::fs::OpenFile;
 use std::io;
@@ -14,8 +14,12 @@ use std::io::{Read, Write};
 /// Behind what a file holds there is so much room, in which its end is found.
 const SPARE_ROOM: u64 = 65_536;
 
+/// For each so many bytes that are appended a block of 65,536 bytes is packed, as far as there is one: so what is appended isn't left behind.
+const BYTES_FOR_A_BLOCK: usize = 16_384;
+
 /// A file that was opened to be read and appended to. What it holds is kept in memory too, for no contract can say what a disk gives back:
-/// what a log is opened with is what was read at first, and what was written since. Nobody else may change the file.
+/// what a log is opened with is what was read at first, and what was written since. There it is packed, but for its end and for what isn't on the
+/// disk for sure. Nobody else may change the file.
 ///
 /// A device that syncs when it is told writes then, too: all that was appended since in one piece, so that what a crash leaves of it is a front.
 ///
@@ -26,7 +30,7 @@ const SPARE_ROOM: u64 = 65_536;
 #[derive(Drop)]
 pub struct FileDevice<F: Read + Write + OpenFile + Drop> {
     file: F,
-    bytes: Vec<u8>,
+    bytes: PackedBytes,
     /// How many of these bytes are on the disk for sure.
     synced: usize,
     failures: u64,
@@ -37,6 +41,7 @@ pub struct FileDevice<F: Read + Write + OpenFile + Drop> {
     /// Whether a sync has failed, or what was to mend that.
     is_doubtful: bool,
     ghost within: { synced ≤ length bytes.items },
+    ghost packed: { bytes.packed ≤ synced },
 }
 
 impl<F: Read + Write + OpenFile + Drop> FileDevice<F> {
@@ -94,7 +99,7 @@ impl<F: Read + Write + OpenFile + Drop> FileDevice<F> {
         ensures failures { self.new.failures ≡ self.old.failures }
     {
         self.file.set_len(self.synced as u64)?;
-        self.file.write_all(&self.bytes[self.synced..])?;
+        self.file.write_all(self.bytes.behind(self.synced))?;
         self.file.sync_all()?;
         self.synced = self.bytes.len();
         self.overhangs = false;
@@ -124,7 +129,7 @@ fn opened<F: Read + Write + OpenFile + Drop>(
     let synced = bytes.len();
     Ok(FileDevice {
         file,
-        bytes,
+        bytes: PackedBytes::of(bytes),
         synced,
         failures: 0,
         is_lazy,
@@ -173,7 +178,7 @@ impl<F: Read + Write + OpenFile + Drop> LogDevice for FileDevice<F> {
 
     ghost is_doubtful = { λ d. d.is_doubtful };
 
-    ghost room = { λ d. room_in d.bytes };
+    ghost room = { λ d. d.bytes.room };
 
     ghost failures = { λ d. d.failures };
 
@@ -192,6 +197,7 @@ impl<F: Read + Write + OpenFile + Drop> LogDevice for FileDevice<F> {
         ensures stays { self.old.synced ≤ self.new.synced }
         ensures doubtful { self.old.is_doubtful ≡ true → (is_err result ≡ true) × (self.new.is_doubtful ≡ true) }
     {
+        let before = self.bytes.len();
         if self.is_doubtful
             || self.overhangs
             || self.bytes.reserve(piece.len()).is_err()
@@ -202,9 +208,12 @@ impl<F: Read + Write + OpenFile + Drop> LogDevice for FileDevice<F> {
             self.failures = self.failures.saturating_add(1);
             return Err(Failed);
         }
+        let after = self.bytes.len();
         if !self.is_lazy {
-            self.synced = self.bytes.len();
+            self.synced = after;
         }
+        let blocks = after / BYTES_FOR_A_BLOCK - before / BYTES_FOR_A_BLOCK;
+        self.bytes.pack(self.synced, blocks);
         Ok(())
     }
 
@@ -218,7 +227,7 @@ impl<F: Read + Write + OpenFile + Drop> LogDevice for FileDevice<F> {
         ensures refused { self.old.is_doubtful ≡ true → is_err result ≡ true }
         ensures counts { self.new.failures ≡ count_after (is_err result) self.old.failures }
     {
-        let rest = &self.bytes[self.synced..];
+        let rest = self.bytes.behind(self.synced);
         if self.is_doubtful || !rest.is_empty() && write(&mut self.file, rest).is_err() {
             self.is_doubtful = true;
             self.failures = self.failures.saturating_add(1);
@@ -256,7 +265,7 @@ impl<F: Read + Write + OpenFile + Drop> LogDevice for FileDevice<F> {
         ensures written { OnOk result (Appends (F.contents self.old.file) (F.contents self.new.file) (drop self.old.synced (take len self.old.bytes.items))) }
         ensures doubtful { self.old.is_doubtful ≡ true → (is_err result ≡ true) × (self.new.is_doubtful ≡ true) }
         ensures counts { self.new.failures ≡ count_after (is_err result) self.old.failures }
-        ensures room { room_in self.old.bytes ≤ room_in self.new.bytes }
+        ensures room { self.old.bytes.room ≤ self.new.bytes.room }
     {
         let left = if len < self.bytes.len() {
             len
@@ -268,7 +277,10 @@ impl<F: Read + Write + OpenFile + Drop> LogDevice for FileDevice<F> {
         } else {
             self.synced
         };
-        if self.is_doubtful || self.file.set_len(front as u64).is_err() {
+        if self.is_doubtful
+            || self.bytes.loosen(left).is_err()
+            || self.file.set_len(front as u64).is_err()
+        {
             self.failures = self.failures.saturating_add(1);
             return Err(Failed);
         }
@@ -282,8 +294,8 @@ impl<F: Read + Write + OpenFile + Drop> LogDevice for FileDevice<F> {
         Ok(())
     }
 
-    fn held(&self) -> &[u8] {
-        &self.bytes
+    fn held(&self, alloc: Global) -> Result<Vec<u8>, AllocError> {
+        self.bytes.to_vec(alloc)
     }
 
     fn faults(&self) -> u64 {

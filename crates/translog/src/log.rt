@@ -120,7 +120,8 @@ impl<D: LogDevice> Translog<D> {
         ensures found { Gives fault_of (λ rs. rs.items) result (kept (D.bytes self.now.device)) }
         ensures rules { IfOk result (λ rs. All IsRecord rs.items) }
     {
-        let (records, _torn, _groups) = pieces::found(alloc, self.device.held())?;
+        let held = self.device.held(alloc)?;
+        let (records, _torn, _groups) = pieces::found(alloc, held.as_slice())?;
         Ok(records)
     }
 

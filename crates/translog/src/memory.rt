@@ -81,8 +81,8 @@ impl LogDevice for MemDevice {
         Ok(())
     }
 
-    fn held(&self) -> &[u8] {
-        self.bytes()
+    fn held(&self, alloc: Global) -> Result<Vec<u8>, AllocError> {
+        self.bytes.to_vec(alloc)
     }
 
     fn faults(&self) -> u64 {

@@ -25,6 +25,7 @@ impl Engine {
         ensures mapping { IfOk result (λ o. IfSome o (λ u. u.mapping ≡ self.old.mapping)) }
         ensures all { IfOk result (λ o. IfSome o (λ u. u.point ≡ length self.old.records)) }
     {
+        self.forget_shown();
         let Some(changes) = Changes::of(alloc, &self.history, self.point)? else {
             return Ok(None);
         };
@@ -35,6 +36,15 @@ impl Engine {
         let unshown = Unshown::of(alloc, &self.mapping, &begun)?;
         self.pending = Some(begun);
         Ok(Some(unshown))
+    }
+
+    /// Lets memory forget the records that searches show, and texts that newer operations replaced. A refresh that is finished leaves this to the next one, so
+    /// that neither takes long.
+    fn forget_shown(&mut self)
+        ensures { self.new ≡ self.old }
+    {
+        let point = self.point;
+        self.history.forget_to(point);
     }
 
     /// Shows the records that were there when the refresh was begun for which this was built. Where another refresh came since, or was begun, it is `false`, and all
@@ -54,7 +64,6 @@ impl Engine {
         let Some(showing) = self.showing_with(alloc, &begun)? else {
             return Ok(false);
         };
-        self.history.forget_to(point);
         self.showing = showing;
         self.point = point;
         Ok(true)

@@ -5,5 +5,4 @@ use Rattle.engine.proofs.documents.documents_made.Goals as goal
 
 -- what the last operations leave
 pub returns : goal.returns
-returns c =
-    c.in_ok-entries.ensures ∙ ap left_all (c.deref.ensures.value ∙ c.in_ok-last.ensures) ∙ documents-latest c.args.operations.now c.in_ok-latest.latest c.in_ok-latest.ensures
+returns c = c.in_ok-entries.ensures ∙ ap left_all c.deref.ensures.value ∙ documents-latest c.args.operations.now c.in_ok-latest.latest.items c.in_ok-latest.ensures

@@ -8,5 +8,4 @@ use Rattle.engine.proofs.documents.documents_of.Goals as goal
 -- what the last operations leave
 pub returns : goal.returns
 returns c =
-    c.in_ok-entries.ensures ∙ ap left_all (c.deref.ensures.value ∙ c.in_ok-last.ensures) ∙ documents-latest (ops c.as_slice.result.now) c.in_ok-latest.latest c.in_ok-latest.ensures
-    ∙ ap documents c.as_slice.ensures.same
+    c.in_ok-entries.ensures ∙ ap left_all c.deref.ensures.value ∙ documents-latest (ops c.as_slice.result.now) c.in_ok-latest.latest.items c.in_ok-latest.ensures ∙ ap documents c.as_slice.ensures.same

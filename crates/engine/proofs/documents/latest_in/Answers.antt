@@ -1,12 +1,9 @@
-use Rattle.std.proofs.Common.{◌≡◌, ◌∙◌, ◌∷◌, ◌++◌, ◌+◌, [], Ok, take, ap, sym}
-use Rattle.std.specs.BTreeMap as tree
-use Rattle.std.proofs.lemmas.Iterator.Adapters.{fact_from_collect, YieldsList-from_vec}
+use Rattle.std.proofs.Common.{◌≡◌, ◌∙◌, ◌∷◌, ◌++◌, ◌+◌, [], take, ap, sym}
 use Rattle.std.proofs.lemmas.List.{take_more, take_all}
 use Rattle.std.proofs.lemmas.Result.{IfOk-weaker}
 use Rattle.op.specs.declared.operation.Op.{Op}
 use Rattle.op.specs.Operations.{last_on}
-use Rattle.engine.specs.Latest.{key_cmp}
-use Rattle.engine.proofs.LatestLaws.{IsLastBy-made, last-more, on_last}
+use Rattle.engine.proofs.LatestLaws.{AreLastBy-made, last-more, on_last}
 use Rattle.engine.proofs.documents.latest_in.Goals as goal
 
 -- one operation more
@@ -22,10 +19,8 @@ loop-op-preserved c =
     }
 
 pub returns : goal.returns
-returns c = IfOk-weaker c.from_iter.result _ _
-    (λ m ran.
-    let pairs = c.loop-op.pairs.items in
-    let made = fact_from_collect {E = Unit {0}} (tree.IsFromIterResult key_cmp) (Ok m) (ran.1, ran.3, ran.4) (YieldsList-from_vec pairs ran.2.0 (ran.2.1 ∙ c.loop-op.pairs.ok.0)) in
-    IsLastBy-made (last_on c.args.operations.now) (on_last c.args.operations.now) pairs m made
+returns c = IfOk-weaker c.last_of_each.result _ _
+    (λ v made.
+    AreLastBy-made (last_on c.args.operations.now) (on_last c.args.operations.now) c.loop-op.pairs.items v.items made
     (λ q. c.loop-op.invariant.last q ∙ ap (λ ps. last_on ps q.now) (take_all c.loop-op.op-index c.args.operations.now c.loop-op-test.false)))
-    c.from_iter.ensures.ran
+    c.last_of_each.ensures

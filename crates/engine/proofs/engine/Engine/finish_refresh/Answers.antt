@@ -1,6 +1,5 @@
-use Rattle.std.proofs.Common.{◌≡◌, ◌≤◌, ◌∙◌, ap, arith, sym, List, length}
+use Rattle.std.proofs.Common.{◌≡◌, ◌≤◌, ◌∙◌, ap, arith, sym}
 use Rattle.std.specs.Arc.{arc_value}
-use Rattle.op.specs.declared.record.Record.{Record}
 use Rattle.op.specs.Documents.{Documents, documents}
 use Rattle.op.specs.Records.{shown}
 use Rattle.engine.specs.Answer.{SnapshotData}
@@ -21,11 +20,11 @@ invariant_of-self-3 c =
     let at : c.point-point.result ≡ c.in-Some.begun.point = c.point-point.ensures ∙ ap (λ (x : ChangesData). x.point) c.given.ensures in
     let under : Documents → SnapshotData = λ ds. record { mapping = arc_value inside.mapping; documents = ds } in
     let shows : after.snapshot ≡ under (merged c.in-Some.begun.documents (without c.in-Some.begun.ids (documents (shown inside.history.records inside.point)))) = rw c.in-Some-2.is at c.in_ok-showing.ensures.snapshot in
-    let same = leads.same ∙ ap (λ n. documents (shown inside.history.records n)) (sym at) ∙ ap (λ (rs : List Record). documents (shown rs c.point-point.result)) (sym c.forget_to.ensures.records) in
+    let same = leads.same ∙ ap (λ n. documents (shown inside.history.records n)) (sym at) in
     let fronted : IsFronted before.next before.published after.published = rw c.in-Some-2.is at c.in_ok-showing.ensures.numbers in
     let rises : before.next ≤ after.next = rw c.in-Some-2.is at c.in_ok-showing.ensures.rises in (
-      record { in_range = omega (arith, at, leads.within, ap length c.forget_to.ensures.records); same = shows ∙ ap under same },
-      c.forget_to.ensures.begin,
+      record { in_range = omega (arith, at, leads.within); same = shows ∙ ap under same },
+      omega (arith, at, leads.more, c.self.invariant.1),
       rw c.take.ensures.after tt,
       still-begun (λ l. (arc_value {X = PartList} l).published) inside.merging before.next after.next before.published after.published fronted rises c.self.invariant.3,
     )

@@ -1,9 +1,10 @@
 use Rattle.std.proofs.Common.{◌≡◌, ◌∷◌, ◌++◌, ◌+◌, [], List, append_assoc, arith, length, if◌then◌else◌, subst}
 use Rattle.op.specs.declared.record.Record.{Record}
 use Rattle.op.specs.Records.{after_record}
-use Rattle.engine.specs.Kept.{IsKept, IsQuiet}
+use Rattle.engine.specs.Kept.{HasRisen, IsKept, IsQuiet}
 use Rattle.engine.proofs.KeptLaws.{IsKept-push}
 use Rattle.engine.proofs.QuietLaws.{counted, quiet-after}
+use Rattle.engine.proofs.RisenLaws.{risen-after}
 use Rattle.engine.proofs.history.History.apply.Goals as goal
 
 -- the operations and the records have the same record more
@@ -19,8 +20,12 @@ invariant_of-self-2 c =
       c.self.invariant.1,
       c.self.invariant.2,
       c.self.invariant.3,
-      rw (c.rebuilt_after-self-inside.ensures, c.in_ok-push.ensures.items, c.in_ok-reserve.ensures.items, c.in_ok-copy.ensures)
+      rw (c.before_rule-self-inside.ensures, c.in_ok-push.ensures.items, c.in_ok-reserve.ensures.items, c.in_ok-copy.ensures)
           (subst (λ (rs : List Record). IsQuiet [] (if c.in_ok-is_quiet.is_quiet then h.rebuilt else h.begin + c.len.result) rs) (append_assoc before recent (kept ∷ []))
           (quiet-after c.in_ok-is_quiet.is_quiet h.rebuilt (h.begin + c.len.result) h.operations (before ++ recent) kept c.self.invariant.4
           (counted before recent kept h.begin c.len.result c.self.invariant.2 more) c.self.invariant.0.same c.in_ok-is_quiet.ensures.quiet)),
+      rw (c.before_rule-self-inside-2.ensures, c.in_ok-push.ensures.items, c.in_ok-reserve.ensures.items, c.in_ok-copy.ensures)
+          (subst (λ (rs : List Record). HasRisen (if c.is_next-is_next.result then h.risen else h.begin + c.len.result) rs) (append_assoc before recent (kept ∷ []))
+          (risen-after c.is_next-is_next.result h.risen (h.begin + c.len.result) h.operations (before ++ recent) kept c.self.invariant.0.ascending c.self.invariant.5
+          (counted before recent kept h.begin c.len.result c.self.invariant.2 more) c.self.invariant.0.same c.is_next-is_next.ensures)),
     )

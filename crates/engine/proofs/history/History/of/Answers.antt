@@ -2,6 +2,7 @@ use Rattle.std.proofs.Common.{[], List, arith, length, subst, ap}
 use Rattle.op.specs.declared.record.Record.{Record}
 use Rattle.engine.specs.Kept.{IsKept}
 use Rattle.engine.proofs.QuietLaws.{quiet-above}
+use Rattle.engine.proofs.RisenLaws.{risen-above}
 use Rattle.engine.proofs.history.History.of.Goals as goal
 
 -- behind all of them nothing has come
@@ -13,5 +14,6 @@ invariant_of-result c =
       c.writer-before.ensures.book,
       ap length empty,
       omega arith,
-      rw empty (quiet-above [] c.len-rebuilt.result records (omega (arith, c.len-rebuilt.ensures, c.args.records.ok.0))),
+      rw empty (quiet-above [] c.len-len.result records (omega (arith, c.len-len.ensures, c.args.records.ok.0))),
+      rw empty (risen-above c.len-len.result records (omega (arith, c.len-len.ensures, c.args.records.ok.0))),
     )
