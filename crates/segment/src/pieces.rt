@@ -18,7 +18,7 @@ use std::thread;
 use std::thread::Threads;
 
 /// So many pieces keep the processors of most machines at work.
-const MOST_PIECES: usize = 8;
+const MOST_PIECES: usize = 4;
 
 /// Columns are finished in up to two parts: each has room of its own for what it puts together.
 const HALVINGS: u32 = 1;

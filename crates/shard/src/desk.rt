@@ -21,7 +21,7 @@ use front::{Resumable, Service};
 use segment::Segment;
 use std::alloc::{AllocError, Global};
 use std::marker::Model;
-use std::sync::{Arc, Mutex, Wait};
+use std::sync::{Arc, Mutex, MutexGuard, Wait};
 use translog::LogDevice;
 
 /// What searches see of an index at a place of its history. Contracts see the place.
@@ -122,6 +122,11 @@ fn is_search(command: &Command) -> bool {
     matches!(command, Command::Search(_) | Command::Count(_))
 }
 
+/// Whether a command is a bulk.
+fn is_bulk(command: &Command) -> bool {
+    matches!(command, Command::Bulk(_))
+}
+
 /// Whether a command has searches see what was written, by a segment more.
 fn is_refresh(command: &Command) -> bool {
     match command {
@@ -154,12 +159,18 @@ enum Order {
 }
 
 /// An index of one copy behind a lock, which a write holds until the device has synced it. What searches see stands behind a lock of its own, which
-/// is held no longer than it takes to look there, so no search waits for a write. Segments are merged by a thread of its own (`merge_beside`), which
-/// holds the lock only while it puts a merge in place.
+/// is held no longer than it takes to look there, so no search waits for a write. Who wants the lock goes through a door, where one at a time waits for it: a lock
+/// alone is taken by who comes by just then, however long another one waits. Bulks take turns before they come to the door, so a write waits for two of them
+/// at most, and not for as many as there are connections. Segments are merged by a thread of its own (`merge_beside`), which holds the lock only
+/// while it puts a merge in place.
 pub struct SharedShard<D: LogDevice, N: HistoryName> {
     alloc: Global,
     label: Label<N>,
     shard: Mutex<Kept<D, N>>,
+    /// Whose turn it is among bulks.
+    bulk_turn: Mutex<()>,
+    /// Who is the next one at the lock.
+    door: Mutex<()>,
     seen: Mutex<Option<Seen<D, N>>>,
     begun: Reached<D, N>,
     /// Whether a merge is being built.
@@ -174,6 +185,8 @@ impl<D: LogDevice, N: HistoryName> Drop for SharedShard<D, N> {
             alloc: _,
             label: _label,
             shard: _shard,
+            bulk_turn: _bulk_turn,
+            door: _door,
             seen: _seen,
             begun: _begun,
             is_merging: _is_merging,
@@ -197,6 +210,8 @@ impl<D: LogDevice, N: HistoryName> SharedShard<D, N> {
             alloc,
             label,
             shard: Mutex::new(kept),
+            bulk_turn: Mutex::new(()),
+            door: Mutex::new(()),
             seen: Mutex::new(seen),
             begun,
             is_merging: Mutex::new(false),
@@ -261,14 +276,33 @@ impl<D: LogDevice, N: HistoryName> SharedShard<D, N> {
         ensures { IsDone known.now (command_view command) (reply_view result.0) result.1 }
     {
         let refreshes = is_refresh(&command);
+        let is_bulk = is_bulk(&command);
         let asked = Asked::of(self.alloc, command);
-        let mut held = self.shard.lock(rt);
+        let _turn = self.turn(rt, is_bulk);
+        let mut held = self.enter(rt);
         let told = held.call(known, asked);
         drop(self.show(rt, &*held));
         if refreshes {
             self.begin_merge(rt, &mut *held);
         }
         told
+    }
+
+    /// The index, once one is the next at its lock.
+    fn enter<R: Wait>(&self, rt: &R) -> MutexGuard<'_, Kept<D, N>> {
+        let door = self.door.lock(rt);
+        let held = self.shard.lock(rt);
+        drop(door);
+        held
+    }
+
+    /// The turn of a bulk, once it has come.
+    fn turn<R: Wait>(&self, rt: &R, is_bulk: bool) -> Option<MutexGuard<'_, ()>> {
+        if is_bulk {
+            Some(self.bulk_turn.lock(rt))
+        } else {
+            None
+        }
     }
 
     /// Has searches see what is written when this is called, where that is much: the builder builds it while commands go on. Tells whether they see it; else a refresh
@@ -298,7 +332,7 @@ impl<D: LogDevice, N: HistoryName> SharedShard<D, N> {
 
     /// Begins a refresh whose segment is built while commands go on, where much has to be built.
     fn begin_refresh<R: Wait>(&self, rt: &R) -> Option<Unshown> {
-        let mut held = self.shard.lock(rt);
+        let mut held = self.enter(rt);
         match held.begin_refresh() {
             Ok(unshown) => unshown,
             Err(_) => None,
@@ -319,7 +353,7 @@ impl<D: LogDevice, N: HistoryName> SharedShard<D, N> {
 
     /// The same, and gives back what they saw, if there is something else to see.
     fn put_refresh<R: Wait>(&self, rt: &R, prebuilt: Prebuilt) -> Option<Option<Seen<D, N>>> {
-        let mut held = self.shard.lock(rt);
+        let mut held = self.enter(rt);
         let is_shown = held.finish_refresh(prebuilt).ok()?;
         if !is_shown {
             return None;
@@ -383,7 +417,7 @@ impl<D: LogDevice, N: HistoryName> SharedShard<D, N> {
 
     /// The same, and gives back what searches saw.
     fn finish_merge<R: Wait>(&self, rt: &R, is_built: bool) -> Option<Seen<D, N>> {
-        let mut held = self.shard.lock(rt);
+        let mut held = self.enter(rt);
         self.note_built(rt);
         if !is_built || held.finish_merge().is_err() {
             return None;

@@ -18,8 +18,8 @@ const SPARE_ROOM: u64 = 65_536;
 const BYTES_FOR_A_BLOCK: usize = 16_384;
 
 /// A file that was opened to be read and appended to. What it holds is kept in memory too, for no contract can say what a disk gives back:
-/// what a log is opened with is what was read at first, and what was written since. There it is packed, but for its end and for what isn't on the
-/// disk for sure. Nobody else may change the file.
+/// what a log is opened with is what was read at first, and what was written since. As more is appended it is packed there, but for its end and for
+/// what isn't on the disk for sure. Nobody else may change the file.
 ///
 /// A device that syncs when it is told writes then, too: all that was appended since in one piece, so that what a crash leaves of it is a front.
 ///
