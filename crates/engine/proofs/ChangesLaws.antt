@@ -1,9 +1,9 @@
 -- Changes that lead from the documents of so many records to those of more.
-use Rattle.std.proofs.Common.{◌≡◌, ◌≤◌, ℕ, true, List, [], ◌∷◌, ◌++◌, length, refl, sym, ap, subst, ◌∙◌, arith}
+use Rattle.std.proofs.Common.{◌≡◌, ◌≤◌, ℕ, List, [], ◌∷◌, ◌++◌, length, sym, ap, ◌∙◌, arith}
 use Rattle.std.proofs.lemmas.List.{take-append-le, length-append}
 use Rattle.op.specs.declared.record.Record.{Record}
 use Rattle.op.specs.Operations.{op_at}
-use Rattle.op.specs.Documents.{Documents, documents}
+use Rattle.op.specs.Documents.{documents}
 use Rattle.op.specs.Records.{operations, shown}
 use Rattle.engine.specs.declared.history.Applied.{Applied}
 use Rattle.engine.specs.declared.history.Applied.TheVariants.{Taken, Stale, Repeated}

@@ -1,5 +1,6 @@
 -- The operations kept beside the records stay theirs.
 use Rattle.std.proofs.Common.{◌≡◌, ℕ, ℤ, suc, ◌<◌, ◌≤◌, ◌-◌, ◌^◌, length, get_or, List, [], ◌∷◌, ◌++◌, refl, sym, ap, subst, ◌∙◌, arith}
+use Rattle.std.proofs.lemmas.List.{append-nil}
 use Rattle.std.specs.List.{AllByRecursion}
 use Rattle.op.specs.declared.operation.Op.{Op}
 use Rattle.op.specs.declared.record.Record.{Record}
@@ -53,3 +54,11 @@ pub IsAscending-resynced : (os ps all tail : List Op) (r : Record) (term n : ℕ
 IsAscending-resynced os ps all tail r term n g up is same counted kept made =
     let after : IsAscending (after_record os (Resync term g tail)) = subst (λ (q : Record). IsAscending (after_record os q)) same (IsAscending-after os r up is) in
     subst IsAscending (sym (made ∙ ap (λ m. below m ps ++ tail) counted ∙ ap (λ qs. below (known g) qs ++ tail) kept)) after
+
+-- all that came is handed out
+pub handed-out : (before recent : List Record) → (before ++ []) ++ recent ≡ (before ++ recent) ++ []
+handed-out before recent = ap (λ (rs : List Record). rs ++ recent) (append-nil before) ∙ sym (append-nil (before ++ recent))
+
+pub none-there : (rs : List Record) → length rs ≡ 0 → rs ≡ []
+none-there [] is = refl
+none-there (r ∷ rs) is = absurd (omega (arith, is))

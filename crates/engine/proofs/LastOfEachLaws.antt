@@ -14,7 +14,7 @@ use Rattle.std.proofs.lemmas.Map.Keys.{IsDistinct-from_sorted}
 use Rattle.std.proofs.lemmas.Map.Made.{update_all_none}
 use Rattle.engine.specs.LastOfEach.{last_from, last_of_runs, ChangeAlike, IsLastOfEach}
 
-by_equal : (o : Ordering) → is_eq o ≡ true → o ≡ Equal
+pub by_equal : (o : Ordering) → is_eq o ≡ true → o ≡ Equal
 by_equal Less is = absurd (true≢false (sym is))
 by_equal Equal is = refl
 by_equal Greater is = absurd (true≢false (sym is))
@@ -24,7 +24,7 @@ tied Less b is = refl
 tied Equal b is = ap (λ o. not (is_lt o)) is
 tied Greater b is = ap (λ o. not (is_lt o)) is
 
-reversed : (a : Ordering) → is_eq (ordering_reverse a) ≡ is_eq a
+pub reversed : (a : Ordering) → is_eq (ordering_reverse a) ≡ is_eq a
 reversed Less = refl
 reversed Equal = refl
 reversed Greater = refl

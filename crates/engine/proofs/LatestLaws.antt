@@ -5,9 +5,8 @@ use Rattle.std.proofs.Common.{◌≡◌, ◌<◌, ◌+◌, ◌++◌, ◌||◌, �
 use Rattle.std.specs.List.{AllByRecursion, Contains}
 use Rattle.std.specs.List.Sorted.{IsStrictlySortedBy}
 use Rattle.std.specs.Option.{IfSome, option_or}
-use Rattle.std.specs.Ordering.{is_eq, nat_cmp, eq_by_cmp, ordering_reverse}
-use Rattle.std.specs.declared.cmp.Ordering.{Ordering}
-use Rattle.std.specs.declared.cmp.Ordering.TheVariants.{Less, Equal, Greater}
+use Rattle.std.specs.Ordering.{is_eq, nat_cmp, eq_by_cmp}
+use Rattle.std.specs.declared.cmp.Ordering.TheVariants.{Less}
 use Rattle.std.specs.Cmp.{tied_itself}
 use Rattle.std.specs.Cmp.Lexicographic.{slice_cmp, nat_list_cmp_total, on_texts}
 use Rattle.std.specs.FinMap.Entries.{is_sorted, below_all, same_entries}
@@ -30,6 +29,7 @@ use Rattle.engine.specs.Latest.{Key, key_cmp, last_in, left_all, left_of, AreOn,
 use Rattle.engine.specs.LastOfEach.{IsLastOfEach}
 use Rattle.engine.specs.Parts.{is_among}
 use Rattle.engine.proofs.ChosenLaws.{among-more}
+use Rattle.engine.proofs.LastOfEachLaws.{by_equal, reversed}
 use Rattle.engine.proofs.PartLaws.{both, is_less, true_T, T_true, find_below}
 
 -- with one operation more
@@ -37,22 +37,12 @@ pub left_all-push : (os : List (Bor Op)) (o : Bor Op) → left_all (os ++ o ∷ 
 left_all-push [] o = append-nil (left_of o.now o.now.body)
 left_all-push (p ∷ os) o = ap (λ r. left_of p.now p.now.body ++ r) (left_all-push os o) ∙ sym (append_assoc (left_of p.now p.now.body) (left_all os) (left_of o.now o.now.body))
 
-reversed : (r : Ordering) → is_eq (ordering_reverse r) ≡ is_eq r
-reversed Less = refl
-reversed Equal = refl
-reversed Greater = refl
-
 turned : (i j : Id) → is_eq (slice_cmp nat_cmp i j) ≡ is_id j i
 turned i j = ap is_eq (nat_list_cmp_total.antisymm i j) ∙ reversed (id_cmp j i)
 
-by_eq : (r : Ordering) → is_eq r ≡ true → r ≡ Equal
-by_eq Less is = absurd (true≢false (sym is))
-by_eq Equal is = refl
-by_eq Greater is = absurd (true≢false (sym is))
-
 -- ids that are found equal are
 same_id : (i j : Id) → is_id i j ≡ true → i ≡ j
-same_id i j is = exact_bytes i j (by_eq _ is)
+same_id i j is = exact_bytes i j (by_equal _ is)
 
 -- ---- the documents are in order of the ids
 
@@ -92,7 +82,7 @@ module _ (q : Id) where
 
   -- where it stands first, none is behind it
   none_behind : (e : Key) (es : List (Key × Bor Op)) → AllByRecursion (λ (y : Key). slice_cmp nat_cmp e.now y.now ≡ Less) (keys_of es) → AreOn es → is_eq (id_cmp q e.now) ≡ true → document_at (left_all (values_of es)) q ≡ None
-  none_behind e es lt on is = find_below q (left_all (values_of es)) (subst (λ j. T (below_all id_cmp j (left_all (values_of es)))) (sym (exact_bytes q e.now (by_eq _ is))) (below e.now es lt on))
+  none_behind e es lt on is = find_below q (left_all (values_of es)) (subst (λ j. T (below_all id_cmp j (left_all (values_of es)))) (sym (exact_bytes q e.now (by_equal _ is))) (below e.now es lt on))
 
   found-left : (es : List (Key × Bor Op)) → IsStrictlySortedBy key_cmp (keys_of es) → AreOn es
       → document_at (left_all (values_of es)) q ≡ document_of (option_map (λ o. o.now) (lookup (λ (k : Key). is_eq (slice_cmp nat_cmp q k.now)) es))

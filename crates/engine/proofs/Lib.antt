@@ -23,6 +23,7 @@ pub mod LivingLaws
 pub mod ChoosingLaws
 pub mod LastOfEachLaws
 pub mod LatestLaws
+pub mod LessenedLaws
 pub mod LeftLaws
 pub mod ResyncLaws
 pub mod HeldLaws

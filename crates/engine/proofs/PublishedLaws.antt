@@ -109,7 +109,7 @@ replaced-numbered taken number m old new is = λ k d lt. either (slice_index_or 
     either s (inl there) = inl there.0
     either s (inr same) = inr same
 
-all-of : {A : Type 0} (p : A → Bool) (xs : List A) → list_all p xs ≡ true → All (λ x. p x ≡ true) xs
+pub all-of : {A : Type 0} (p : A → Bool) (xs : List A) → list_all p xs ≡ true → All (λ x. p x ≡ true) xs
 all-of p [] all = All-nil (λ x. p x ≡ true)
 all-of p (x ∷ xs) all = let halves = both (p x) (list_all p xs) all in All-cons (λ x. p x ≡ true) x xs halves.0 (all-of p xs halves.1)
   where

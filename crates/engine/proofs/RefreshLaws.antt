@@ -131,3 +131,10 @@ drop-behind (x ∷ xs) ys (suc n) b is le = drop-behind xs ys n (b - 1) (omega (
 -- not all are operations where one is none
 pub not-all : (rs : List Record) (i : ℕ) (r : Record) → i < length rs → r ≡ get_or rs i r → is_op r ≡ false → AllPass is_op rs → ⊥
 not-all rs i r within at other all = absurd (let wrong : true ≡ false = sym (all i r within) ∙ (ap is_op (sym at) ∙ other) in cc)
+
+-- what stands behind a place of two lists, whichever of them it is in
+pub drop-both : {A : Type 0} (n : ℕ) (xs ys : List A) → drop n xs ++ drop (n - length xs) ys ≡ drop n (xs ++ ys)
+drop-both zero [] ys = refl
+drop-both (suc n) [] ys = let all : suc n - 0 ≡ suc n = omega arith in ap (λ k. drop k ys) all
+drop-both zero (x ∷ xs) ys = let none : zero - length (x ∷ xs) ≡ zero = omega arith in ap (λ k. (x ∷ xs) ++ drop k ys) none
+drop-both (suc n) (x ∷ xs) ys = let one_less : suc n - length (x ∷ xs) ≡ n - length xs = omega arith in ap (λ k. drop n xs ++ drop k ys) one_less ∙ drop-both n xs ys

@@ -16,6 +16,7 @@ use Rattle.engine.specs.Applied.{RiseFrom}
 use Rattle.engine.specs.Kept.{IsKept}
 use Rattle.engine.specs.OperationIndex.{IsIndexed, operations_in}
 use Rattle.engine.proofs.KeptLaws.{IsKept-push, weaker}
+use Rattle.engine.proofs.PartLaws.{or_none, or_or}
 
 -- one operation more of those that stand in records
 pub operations_in-more : (os : List Op) (g : ℤ) (o : Op) (r : Record) (left rs : List Record) → r ≡ Kept g o → os ++ operations_in (r ∷ left) ≡ operations_in rs → (os ++ o ∷ []) ++ operations_in left ≡ operations_in rs
@@ -29,7 +30,8 @@ pub free_end : (os : List Op) (o : Op) → AllByRecursion (λ p. p.seq < o.seq) 
 free_end [] o all = refl
 free_end (p ∷ ps) o all = let h : p.seq < o.seq = all.0 in grind (arith, nat_tests, free_end ps o all.1)
 
-add_end : (os : List Op) (o : Op) → IsAscending os → next_seq os ≤ o.seq → add os o ≡ os ++ o ∷ []
+-- an operation whose number is above all stands behind all
+pub add_end : (os : List Op) (o : Op) → IsAscending os → next_seq os ≤ o.seq → add os o ≡ os ++ o ∷ []
 add_end os o up le = let below = weaker (next_seq os) o.seq os le (next_seq-above os up) in add-free os o (free_end os o below) ∙ placed_end os o below
 
 -- they are added in their order
@@ -60,23 +62,16 @@ IsKept-rise n os rs (Recover term all ∷ more) kept rise = absurd rise
 
 -- ---- the index of operations with others behind them
 
-either_none : (l : Option Op) → l ≡ option_or l None
-either_none None = refl
-either_none (Some o) = refl
-
-either_assoc : (a b c : Option Op) → option_or (option_or a b) c ≡ option_or a (option_or b c)
-either_assoc None b c = refl
-either_assoc (Some o) b c = refl
-
 either_number : (a b : Option Op) → option_or (option_map (λ o. o.seq) a) (option_map (λ o. o.seq) b) ≡ option_map (λ o. o.seq) (option_or a b)
 either_number None b = refl
 either_number (Some o) b = refl
 
+-- the last on an id is that of those behind, or else of the others
 pub last_on-append : (os ps : List Op) (id : Id) → last_on (os ++ ps) id ≡ option_or (last_on ps id) (last_on os id)
-last_on-append [] ps id = either_none (last_on ps id)
+last_on-append [] ps id = or_none (last_on ps id)
 last_on-append (o ∷ os) ps id =
     ap (λ l. option_or l (if is_on id o then Some o else None)) (last_on-append os ps id)
-    ∙ either_assoc (last_on ps id) (last_on os id) (if is_on id o then Some o else None)
+    ∙ or_or (last_on ps id) (last_on os id) (if is_on id o then Some o else None)
 
 drop_one : (n k : ℕ) (p : Op) (ps : List Op) → suc n ≤ k → drop (k - n) (p ∷ ps) ≡ drop (k - suc n) ps
 drop_one n k p ps le = let e : k - n ≡ suc (k - suc n) = omega arith in rw e refl

@@ -1,24 +1,24 @@
 -- Records behind which each operation has a number above all before it.
 use Rattle.std.proofs.Common.{◌≡◌, ℕ, ℤ, zero, suc, ◌<◌, ◌≤◌, length, drop, Bool, true, false, List, [], ◌∷◌, ◌++◌, Option, Some, None, refl, sym, ap, subst, ◌∙◌, ◌⊎◌, ⊎_elim, inl, inr, arith, if◌then◌else◌}
-use Rattle.std.specs.Prelude.{◌||◌, is_some}
+use Rattle.std.specs.Prelude.{◌||◌, ◌==◌, is_some}
 use Rattle.std.specs.Option.{option_or}
-use Rattle.std.specs.List.{list_any}
 use Rattle.std.proofs.lemmas.List.{append_assoc, append-nil, length-append, take-append-le, drop-append-le, take_all}
 use Rattle.doc.specs.Id.{Id}
+use Rattle.op.specs.declared.operation.Body.{Body}
+use Rattle.op.specs.declared.operation.Body.TheVariants.{Index, Delete, NoOp}
 use Rattle.op.specs.declared.operation.Op.{Op}
 use Rattle.op.specs.declared.record.Record.{Record}
 use Rattle.op.specs.declared.record.Record.TheVariants.{Op as Kept, Resync, Recover}
-use Rattle.op.specs.Operations.{IsAscending, is_on, last_on, next_seq}
+use Rattle.op.specs.Operations.{IsAscending, concerns, last_on, next_seq, op_at}
 use Rattle.op.specs.Records.{operations, shown}
 use Rattle.op.proofs.OperationLaws.{IsAscending-add, next_seq-push}
 use Rattle.op.proofs.RecordLaws.{operations-push}
 use Rattle.engine.specs.Applied.{RiseFrom}
+use Rattle.engine.specs.Changes.{id_on, ids_on}
 use Rattle.engine.specs.Kept.{HasRisen, IsNext}
 use Rattle.engine.specs.OperationIndex.{operations_in}
 use Rattle.engine.specs.Parts.{is_among}
-use Rattle.engine.specs.SnapshotChange.{is_write}
-use Rattle.engine.proofs.AheadLaws.{pushed}
-use Rattle.engine.proofs.RiseLaws.{last_on-append}
+use Rattle.engine.proofs.RiseLaws.{add_end, last_on-append}
 
 drop_past : (n : ℕ) (rs : List Record) → length rs ≤ n → drop n rs ≡ []
 drop_past zero [] le = refl
@@ -45,7 +45,7 @@ in_more (Resync term h tail ∷ rs) g o = in_more rs g o
 in_more (Recover term all ∷ rs) g o = in_more rs g o
 
 next_behind : (rs : List Record) (g : ℤ) (o : Op) → IsAscending (operations rs) → next_seq (operations rs) ≤ o.seq → operations (rs ++ Kept g o ∷ []) ≡ operations rs ++ o ∷ []
-next_behind rs g o up le = operations-push rs (Kept g o) ∙ pushed (operations rs) o up le
+next_behind rs g o up le = operations-push rs (Kept g o) ∙ add_end (operations rs) o up le
 
 -- one more with a number above all
 pub risen-push : (n : ℕ) (rs : List Record) (g : ℤ) (o : Op) → IsAscending (operations rs) → HasRisen n rs → next_seq (operations rs) ≤ o.seq → HasRisen n (rs ++ Kept g o ∷ [])
@@ -92,20 +92,41 @@ by_both (Some p) false o = refl
 by_both None true o = refl
 by_both None false o = refl
 
--- an id is written where the operations have one on it
-pub written-last : (rs : List Record) (id : Id) → list_any (is_write id) rs ≡ is_some (last_on (operations_in rs) id)
-written-last [] id = refl
-written-last (Kept g o ∷ rs) id = ap (λ b. is_on id o || b) (written-last rs id) ∙ by_both (last_on (operations_in rs) id) (is_on id o) o
-written-last (Resync term g tail ∷ rs) id = written-last rs id
-written-last (Recover term all ∷ rs) id = written-last rs id
+among_body : (b : Body) (ids : List Id) (id : Id) → is_among (id_on b ++ ids) id ≡ (concerns id b || is_among ids id)
+among_body (Index i source) ids id = refl
+among_body (Delete i) ids id = refl
+among_body NoOp ids id = refl
+
+-- an id is among those that operations are on where one of them is
+pub among-on : (os : List Op) (id : Id) → is_among (ids_on os) id ≡ is_some (last_on os id)
+among-on [] id = refl
+among-on (o ∷ os) id = among_body o.body (ids_on os) id ∙ ap (λ b. concerns id o.body || b) (among-on os id) ∙ by_both (last_on os id) (concerns id o.body) o
 
 by_last : (l rest : Option Op) (b : Bool) → b ≡ is_some l → l ≡ (if b then option_or l rest else None)
 by_last (Some o) rest b is = rw is refl
 by_last None rest b is = rw is refl
 
--- the operations since a place have the last ones on the ids that were written since
-pub last-since : (rs : List Record) (point : ℕ) (vs : List Op) (ids : List Id) → vs ≡ operations_in (drop point rs) → operations rs ≡ shown rs point ++ vs
-    → ((id : Id) → is_among ids id ≡ list_any (is_write id) (drop point rs)) → (id : Id) → last_on vs id ≡ (if is_among ids id then last_on (operations rs) id else None)
-last-since rs point vs ids are behind among id =
-    by_last (last_on vs id) (last_on (shown rs point) id) (is_among ids id) (among id ∙ written-last (drop point rs) id ∙ ap (λ os. is_some (last_on os id)) (sym are))
-    ∙ ap (λ l. if is_among ids id then l else None) (sym (ap (λ os. last_on os id) behind ∙ last_on-append (shown rs point) vs id))
+by_none : (l rest : Option Op) → is_some l ≡ false → option_or l rest ≡ rest
+by_none None rest is = refl
+by_none (Some o) rest is = cc
+
+module _ (old new ops : List Op) (behind : new ≡ old ++ ops) where
+  -- operations behind others have the last ones on the ids that they are on
+  pub last-behind : (id : Id) → last_on ops id ≡ (if is_among (ids_on ops) id then last_on new id else None)
+  last-behind id =
+      by_last (last_on ops id) (last_on old id) (is_among (ids_on ops) id) (among-on ops id)
+      ∙ ap (λ l. if is_among (ids_on ops) id then l else None) (sym (ap (λ os. last_on os id) behind ∙ last_on-append old ops id))
+
+  -- and on other ids the last ones stay
+  pub others-behind : (id : Id) → is_among (ids_on ops) id ≡ false → last_on new id ≡ last_on old id
+  others-behind id none =
+      ap (λ os. last_on os id) behind ∙ last_on-append old ops id ∙ by_none (last_on ops id) (last_on old id) (sym (among-on ops id) ∙ none)
+
+-- those in front stay where they are
+pub op_at-front : (xs ys : List Op) (n : ℕ) (o : Op) → op_at xs n ≡ Some o → op_at (xs ++ ys) n ≡ Some o
+op_at-front [] ys n o is = cc
+op_at-front (x ∷ xs) ys n o is = step (x.seq == n) (op_at-front xs ys n o) is
+  where
+    step : (b : Bool) → (op_at xs n ≡ Some o → op_at (xs ++ ys) n ≡ Some o) → (if b then Some x else op_at xs n) ≡ Some o → (if b then Some x else op_at (xs ++ ys) n) ≡ Some o
+    step true rest is = is
+    step false rest is = rest is

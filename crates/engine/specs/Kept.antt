@@ -1,6 +1,9 @@
 -- Operations that are kept beside their records.
 -- For proofs alone: no public contract rests on it.
-use Rattle.std.specs.Prelude.{◌≡◌, ◌≤◌, ◌-◌, ◌^◌, ◌++◌, ℕ, false, List, [], ◌∷◌, drop}
+use Rattle.std.specs.Prelude.{◌≡◌, ◌≤◌, ◌-◌, ◌^◌, ◌++◌, ℕ, false, List, [], ◌∷◌, drop, Option, None, Some, Vec}
+use Rattle.std.specs.declared.sync.Arc.{Arc}
+use Rattle.std.specs.Arc.{arc_value}
+use Rattle.std.specs.declared.alloc.Global.{Global}
 use Rattle.op.specs.declared.operation.Op.{Op}
 use Rattle.op.specs.declared.record.Record.{Record}
 use Rattle.op.specs.declared.record.Record.TheVariants.{Op as Kept, Resync, Recover}
@@ -14,6 +17,11 @@ pub record IsKept (os : List Op) (rs : List Record) : Type 0 where
   pub same : os ≡ operations rs
   pub ascending : IsAscending os
   pub small : next_seq os ≤ 2 ^ 63
+
+-- records that were handed out, if any were
+abbrev pub items_of : Option (Arc (Vec Record Global) Global) → List Record
+items_of None = []
+items_of (Some rs) = (arc_value rs).items
 
 -- records, and the place from which on memory has them
 pub record HistoryData : Type 0 where

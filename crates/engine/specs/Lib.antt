@@ -20,4 +20,5 @@ pub mod Slot
 pub mod Before
 pub mod LastOfEach
 pub mod Latest
+pub mod Lessened
 pub mod Changes

@@ -91,6 +91,11 @@ pub record HasMerged (old new : Segments) : Type 0 where
 abbrev pub AreTold : List Published → List Published → Type 0
 AreTold taken ss = All (λ s. All (λ t. t.number ≡ s.number → t ≡ s) taken) ss
 
+-- by their numbers alone these segments are told among those that are there, now and later
+pub record AreKnown (next : ℕ) (ss known : List Published) : Type 0 where
+  pub below : All (λ t. t.number < next) known
+  pub told : AreTold known ss
+
 -- a merge may take these segments, and by their numbers alone they are told among those that are there
 pub record IsBegun (next : ℕ) (ss taken : List Published) : Type 0 where
   pub are : are_taken taken ≡ true

@@ -42,14 +42,14 @@ impl Ahead {
     }
 
     /// Takes one more, whose number is above all.
-    #[tactic(auto, using(crate::proofs::AheadLaws::pushed))]
+    #[tactic(auto, using(crate::proofs::RiseLaws::add_end))]
     pub fn push(&mut self, alloc: Global, op: &Op) -> Result<(), AllocError>
         requires { next_seq self.old ≤ op.now.seq }
         ensures ok { OnOk result (self.new ≡ self.old ++ op.now ∷ []) }
         ensures err { OnErr result (self.new ≡ self.old) }
     {
         let _up = self.operations.as_slice();
-        self.operations.add(alloc, op)
+        self.operations.add(alloc, op.copy(alloc)?)
     }
 
     /// The last of them on the id.

@@ -16,7 +16,6 @@ ghost use Rattle.engine.specs.Parts.{is_among};
 ghost use Rattle.engine.specs.Shown.{shown_view};
 
 use crate::documents::Entry;
-use crate::handed::HasDocuments;
 use crate::id_filter::IdFilter;
 use crate::sought::Sought;
 use crate::strands::places_among;
@@ -98,12 +97,6 @@ impl Model for Block {
     ghost view = { λ b. record { mapping = b.segment.mapping; documents = map shown_view b.documents.items } };
 
     ghost invariant = { λ b. IsBlock b.documents.items b.segment.sources b.ids };
-}
-
-impl HasDocuments for Arc<Block, Global> {
-    ghost use Rattle.std.specs.Arc.{arc_value};
-
-    ghost documents = { λ b. (arc_value b).documents };
 }
 
 impl Block {

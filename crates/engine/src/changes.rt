@@ -1,65 +1,68 @@
 //! What came behind what searches show.
-ghost use Rattle.std.specs.Prelude.{◌≡◌, ◌≤◌, None, if◌then◌else◌, drop, length, map, IfOk, IfSome};
-ghost use Rattle.std.specs.List.{list_any};
-ghost use Rattle.doc.specs.Id.{Id};
-ghost use Rattle.op.specs.Operations.{last_on};
-ghost use Rattle.op.specs.Records.{operations};
-ghost use Rattle.engine.specs.Changes.{AreAt, LeadsOn};
-ghost use Rattle.engine.specs.Entry.{entry_view};
-ghost use Rattle.engine.specs.Parts.{is_among};
-ghost use Rattle.engine.specs.SnapshotChange.{is_write};
+ghost use Rattle.std.specs.Prelude.{◌≡◌, ◌≤◌, ◌++◌, length, IfOk, IfSome, OnOk};
+ghost use Rattle.std.specs.Arc.{arc_value};
+ghost use Rattle.op.specs.Documents.{documents};
+ghost use Rattle.engine.specs.Changes.{id_on, ids_on, AreAt, LeadsOn};
+ghost use Rattle.engine.specs.OperationIndex.{operations_in};
+ghost use Rattle.engine.specs.Parts.{all_published};
 
-use crate::documents::{Entry, documents_made};
-use crate::handed::HasDocuments;
 use crate::history::History;
+use crate::part::Part;
 use doc::DocId;
-use op::Op;
+use op::{Body, Op, Record};
 use std::alloc::{AllocError, Global};
 use std::marker::Model;
+use std::sync::Arc;
 
-/// The ids that operations wrote behind what searches show, and operations on them, of which the last on each id is the last there, as of so many records.
+/// Operations that came behind what searches show, each with a number above all before it, as of so many records; and parts that searches looked through.
 #[derive(Drop)]
 pub(crate) struct Changes {
     point: usize,
-    ids: Vec<DocId>,
-    ops: Vec<Op>,
+    records: Arc<Vec<Record>, Global>,
+    parts: Vec<Part>,
 }
 
 impl Model for Changes {
+    ghost use Rattle.std.specs.Arc.{arc_value};
     ghost use Rattle.op.specs.Documents.{documents};
-    ghost use Rattle.engine.specs.Changes.{AreAt, ChangesData};
+    ghost use Rattle.engine.specs.Changes.{ids_on, AreAt, ChangesData};
+    ghost use Rattle.engine.specs.OperationIndex.{operations_in};
+    ghost use Rattle.engine.specs.Parts.{all_published};
 
     ghost Value = { ChangesData };
 
-    ghost view = { λ c. record { point = c.point; ids = c.ids.items; documents = documents c.ops.items } };
+    ghost view = { λ c. record {
+      point = c.point;
+      ids = ids_on (operations_in (arc_value c.records).items);
+      documents = documents (operations_in (arc_value c.records).items);
+      published = all_published c.parts.items;
+    } };
 
-    ghost invariant = { λ c. AreAt c.ids.items (documents c.ops.items) };
-}
-
-impl HasDocuments for Changes {
-    ghost documents = { λ c. c.documents };
+    ghost invariant = { λ c. AreAt (ids_on (operations_in (arc_value c.records).items)) (documents (operations_in (arc_value c.records).items)) };
 }
 
 impl Changes {
-    /// What came behind a point, if nothing else than operations changed anything there.
+    /// What came behind a point, if only operations came there, each with a number above all before it, and memory forgot all before it. No record is copied.
     pub(crate) fn of(
         alloc: Global,
-        history: &History,
+        history: &mut History,
         point: usize,
+        parts: Vec<Part>,
     ) -> Result<Option<Changes>, AllocError>
-        requires begin { history.now.begin ≤ point }
-        requires within { point ≤ length history.now.records }
-        ensures leads { IfOk result (λ o. IfSome o (LeadsOn history.now.records point)) }
-        ensures all { IfOk result (λ o. IfSome o (λ c. c.point ≡ length history.now.records)) }
+        requires begin { history.old.begin ≤ point }
+        requires within { point ≤ length history.old.records }
+        ensures same { history.new ≡ history.old }
+        ensures leads { IfOk result (λ o. IfSome o (LeadsOn history.old.records point)) }
+        ensures all { IfOk result (λ o. IfSome o (λ c. c.point ≡ length history.old.records)) }
+        ensures published { IfOk result (λ o. IfSome o (λ c. c.published ≡ all_published parts.items)) }
     {
-        let Some(ids) = history.ids_since(alloc, point)? else {
+        let Some(records) = history.share(alloc, point)? else {
             return Ok(None);
         };
-        let ops = ops_at(alloc, history, point, &ids)?;
         Ok(Some(Changes {
             point: history.len(),
-            ids,
-            ops,
+            records,
+            parts,
         }))
     }
 
@@ -70,49 +73,62 @@ impl Changes {
         self.point
     }
 
-    pub(crate) fn ids(&self) -> &[DocId]
-        ensures ids { result.now ≡ self.now.ids }
-        ensures are { AreAt self.now.ids self.now.documents }
+    /// The parts that searches looked through.
+    pub(crate) fn parts(&self) -> &[Part]
+        ensures { all_published result.now ≡ self.now.published }
     {
-        &self.ids
+        &self.parts
     }
 
-    /// The documents that stand at the ids, in their order.
-    pub(crate) fn documents(&self, alloc: Global) -> Result<Vec<Entry<'_>>, AllocError>
-        ensures documents { IfOk result (λ v. map entry_view v.items ≡ self.now.documents) }
+    /// The operations.
+    pub(crate) fn ops(&self, alloc: Global) -> Result<Vec<Op>, AllocError>
+        ensures ids { IfOk result (λ v. ids_on v.items ≡ self.now.ids) }
+        ensures documents { IfOk result (λ v. documents v.items ≡ self.now.documents) }
         ensures are { AreAt self.now.ids self.now.documents }
     {
-        documents_made(alloc, &self.ops)
+        ops_in(alloc, &self.records)
     }
 }
 
-/// Operations on the ids that were written behind a point, of which the last on each is the last there. Where numbers have only risen since, they are at hand.
-fn ops_at(
-    alloc: Global,
-    history: &History,
-    point: usize,
-    ids: &[DocId],
-) -> Result<Vec<Op>, AllocError>
-    requires begin { history.now.begin ≤ point }
-    requires within { point ≤ length history.now.records }
-    requires are { (id : Id) → is_among ids.now id ≡ list_any (is_write id) (drop point history.now.records) }
-    ensures { IfOk result (λ v. (id : Id) → last_on v.items id ≡ (if is_among ids.now id then last_on (operations history.now.records) id else None)) }
+/// The operations that stand in records.
+fn ops_in(alloc: Global, records: &[Record]) -> Result<Vec<Op>, AllocError>
+    ensures { IfOk result (λ v. v.items ≡ operations_in records.now) }
 {
-    match history.ops_since(alloc, point)? {
-        Some(ops) => Ok(ops),
-        None => last_at(alloc, history, ids),
-    }
-}
-
-/// The last operations on some ids.
-fn last_at(alloc: Global, history: &History, ids: &[DocId]) -> Result<Vec<Op>, AllocError>
-    ensures { IfOk result (λ v. (id : Id) → last_on v.items id ≡ (if is_among ids.now id then last_on (operations history.now.records) id else None)) }
-{
-    let mut last = Vec::with_capacity(alloc, ids.len())?;
-    for id in ids {
-        if let Some(op) = history.last(id) {
-            last.push(op.copy(alloc)?)?;
+    let mut ops = Vec::with_capacity(alloc, records.len())?;
+    for kept in records {
+        match kept {
+            Record::Op(_, op) => ops.push(op.copy(alloc)?)?,
+            Record::Resync(_, _, _) => {}
+            Record::Recover(_, _) => {}
         }
     }
-    Ok(last)
+    Ok(ops)
+}
+
+/// The ids that operations are on.
+pub(crate) fn ids_of(alloc: Global, ops: &[Op]) -> Result<Vec<DocId>, AllocError>
+    ensures { IfOk result (λ v. v.items ≡ ids_on ops.now) }
+{
+    let mut ids = Vec::with_capacity(alloc, ops.len())?;
+    for op in ops {
+        push_id(alloc, &mut ids, op)?;
+    }
+    Ok(ids)
+}
+
+/// Adds the id that an operation is on, where it is on one.
+fn push_id(alloc: Global, ids: &mut Vec<DocId>, op: &Op) -> Result<(), AllocError>
+    ensures { OnOk result (ids.new.items ≡ ids.old.items ++ id_on op.now.body) }
+{
+    match &op.body {
+        Body::Index(id, _) => {
+            ids.push(id.copy(alloc)?)?;
+            Ok(())
+        }
+        Body::Delete(id) => {
+            ids.push(id.copy(alloc)?)?;
+            Ok(())
+        }
+        Body::NoOp => Ok(()),
+    }
 }

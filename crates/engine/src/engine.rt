@@ -78,7 +78,7 @@ impl Model for Engine {
     ghost use Rattle.std.specs.Arc.{arc_value};
     ghost use Rattle.engine.specs.Changes.{LeadsOn};
     ghost use Rattle.engine.specs.Contents.{EngineData, Shows};
-    ghost use Rattle.engine.specs.Published.{IsBegun};
+    ghost use Rattle.engine.specs.Published.{AreKnown, IsBegun};
 
     ghost Value = { EngineData };
 
@@ -91,7 +91,7 @@ impl Model for Engine {
       next = e.showing.next;
     } };
 
-    ghost invariant = { λ e. Shows (arc_value e.mapping) e.history.records e.point e.showing.snapshot × (e.history.begin ≤ e.point) × IfSome e.pending (LeadsOn e.history.records e.point) × IfSome e.merging (λ l. IsBegun e.showing.next e.showing.published (arc_value l).published) };
+    ghost invariant = { λ e. Shows (arc_value e.mapping) e.history.records e.point e.showing.snapshot × (e.history.begin ≤ e.point) × IfSome e.pending (LeadsOn e.history.records e.point) × IfSome e.merging (λ l. IsBegun e.showing.next e.showing.published (arc_value l).published) × IfSome e.pending (λ c. AreKnown e.showing.next e.showing.published c.published) };
 }
 
 impl Engine {
@@ -131,8 +131,7 @@ impl Engine {
         }) }
     {
         let mapping = Arc::new(alloc, mapping)?;
-        let mut history = History::of(alloc, records)?;
-        history.forget();
+        let history = History::opened(alloc, records)?;
         let showing = Showing::of(builder, alloc, &mapping, 0, history.operations())?;
         let point = history.len();
         Ok(Engine {
@@ -236,8 +235,7 @@ impl Engine {
         ensures next { IfOk result (λ s. s.next ≡ next_after self.now.next) }
         ensures live { IfOk result (λ s. AreLive s.live) }
     {
-        let mut reopened = History::of(alloc, records)?;
-        reopened.forget();
+        let reopened = History::opened(alloc, records)?;
         let showing = Showing::of(
             &Segment::build,
             alloc,
@@ -272,7 +270,7 @@ impl Engine {
         let entries = documents_at(alloc, &self.history, &ids)?;
         let block = Block::of(&Segment::build, alloc, &self.mapping, &entries)?;
         let block = Arc::new(alloc, block)?;
-        let showing = self.showing.with(alloc, &ids, block)?;
+        let showing = self.showing.with(alloc, &ids, &[], block)?;
         Ok(showing)
     }
 
@@ -538,7 +536,7 @@ impl Engine {
         requires rules { All IsRecord records.items }
         ensures { self.new ≡ self.old }
     {
-        self.history.take_back(alloc, &records)
+        self.history.take_back(alloc, records)
     }
 
     /// All records, as clauses see them.

@@ -1,7 +1,6 @@
-//! Work that was handed out: what it is made of, and a place for what is made of it, with the same documents.
+//! Work that was handed out: what it is made of, and a place for what is made of it.
 ghost use Rattle.std.specs.Prelude.{◌≡◌, ◌∷◌, [], IfOk, IfSome};
 ghost use Rattle.std.specs.Arc.{arc_value};
-ghost use Rattle.op.specs.Documents.{Documents};
 
 use boxcar::slot::{OnceSlot, SlotRule, Written};
 use boxcar::tag::{Names, Tag};
@@ -9,9 +8,9 @@ use std::alloc::{AllocError, Global};
 use std::marker::Model;
 use std::sync::Arc;
 
-/// What has documents.
-pub(crate) trait HasDocuments {
-    ghost documents: { Self → Documents };
+/// What is made of something, as it has to be.
+pub(crate) trait MadeOf<I> {
+    ghost is_made: { I → Self → Type 0 };
 }
 
 /// Anything may be handed out.
@@ -23,19 +22,18 @@ impl<I> SlotRule<I> for Anything {
 
 /// What was made, and what shows of what.
 #[derive(Drop)]
-struct Made<I: HasDocuments, O: HasDocuments> {
+struct Made<I, O: MadeOf<I>> {
     of: Written<I>,
     made: O,
-    ghost same: { O.HasDocuments.documents made ≡ I.HasDocuments.documents of.value },
 }
 
-/// It was made of what stands in the slot that the tag names.
+/// It was made as it has to be, of what stands in the slot that the tag names.
 struct OfSlot;
 
-impl<I: HasDocuments, O: HasDocuments> SlotRule<Made<I, O>> for OfSlot {
+impl<I, O: MadeOf<I>> SlotRule<Made<I, O>> for OfSlot {
     ghost use Rattle.std.specs.Prelude.{◌≡◌, ◌∷◌, []};
 
-    ghost holds = { λ tag m. tag ≡ m.of.of ∷ [] };
+    ghost holds = { λ tag m. (tag ≡ m.of.of ∷ []) × O.is_made m.of.value m.made };
 }
 
 /// A slot is named by its number.
@@ -49,19 +47,19 @@ impl<I> Names<OnceSlot<I, Anything>> for SlotNumber {
 
 /// A place for each.
 #[derive(Drop)]
-struct Slots<I: HasDocuments, O: HasDocuments> {
+struct Slots<I, O: MadeOf<I>> {
     given: OnceSlot<I, Anything>,
     made: OnceSlot<Made<I, O>, OfSlot>,
     ghost tied: { made.tag ≡ given.id ∷ [] },
 }
 
 /// What was handed out. Its copies share what is made of it, once that is there; so whoever keeps one knows of what it was made.
-pub(crate) struct Handed<I: HasDocuments, O: HasDocuments> {
+pub(crate) struct Handed<I, O: MadeOf<I>> {
     slots: Arc<Slots<I, O>, Global>,
     written: Written<I>,
 }
 
-impl<I: HasDocuments + Drop, O: HasDocuments + Drop> Drop for Handed<I, O> {
+impl<I: Drop, O: MadeOf<I> + Drop> Drop for Handed<I, O> {
     fn drop(self) {
         let Handed {
             slots: _slots,
@@ -70,7 +68,7 @@ impl<I: HasDocuments + Drop, O: HasDocuments + Drop> Drop for Handed<I, O> {
     }
 }
 
-impl<I: HasDocuments, O: HasDocuments> Model for Handed<I, O> {
+impl<I, O: MadeOf<I>> Model for Handed<I, O> {
     ghost use Rattle.std.specs.Prelude.{◌≡◌};
     ghost use Rattle.std.specs.Arc.{arc_value};
 
@@ -81,7 +79,7 @@ impl<I: HasDocuments, O: HasDocuments> Model for Handed<I, O> {
     ghost invariant = { λ h. h.written.of ≡ (arc_value h.slots).given.id };
 }
 
-impl<I: HasDocuments + Drop, O: HasDocuments + Drop> Handed<I, O> {
+impl<I: Drop, O: MadeOf<I> + Drop> Handed<I, O> {
     /// Hands this out.
     pub(crate) fn out(alloc: Global, given: I) -> Result<Handed<I, O>, AllocError>
         ensures { IfOk result (λ h. h ≡ given) }
@@ -116,7 +114,7 @@ impl<I: HasDocuments + Drop, O: HasDocuments + Drop> Handed<I, O> {
 
     /// Notes what was made of it, unless something is noted.
     pub(crate) fn note(&self, made: O)
-        requires { O.HasDocuments.documents made ≡ I.HasDocuments.documents self.now }
+        requires { O.is_made self.now made }
     {
         let of = self.written.again();
         let _ = self.slots.made.set(Made { of, made });
@@ -124,7 +122,7 @@ impl<I: HasDocuments + Drop, O: HasDocuments + Drop> Handed<I, O> {
 
     /// What was made of it, once it is there.
     pub(crate) fn made(&self) -> Option<&O>
-        ensures { IfSome result (λ m. O.HasDocuments.documents m.now ≡ I.HasDocuments.documents self.now) }
+        ensures { IfSome result (λ m. O.is_made self.now m.now) }
     {
         let Some(made) = self.slots.made.get() else {
             return None;

@@ -2,13 +2,14 @@
 ghost use Rattle.std.specs.Prelude.{◌≡◌, ◌<◌, ◌≤◌, ◌^◌, ◌||◌, ◌++◌, true, false, None, is_some, if◌then◌else◌, All, drop, IfOk, IfSome, OnOk, OnErr};
 ghost use Rattle.chronicle.specs.Written.{written};
 ghost use Rattle.doc.specs.Id.{Id};
+ghost use Rattle.std.specs.Arc.{arc_value};
 ghost use Rattle.std.specs.Option.{option_copied, option_map};
 ghost use Rattle.op.specs.Checkpoint.{checkpoint_of, known};
 ghost use Rattle.op.specs.Documents.{left_by};
 ghost use Rattle.op.specs.Operations.{IsAscending, add, from_number, is_on, is_stale, last_on, local_checkpoint, next_seq, op_at};
 ghost use Rattle.op.specs.Records.{IsRecord, operations, shown};
 ghost use Rattle.engine.specs.Found.{found_document};
-ghost use Rattle.engine.specs.Kept.{IsKept};
+ghost use Rattle.engine.specs.Kept.{items_of, IsKept};
 ghost use Rattle.engine.specs.OperationIndex.{operations_in};
 ghost use Rattle.engine.specs.Parts.{is_among};
 ghost use Rattle.engine.specs.SnapshotChange.{is_op, is_write, StayShown};
@@ -21,6 +22,8 @@ use doc::{DocId, Source};
 use op::{Body, Op, Operations, Record, checkpoint};
 use std::alloc::{AllocError, Global};
 use std::marker::Model;
+use std::mem;
+use std::sync::Arc;
 
 /// What became of a record.
 #[derive(Clone, Copy, Debug, PartialEq, Eq)]
@@ -50,6 +53,8 @@ pub(crate) struct History {
     chronicle: Chronicle<Record>,
     before: Writer<Record>,
     begin: usize,
+    /// Records that were handed out to be read elsewhere.
+    shared: Option<Arc<Vec<Record>, Global>>,
     recent: Vec<Record>,
     operations: OperationIndex,
     /// Behind so many records each one that isn't an operation left the operations as they were.
@@ -64,6 +69,7 @@ impl Drop for History {
             chronicle: _chronicle,
             before: _before,
             begin: _,
+            shared: _shared,
             recent: _recent,
             operations: _operations,
             rebuilt: _,
@@ -73,14 +79,14 @@ impl Drop for History {
 }
 
 impl Model for History {
-    ghost use Rattle.std.specs.Prelude.{◌≡◌, ◌≤◌, ◌^◌, ◌++◌, [], length};
-    ghost use Rattle.engine.specs.Kept.{HasRisen, HistoryData, IsKept, IsQuiet};
+    ghost use Rattle.std.specs.Prelude.{◌≡◌, ◌≤◌, ◌+◌, ◌^◌, ◌++◌, [], length};
+    ghost use Rattle.engine.specs.Kept.{items_of, HasRisen, HistoryData, IsKept, IsQuiet};
 
     ghost Value = { HistoryData };
 
-    ghost view = { λ h. record { records = h.before.entries ++ h.recent.items; begin = h.begin } };
+    ghost view = { λ h. record { records = (h.before.entries ++ items_of h.shared) ++ h.recent.items; begin = h.begin } };
 
-    ghost invariant = { λ h. IsKept h.operations (h.before.entries ++ h.recent.items) × (h.before.line.book ≡ h.chronicle) × (length h.before.entries ≡ h.begin) × (h.begin ≤ 2 ^ 63) × IsQuiet [] h.rebuilt (h.before.entries ++ h.recent.items) × HasRisen h.risen (h.before.entries ++ h.recent.items) };
+    ghost invariant = { λ h. IsKept h.operations ((h.before.entries ++ items_of h.shared) ++ h.recent.items) × (h.before.line.book ≡ h.chronicle) × (length h.before.entries ≡ h.begin) × (h.begin + length (items_of h.shared) ≤ 2 ^ 63) × IsQuiet [] h.rebuilt ((h.before.entries ++ items_of h.shared) ++ h.recent.items) × HasRisen h.risen ((h.before.entries ++ items_of h.shared) ++ h.recent.items) };
 }
 
 impl History {
@@ -88,20 +94,23 @@ impl History {
     ghost use Rattle.op.specs.Documents.{document_at, documents};
     ghost use Rattle.engine.specs.Applied.{applied_of, records_after, RiseFrom};
 
-    /// The history that these records are.
-    pub(crate) fn of(alloc: Global, records: Vec<Record>) -> Result<History, AllocError>
+    /// The history that these records are, which memory has forgotten, as the texts that newer operations replaced. No text is copied.
+    pub(crate) fn opened(alloc: Global, records: Vec<Record>) -> Result<History, AllocError>
         requires { All IsRecord records.items }
-        ensures { IfOk result (λ h. h ≡ record { records = records.items; begin = 0 }) }
+        ensures { IfOk result (λ h. h ≡ record { records = records.items; begin = length records.items }) }
     {
-        let operations = operations_of(alloc, &records)?;
         let chronicle = Chronicle::new();
-        let before = chronicle.writer();
+        let mut before = chronicle.writer();
+        append_all(&chronicle, &mut before, &records);
         let len = records.len();
+        let mut operations = operations_of(alloc, records)?;
+        operations.let_go();
         Ok(History {
             chronicle,
             before,
-            begin: 0,
-            recent: records,
+            begin: len,
+            shared: None,
+            recent: Vec::new(alloc),
             operations,
             rebuilt: len,
             risen: len,
@@ -109,9 +118,13 @@ impl History {
     }
 
     /// Brings back the texts that were let go, from its own records. It changes nothing else.
-    pub(crate) fn take_back(&mut self, alloc: Global, records: &[Record]) -> Result<(), AllocError>
-        requires own { records.now ≡ self.old.records }
-        requires rules { All IsRecord records.now }
+    pub(crate) fn take_back(
+        &mut self,
+        alloc: Global,
+        records: Vec<Record>,
+    ) -> Result<(), AllocError>
+        requires own { records.items ≡ self.old.records }
+        requires rules { All IsRecord records.items }
         ensures { self.new ≡ self.old }
     {
         let operations = operations_of(alloc, records)?;
@@ -140,39 +153,65 @@ impl History {
         ensures begin { self.new.begin ≤ length self.new.records }
     {
         self.operations.let_go();
-        let end = self.begin + self.recent.len();
+        let end = self.len();
         if end <= MOST_FORGOTTEN {
+            append_all(&self.chronicle, &mut self.before, shared_of(&self.shared));
             append_all(&self.chronicle, &mut self.before, &self.recent);
+            self.shared = None;
             self.recent.clear();
             self.recent.shrink_to_fit();
             self.begin = end;
         }
     }
 
-    /// Lets memory forget the records up to a point, where it can, and texts that newer operations replaced.
-    pub(crate) fn forget_to(&mut self, point: usize)
+    /// Lets memory forget the records that were handed out, where they end at a point, and texts that newer operations replaced. They are the caller's to let go of.
+    pub(crate) fn forget_to(&mut self, point: usize) -> Option<Arc<Vec<Record>, Global>>
         requires begin { self.old.begin ≤ point }
         requires within { point ≤ length self.old.records }
         ensures records { self.new.records ≡ self.old.records }
         ensures begin { self.new.begin ≤ point }
     {
         self.operations.let_go();
-        if point == self.begin || point > MOST_FORGOTTEN {
-            return;
+        if point - self.begin != shared_of(&self.shared).len() {
+            return None;
         }
-        let Ok(later) = self.recent.split_off(point - self.begin) else {
-            return;
-        };
-        append_all(&self.chronicle, &mut self.before, &self.recent);
-        self.recent = later;
+        append_all(&self.chronicle, &mut self.before, shared_of(&self.shared));
         self.begin = point;
+        self.shared.take()
+    }
+
+    /// Hands out the records behind a point, where memory forgot all before it, only operations came there, and each had a number above all before it.
+    pub(crate) fn share(
+        &mut self,
+        alloc: Global,
+        point: usize,
+    ) -> Result<Option<Arc<Vec<Record>, Global>>, AllocError>
+        requires begin { self.old.begin ≤ point }
+        requires within { point ≤ length self.old.records }
+        ensures same { self.new ≡ self.old }
+        ensures are { IfOk result (λ o. IfSome o (λ r. (arc_value r).items ≡ drop point self.old.records)) }
+        ensures behind { IfOk result (λ o. IfSome o (λ r. operations self.old.records ≡ shown self.old.records point ++ operations_in (arc_value r).items)) }
+    {
+        if point < self.risen || point != self.begin || self.shared.is_some() {
+            return Ok(None);
+        }
+        if self.len() > MOST_FORGOTTEN {
+            return Ok(None);
+        }
+        let mut shared = Arc::new(alloc, Vec::new(alloc))?;
+        let Some(place) = Arc::get_mut(&mut shared) else {
+            return Ok(None);
+        };
+        mem::swap(place, &mut self.recent);
+        self.shared = Some(shared);
+        again(&self.shared)
     }
 
     /// How many records there are.
     pub(crate) fn len(&self) -> usize
         ensures { result ≡ length self.now.records }
     {
-        self.begin + self.recent.len()
+        self.begin + shared_of(&self.shared).len() + self.recent.len()
     }
 
     /// The operations in order of number.
@@ -267,9 +306,10 @@ impl History {
         ensures are { IfOk result (λ ids. IfSome ids (λ v. (id : Id) → is_among v.items id ≡ list_any (is_write id) (drop point self.now.records))) }
         ensures stay { IfOk result (λ ids. IfSome ids (λ v. StayShown self.now.records point (length self.now.records))) }
     {
+        let since = self.since(alloc, point)?;
         let mut ids = Vec::new(alloc);
         let mut left = self.rebuilt.saturating_sub(point);
-        for kept in &self.recent[point - self.begin..] {
+        for kept in &since {
             let is_op = push_written(alloc, &mut ids, kept)?;
             if !is_op && left > 0 {
                 return Ok(None);
@@ -279,22 +319,19 @@ impl History {
         Ok(Some(ids))
     }
 
-    /// The operations that came behind a point, where nothing else came there, and each had a number above all before it.
-    pub(crate) fn ops_since(
-        &self,
-        alloc: Global,
-        point: usize,
-    ) -> Result<Option<Vec<Op>>, AllocError>
+    /// The records behind a point.
+    fn since(&self, alloc: Global, point: usize) -> Result<Vec<Record>, AllocError>
         requires begin { self.now.begin ≤ point }
         requires within { point ≤ length self.now.records }
-        ensures are { IfOk result (λ o. IfSome o (λ v. v.items ≡ operations_in (drop point self.now.records))) }
-        ensures behind { IfOk result (λ o. IfSome o (λ v. operations self.now.records ≡ shown self.now.records point ++ v.items)) }
+        ensures { IfOk result (λ v. v.items ≡ drop point self.now.records) }
     {
-        if point < self.risen {
-            return Ok(None);
-        }
-        let ops = ops_in(alloc, &self.recent[point - self.begin..])?;
-        Ok(Some(ops))
+        let shared = shared_of(&self.shared);
+        let skipped = point - self.begin;
+        let mut since = Vec::with_capacity(alloc, self.len() - point)?;
+        push_copies(alloc, &mut since, behind(shared, skipped))?;
+        let more = behind(&self.recent, skipped.saturating_sub(shared.len()));
+        push_copies(alloc, &mut since, more)?;
+        Ok(since)
     }
 
     /// Keeps the record, where it isn't an operation whose number is there.
@@ -312,9 +349,9 @@ impl History {
         self.recent.reserve(1)?;
         let copy = kept.copy(alloc)?;
         let is_next = self.operations.is_next(kept);
-        let is_quiet = self.operations.keep(alloc, kept)?;
+        let is_quiet = self.operations.keep(alloc, kept.copy(alloc)?)?;
         self.recent.push(copy)?;
-        let len = self.begin + self.recent.len();
+        let len = self.begin + shared_of(&self.shared).len() + self.recent.len();
         self.rebuilt = before_rule(is_quiet, self.rebuilt, len);
         self.risen = before_rule(is_next, self.risen, len);
         Ok(applied)
@@ -340,9 +377,9 @@ impl History {
 }
 
 /// The operations of records.
-fn operations_of(alloc: Global, records: &[Record]) -> Result<OperationIndex, AllocError>
-    requires { All IsRecord records.now }
-    ensures { IfOk result (λ i. IsKept i records.now) }
+fn operations_of(alloc: Global, records: Vec<Record>) -> Result<OperationIndex, AllocError>
+    requires { All IsRecord records.items }
+    ensures { IfOk result (λ i. IsKept i records.items) }
 {
     let mut operations = OperationIndex::with_room(alloc, records.len())?;
     for kept in records {
@@ -361,19 +398,44 @@ fn append_all(chronicle: &Chronicle<Record>, before: &mut Writer<Record>, record
     }
 }
 
-/// The operations that stand in records.
-fn ops_in(alloc: Global, records: &[Record]) -> Result<Vec<Op>, AllocError>
-    ensures { IfOk result (λ v. v.items ≡ operations_in records.now) }
+/// Records that were handed out; none where none were.
+fn shared_of(shared: &Option<Arc<Vec<Record>, Global>>) -> &[Record]
+    ensures { result.now ≡ items_of shared.now }
 {
-    let mut ops = Vec::with_capacity(alloc, records.len())?;
-    for kept in records {
-        match kept {
-            Record::Op(_, op) => ops.push(op.copy(alloc)?)?,
-            Record::Resync(_, _, _) => {}
-            Record::Recover(_, _) => {}
-        }
+    match shared {
+        Some(records) => records,
+        None => &[],
     }
-    Ok(ops)
+}
+
+/// Records that were handed out, once more.
+fn again(
+    shared: &Option<Arc<Vec<Record>, Global>>,
+) -> Result<Option<Arc<Vec<Record>, Global>>, AllocError>
+    ensures { IfOk result (λ o. items_of o ≡ items_of shared.now) }
+{
+    match shared {
+        Some(records) => Ok(Some(Arc::try_clone(records)?)),
+        None => Ok(None),
+    }
+}
+
+/// The records after the first so many.
+fn behind(records: &[Record], count: usize) -> &[Record]
+    ensures { result.now ≡ drop count records.now }
+{
+    let skipped = records.len().min(count);
+    &records[skipped..]
+}
+
+/// Adds copies of records.
+fn push_copies(alloc: Global, all: &mut Vec<Record>, records: &[Record]) -> Result<(), AllocError>
+    ensures { OnOk result (all.new.items ≡ all.old.items ++ records.now) }
+{
+    for kept in records {
+        all.push(kept.copy(alloc)?)?;
+    }
+    Ok(())
 }
 
 /// How many records stand before those that keep a rule, once there are so many: all, where the last one doesn't.

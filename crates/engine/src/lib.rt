@@ -13,6 +13,7 @@ mod id_filter;
 mod id_key;
 mod last_of_each;
 mod latest;
+mod lessened;
 pub mod listed;
 mod merging;
 mod operation_index;

@@ -96,7 +96,7 @@ impl OperationIndex {
     {
         let mut index = OperationIndex::with_room(alloc, operations.len())?;
         for op in operations {
-            index.add(alloc, op)?;
+            index.add(alloc, op.copy(alloc)?)?;
         }
         Ok(index)
     }
@@ -264,10 +264,10 @@ impl OperationIndex {
     }
 
     /// Takes one more record. Tells whether the operations stay as they are, where it isn't an operation.
-    pub(crate) fn keep(&mut self, alloc: Global, kept: &Record) -> Result<bool, AllocError>
-        requires { IsRecord kept.now }
-        ensures ok { OnOk result (self.new ≡ after_record self.old kept.now) }
-        ensures quiet { IfOk result (λ b. b ≡ true → is_op kept.now ≡ false → after_record self.old kept.now ≡ self.old) }
+    pub(crate) fn keep(&mut self, alloc: Global, kept: Record) -> Result<bool, AllocError>
+        requires { IsRecord kept }
+        ensures ok { OnOk result (self.new ≡ after_record self.old kept) }
+        ensures quiet { IfOk result (λ b. b ≡ true → is_op kept ≡ false → after_record self.old kept ≡ self.old) }
         ensures err { OnErr result (self.new ≡ self.old) }
     {
         match kept {
@@ -275,7 +275,7 @@ impl OperationIndex {
                 self.add(alloc, op)?;
                 Ok(true)
             }
-            Record::Resync(_, known, tail) => self.resync(alloc, checkpoint::count(*known), tail),
+            Record::Resync(_, known, tail) => self.resync(alloc, checkpoint::count(known), &tail),
             Record::Recover(_, all) => {
                 *self = OperationIndex::of(alloc, all.as_slice())?;
                 Ok(false)
@@ -307,17 +307,17 @@ impl OperationIndex {
     }
 
     /// Adds the operation, where its number is free.
-    pub(crate) fn add(&mut self, alloc: Global, op: &Op) -> Result<(), AllocError>
-        ensures ok { OnOk result (self.new ≡ add self.old op.now) }
+    pub(crate) fn add(&mut self, alloc: Global, op: Op) -> Result<(), AllocError>
+        ensures ok { OnOk result (self.new ≡ add self.old op) }
         ensures err { OnErr result (self.new ≡ self.old) }
     {
         match operations::place_of(&self.slots, op.seq) {
             Ok(_) => Ok(()),
             Err(at) => {
-                let local = operations::local_count_with(&self.slots, self.local, op);
+                let local = operations::local_count_with(&self.slots, self.local, &op);
                 let slot = slot_of(alloc, &self.latest, op, false)?;
                 self.slots.reserve(1)?;
-                note(alloc, &mut self.latest, op)?;
+                note(alloc, &mut self.latest, &slot)?;
                 self.slots.insert(at, slot)?;
                 self.local = local;
                 Ok(())
@@ -396,27 +396,33 @@ impl OperationIndex {
 }
 
 /// The operation as it is kept: its id shares the text of the one noted first.
-fn slot_of(alloc: Global, latest: &Latest, op: &Op, is_of_many: bool) -> Result<Slot, AllocError>
-    ensures { IfOk result (λ s. s ≡ record { op = op.now; gone = false }) }
+fn slot_of(alloc: Global, latest: &Latest, op: Op, is_of_many: bool) -> Result<Slot, AllocError>
+    ensures { IfOk result (λ s. s ≡ record { op = op; gone = false }) }
 {
-    let (body, before) = match &op.body {
+    let Op {
+        seq,
+        term,
+        version,
+        body,
+    } = op;
+    let (body, before) = match body {
         Body::Index(id, source) => {
-            let (id, before) = latest.known(alloc, id)?;
-            (Body::Index(id, source.copy(alloc)?), before)
+            let (known, before) = latest.known(alloc, &id)?;
+            (Body::Index(known, source), before)
         }
         Body::Delete(id) => {
-            let (id, before) = latest.known(alloc, id)?;
-            (Body::Delete(id), before)
+            let (known, before) = latest.known(alloc, &id)?;
+            (Body::Delete(known), before)
         }
         Body::NoOp => (Body::NoOp, None),
     };
-    let copy = Op {
-        seq: op.seq,
-        term: op.term,
-        version: op.version,
+    let shared = Op {
+        seq,
+        term,
+        version,
         body,
     };
-    Slot::of(alloc, copy, before, is_of_many)
+    Slot::of(alloc, shared, before, is_of_many)
 }
 
 /// The operations that stand in records.
@@ -427,7 +433,7 @@ fn slots_of(alloc: Global, latest: &Latest, records: &[Record]) -> Result<Vec<Sl
     let mut slots = Vec::new(alloc);
     for kept in records {
         match kept {
-            Record::Op(_, op) => slots.push(slot_of(alloc, latest, op, true)?)?,
+            Record::Op(_, op) => slots.push(slot_of(alloc, latest, op.copy(alloc)?, true)?)?,
             Record::Resync(_, _, _) => {}
             Record::Recover(_, _) => {}
         }
@@ -468,13 +474,13 @@ fn note_slots(alloc: Global, latest: &mut Latest, slots: Vec<Slot>) -> Result<Ve
 }
 
 /// Notes the number of an operation at its id, unless a greater one is there.
-fn note(alloc: Global, latest: &mut Latest, op: &Op) -> Result<(), AllocError>
-    ensures ok { OnOk result ((id : Id) → number_among latest.new.tables.items id ≡ (if is_on id op.now then raised op.now.seq (number_among latest.old.tables.items id) else number_among latest.old.tables.items id)) }
+fn note(alloc: Global, latest: &mut Latest, slot: &Slot) -> Result<(), AllocError>
+    requires { slot.now.gone ≡ false }
+    ensures ok { OnOk result ((id : Id) → number_among latest.new.tables.items id ≡ (if is_on id slot.now.op then raised slot.now.op.seq (number_among latest.old.tables.items id) else number_among latest.old.tables.items id)) }
     ensures err { OnErr result ((id : Id) → number_among latest.new.tables.items id ≡ number_among latest.old.tables.items id) }
 {
-    match &op.body {
-        Body::Index(id, _) => latest.raise(alloc, id, op.seq),
-        Body::Delete(id) => latest.raise(alloc, id, op.seq),
-        Body::NoOp => Ok(()),
+    match slot.id() {
+        Some(id) => latest.raise(alloc, id, slot.seq()),
+        None => Ok(()),
     }
 }

@@ -14,7 +14,6 @@ ghost use Rattle.engine.specs.Parts.{published_of, without};
 
 use crate::block::{Block, Shown};
 use crate::documents::Entry;
-use crate::handed::HasDocuments;
 use crate::sought::Sought;
 use doc::{DocId, Mapping, Source};
 use marks::Marks;
@@ -77,10 +76,6 @@ pub(crate) struct Share<'a> {
 pub(crate) struct PartHits<'a> {
     pub(crate) total: u64,
     pub(crate) first: Vec<&'a Shown>,
-}
-
-impl HasDocuments for Part {
-    ghost documents = { λ p. p.documents };
 }
 
 impl Part {
@@ -252,6 +247,9 @@ impl Part {
         ensures { result ≡ true → self.now.built ≡ other.now.built → self.now.documents ≡ other.now.documents }
     {
         let _few = self.block.len();
+        if self.all_live && other.all_live {
+            return true;
+        }
         are_same(&self.live, &other.live)
     }
 
@@ -354,6 +352,17 @@ impl Part {
             all_live,
         })
     }
+}
+
+/// The same parts.
+pub(crate) fn copies_of(alloc: Global, parts: &[Part]) -> Result<Vec<Part>, AllocError>
+    ensures { IfOk result (λ v. v.items ≡ parts.now) }
+{
+    let mut copies = Vec::with_capacity(alloc, parts.len())?;
+    for part in parts {
+        copies.push(part.copy()?)?;
+    }
+    Ok(copies)
 }
 
 /// Takes away the marks of others, if there are as many.

@@ -9,6 +9,7 @@ ghost use Rattle.segment.specs.Builds.{Builds};
 ghost use Rattle.engine.specs.Answer.{is_found};
 ghost use Rattle.engine.specs.Entry.{entry_view};
 ghost use Rattle.engine.specs.Parts.{all_published, documents_of_parts, has_id, is_among, is_living, merged, without, woven, AllInOrder, AreParts};
+ghost use Rattle.engine.specs.Lessened.{all_before, IsLessened};
 ghost use Rattle.engine.specs.Live.{changed_live, changed_segments, is_live, live_of, living, small_count, FitOneMerge};
 ghost use Rattle.engine.specs.Published.{numbered, AreDistinct, AreGone, AreTold, IsReplaced};
 ghost use Rattle.engine.specs.Before.{first_of_each};
@@ -17,12 +18,12 @@ ghost use Rattle.engine.specs.Shown.{seen_all, shown_view};
 use crate::block::{Block, Shown, shown_of};
 use crate::choosing::{FEW_SMALL, count_small, parts_numbered, push_if, smallest_numbers};
 use crate::documents::{Entry, documents_of};
-use crate::handed::HasDocuments;
+use crate::lessened::{Lessened, parts_left};
 use crate::merging::{merge, merge_owned};
 use crate::operation_index::OperationIndex;
 use crate::paging::{behind, find_pivot, page_behind};
 use crate::part::{Part, Share};
-use crate::sought::{Sought, sought_of};
+use crate::sought::Sought;
 use crate::strands::strands_of;
 use crate::swapping::{Halves, part_showing, split};
 use doc::{DocId, Mapping, Source};
@@ -74,12 +75,6 @@ impl Model for PartList {
     } };
 
     ghost invariant = { λ l. AreParts (arc_value l.mapping) l.parts.items };
-}
-
-impl HasDocuments for Arc<PartList, Global> {
-    ghost use Rattle.std.specs.Arc.{arc_value};
-
-    ghost documents = { λ l. (arc_value l).documents };
 }
 
 impl PartList {
@@ -176,23 +171,25 @@ impl PartList {
     }
 
     /// What is shown where the documents of a block stand at some ids now, and at the others what stood there. The block is a part of this number, in front
-    /// of the others. Parts in which no document is live any more go.
+    /// of the others. Parts in which no document is live any more go. What is left of the others is taken where it is made.
     pub(crate) fn with(
         &self,
         alloc: Global,
         number: u64,
         ids: &[DocId],
+        made: &[Lessened],
         block: Arc<Block, Global>,
     ) -> Result<PartList, AllocError>
         requires under { (arc_value block).mapping ≡ self.now.mapping }
         requires only { (id : Id) → has_id id (arc_value block).documents ≡ true → is_among ids.now id ≡ true }
+        requires told { AreTold (all_before made.now) self.now.published }
+        requires are { All (IsLessened ids.now) made.now }
         ensures mapping { IfOk result (λ l. l.mapping ≡ self.now.mapping) }
         ensures documents { IfOk result (λ l. l.documents ≡ merged (arc_value block).documents (without ids.now self.now.documents)) }
         ensures published { IfOk result (λ l. l.published ≡ changed_segments (is_among ids.now) (record { number = number; mapping = self.now.mapping; documents = (arc_value block).documents }) self.now.published self.now.live) }
         ensures live { IfOk result (λ l. l.live ≡ filter is_live (changed_live (is_among ids.now) (record { number = number; mapping = self.now.mapping; documents = (arc_value block).documents }) self.now.live)) }
     {
-        let sought = sought_of(alloc, ids)?;
-        let mut parts = parts_without(alloc, &self.parts, &sought)?;
+        let mut parts = parts_left(alloc, &self.parts, ids, made)?;
         if parts.len() >= MOST_PARTS {
             return Err(AllocError);
         }

@@ -7,17 +7,19 @@ ghost use Rattle.op.specs.Documents.{documents};
 ghost use Rattle.segment.specs.Builds.{Builds};
 ghost use Rattle.engine.specs.Contents.{segments_shown};
 ghost use Rattle.engine.specs.Entry.{entry_view};
-ghost use Rattle.engine.specs.Parts.{has_id, is_among, merge_of, merged, shown_through, without, IsMade};
+ghost use Rattle.engine.specs.Parts.{all_published, has_id, is_among, merge_of, merged, shown_through, without, IsMade};
+ghost use Rattle.engine.specs.Lessened.{all_before, IsLessened};
 ghost use Rattle.engine.specs.Live.{changed_live, changed_segments, is_live, live_of, small_count, woven, FitOneMerge};
-ghost use Rattle.engine.specs.Published.{are_taken, next_after, numbered, taken_of, AreBelow, AreDistinct, AreGone, AreTold, HasMerged, IsBegun, IsSwapped};
+ghost use Rattle.engine.specs.Published.{are_taken, next_after, numbered, taken_of, AreBelow, AreDistinct, AreGone, AreKnown, AreTold, HasMerged, IsBegun, IsSwapped};
 
 use crate::block::Block;
 use crate::handed::Handed;
+use crate::lessened::Lessened;
 use crate::operation_index::OperationIndex;
-use crate::part::Part;
+use crate::part::{Part, copies_of};
 use crate::part_list::PartList;
 use crate::snapshot::Snapshot;
-use crate::swapping::{BegunMerge, Merged, Merging};
+use crate::swapping::{BegunMerge, Merged, Merging, are_below_greatest};
 use doc::{DocId, Mapping, Source};
 use segment::Segment;
 use std::alloc::{AllocError, Global};
@@ -105,20 +107,24 @@ impl Showing {
     }
 
     /// What is shown where the documents of a block stand at some ids now, and at the others what stood there. Parts in which no document is live any more go.
+    /// What is left of the others is taken where it is made.
     pub(crate) fn with(
         &self,
         alloc: Global,
         ids: &[DocId],
+        made: &[Lessened],
         block: Arc<Block, Global>,
     ) -> Result<Showing, AllocError>
         requires under { (arc_value block).mapping ≡ self.now.snapshot.mapping }
         requires only { (id : Id) → has_id id (arc_value block).documents ≡ true → is_among ids.now id ≡ true }
+        requires told { AreTold (all_before made.now) self.now.published }
+        requires are { All (IsLessened ids.now) made.now }
         ensures snapshot { IfOk result (λ s. s.snapshot ≡ record self.now.snapshot { documents = merged (arc_value block).documents (without ids.now self.now.snapshot.documents) }) }
         ensures published { IfOk result (λ s. s.published ≡ changed_segments (is_among ids.now) (record { number = self.now.next; mapping = self.now.snapshot.mapping; documents = (arc_value block).documents }) self.now.published self.now.live) }
         ensures live { IfOk result (λ s. s.live ≡ filter is_live (changed_live (is_among ids.now) (record { number = self.now.next; mapping = self.now.snapshot.mapping; documents = (arc_value block).documents }) self.now.live)) }
         ensures rises { IfOk result (λ s. self.now.next ≤ s.next) }
     {
-        let parts = self.parts.with(alloc, self.next, ids, block)?;
+        let parts = self.parts.with(alloc, self.next, ids, made, block)?;
         shown(alloc, parts, self.next.saturating_add(1))
     }
 
@@ -161,6 +167,17 @@ impl Showing {
         Handed::out(alloc, parts)
     }
 
+    /// Its parts, by their numbers told from now on; none where one bears the greatest number.
+    pub(crate) fn told(&self, alloc: Global) -> Result<Vec<Part>, AllocError>
+        ensures { IfOk result (λ v. AreKnown self.now.next self.now.published (all_published v.items)) }
+    {
+        let parts = self.parts.parts();
+        if !are_below_greatest(parts) {
+            return Ok(Vec::new(alloc));
+        }
+        copies_of(alloc, parts)
+    }
+
     /// The numbers of small parts that go well into one, where there are many.
     pub(crate) fn to_merge(&self, alloc: Global) -> Result<Option<Vec<u64>>, AllocError>
         ensures none { IfOk result (λ o. o ≡ None → small_count self.now.published self.now.live ≤ 16) }
@@ -192,6 +209,7 @@ impl Showing {
         ensures swapped { IfOk result (λ o. IfSome o (λ s. (merged.now.taken ≡ [] → ⊥) → IsSwapped merged.now.taken (segments_shown self.now) (segments_shown s))) }
         ensures none { merged.now.taken ≡ [] → IfOk result (λ o. IfSome o (λ s. s ≡ self.now)) }
         ensures gone { IfOk result (λ o. o ≡ None → (AreGone self.now.published merged.now.taken → merged.now.taken ≡ []) → ⊥) }
+        ensures rises { IfOk result (λ o. IfSome o (λ s. self.now.next ≤ s.next)) }
     {
         match &merged.part {
             Some(part) => self.swapped_by(alloc, merged.parts.given(), part, false),
@@ -208,6 +226,7 @@ impl Showing {
         requires { IsBegun self.now.next self.now.published (arc_value begun.now).published }
         ensures snapshot { IfOk result (λ o. IfSome o (λ s. s.snapshot ≡ self.now.snapshot)) }
         ensures merged { IfOk result (λ o. IfSome o (λ s. HasMerged (segments_shown self.now) (segments_shown s))) }
+        ensures rises { IfOk result (λ o. IfSome o (λ s. self.now.next ≤ s.next)) }
     {
         match begun.made() {
             Some(part) => self.swapped_by(alloc, begun.given(), part, true),
@@ -230,6 +249,7 @@ impl Showing {
         ensures there { IfOk result (λ o. IfSome o (λ s. AreGone self.now.published taken.now.published → ⊥)) }
         ensures swapped { IfOk result (λ o. IfSome o (λ s. IsSwapped taken.now.published (segments_shown self.now) (segments_shown s))) }
         ensures gone { IfOk result (λ o. o ≡ None → AreGone self.now.published taken.now.published) }
+        ensures rises { IfOk result (λ o. IfSome o (λ s. self.now.next ≤ s.next)) }
     {
         let after = self
             .parts

@@ -6,7 +6,7 @@ ghost use Rattle.engine.specs.Published.{are_taken, greatest, AreTold};
 ghost use Rattle.std.specs.List.{list_all};
 
 use crate::choosing::parts_numbered;
-use crate::handed::Handed;
+use crate::handed::{Handed, MadeOf};
 use crate::part::Part;
 use crate::part_list::{PartList, entries_of_parts, living_parts, parts_without};
 use crate::sought::sought_of;
@@ -18,6 +18,13 @@ use std::sync::Arc;
 
 /// A merge that was begun: what it takes, and a place for the part that is made of that.
 pub(crate) type BegunMerge = Handed<Arc<PartList, Global>, Part>;
+
+impl MadeOf<Arc<PartList, Global>> for Part {
+    ghost use Rattle.std.specs.Prelude.{◌≡◌};
+    ghost use Rattle.std.specs.Arc.{arc_value};
+
+    ghost is_made = { λ l p. p.documents ≡ (arc_value l).documents };
+}
 
 /// A merge that was begun: what searches looked through then. It needs no engine.
 #[derive(Drop)]
@@ -87,7 +94,7 @@ pub(crate) fn are_taken(parts: &[Part]) -> bool
 }
 
 /// Whether none bears the greatest number.
-fn are_below_greatest(parts: &[Part]) -> bool
+pub(crate) fn are_below_greatest(parts: &[Part]) -> bool
     ensures { result ≡ list_all (λ s. nat_lt s.number greatest) (all_published parts.now) }
 {
     for part in parts {

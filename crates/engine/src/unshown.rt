@@ -4,16 +4,34 @@ ghost use Rattle.std.specs.Arc.{arc_value};
 ghost use Rattle.segment.specs.Builds.{Builds};
 
 use crate::block::Block;
-use crate::changes::Changes;
-use crate::handed::Handed;
-use doc::{Mapping, Source};
+use crate::changes::{Changes, ids_of};
+use crate::documents::documents_made;
+use crate::handed::{Handed, MadeOf};
+use crate::lessened::{Lessened, lessened_of};
+use doc::{DocId, Mapping, Source};
+use op::Record;
 use segment::Segment;
 use std::alloc::{AllocError, Global};
 use std::marker::Model;
 use std::sync::Arc;
 
-/// A refresh that was begun: what changed, and a place for the block of what stands there.
-pub(crate) type Begun = Handed<Changes, Arc<Block, Global>>;
+/// What a refresh puts in place: the block of what stands at the ids, and what is left of the parts that were there when it was begun.
+#[derive(Drop)]
+pub(crate) struct Ready {
+    pub(crate) block: Arc<Block, Global>,
+    pub(crate) ids: Vec<DocId>,
+    pub(crate) parts: Vec<Lessened>,
+}
+
+impl MadeOf<Changes> for Ready {
+    ghost use Rattle.std.specs.Arc.{arc_value};
+    ghost use Rattle.engine.specs.Changes.{IsReady};
+
+    ghost is_made = { λ c r. IsReady c (arc_value r.block) r.ids.items r.parts.items };
+}
+
+/// A refresh that was begun: what changed, and a place for what it puts in place.
+pub(crate) type Begun = Handed<Changes, Ready>;
 
 /// Documents that searches don't show yet, with what they are read under. It needs no engine.
 #[derive(Drop)]
@@ -21,6 +39,8 @@ pub struct Unshown {
     alloc: Global,
     mapping: Arc<Mapping, Global>,
     begun: Begun,
+    /// What memory forgot when they were handed out. It is let go of with them.
+    forgotten: Option<Arc<Vec<Record>, Global>>,
 }
 
 impl Model for Unshown {
@@ -37,6 +57,7 @@ impl Unshown {
         alloc: Global,
         mapping: &Arc<Mapping, Global>,
         begun: &Begun,
+        forgotten: Option<Arc<Vec<Record>, Global>>,
     ) -> Result<Unshown, AllocError>
         ensures { IfOk result (λ u. u ≡ record { mapping = arc_value mapping.now; documents = begun.now.documents; point = begun.now.point }) }
     {
@@ -46,6 +67,7 @@ impl Unshown {
             alloc,
             mapping,
             begun,
+            forgotten,
         })
     }
 
@@ -57,10 +79,14 @@ impl Unshown {
         requires { Builds F.Fn builder.now }
         ensures { IfOk result (λ b. b ≡ self.now) }
     {
-        let entries = self.begun.given().documents(self.alloc)?;
+        let changes = self.begun.given();
+        let ops = changes.ops(self.alloc)?;
+        let entries = documents_made(self.alloc, &ops)?;
         let block = Block::of(builder, self.alloc, &self.mapping, &entries)?;
         let block = Arc::new(self.alloc, block)?;
-        self.begun.note(block);
+        let ids = ids_of(self.alloc, &ops)?;
+        let parts = lessened_of(self.alloc, changes.parts(), &ids)?;
+        self.begun.note(Ready { block, ids, parts });
         let mapping = Arc::try_clone(&self.mapping)?;
         let begun = self.begun.again()?;
         Ok(Prebuilt { mapping, begun })

@@ -20,6 +20,12 @@ use std::thread::Threads;
 /// So many pieces keep the processors of most machines at work.
 const MOST_PIECES: usize = 4;
 
+/// So many pieces leave processors to commands and searches.
+const FEW_PIECES: usize = 2;
+
+/// So many documents are a start's, or come faster than few pieces build them.
+const MANY_DOCUMENTS: usize = 131_072;
+
 /// Columns are finished in up to two parts: each has room of its own for what it puts together.
 const HALVINGS: u32 = 1;
 
@@ -37,7 +43,7 @@ pub(crate) fn columns_of<R: Threads + Sync>(
     ensures { IfOk result (λ m. (name : List ℕ) → IsColumnOr mapping.now.fields (map (all_values mapping.now) sources.now) name (column_at m name)) }
 {
     let len = sources.len();
-    let size = (len / MOST_PIECES + 1).max(LEAST_PIECE);
+    let size = piece_size(len);
     let pieces = thread::map_chunks(
         rt,
         alloc,
@@ -55,6 +61,16 @@ pub(crate) fn columns_of<R: Threads + Sync>(
         join(alloc, &mut makings, piece?, &rooms, len)?;
     }
     finish_halves(rt, alloc, makings, len, HALVINGS)
+}
+
+/// How many documents of so many a piece has.
+fn piece_size(len: usize) -> usize
+    ensures { 0 < result }
+{
+    if len < MANY_DOCUMENTS {
+        return (len / FEW_PIECES + 1).max(LEAST_PIECE);
+    }
+    (len / MOST_PIECES + 1).max(LEAST_PIECE)
 }
 
 /// The columns of a piece. Where it isn't all, their texts are listed, to be put behind those of the pieces before it.

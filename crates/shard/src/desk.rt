@@ -160,9 +160,9 @@ enum Order {
 
 /// An index of one copy behind a lock, which a write holds until the device has synced it. What searches see stands behind a lock of its own, which
 /// is held no longer than it takes to look there, so no search waits for a write. Who wants the lock goes through a door, where one at a time waits for it: a lock
-/// alone is taken by who comes by just then, however long another one waits. Bulks take turns before they come to the door, so a write waits for two of them
-/// at most, and not for as many as there are connections. Segments are merged by a thread of its own (`merge_beside`), which holds the lock only
-/// while it puts a merge in place.
+/// alone is taken by who comes by just then, however long another one waits. Bulks take turns before they come to the door, so where few others write a write
+/// waits for two of them at most, and not for as many as there are connections. Segments are merged by a thread of its own (`merge_beside`), which holds the
+/// lock only while it puts a merge in place.
 pub struct SharedShard<D: LogDevice, N: HistoryName> {
     alloc: Global,
     label: Label<N>,

@@ -1,5 +1,5 @@
 //! What holds a log.
-ghost use Rattle.std.specs.Prelude.{◌≡◌, ◌≤◌, ◌++◌, Bool, true, false, List, ℕ, ◌⊎◌, length, take, is_err, IfOk, IsOk, OnOk, OnErr, IsErrOf};
+ghost use Rattle.std.specs.Prelude.{◌≡◌, ◌≤◌, ◌++◌, Bool, true, false, List, ℕ, ◌⊎◌, None, length, take, is_err, IfOk, IfSome, IsOk, OnOk, OnErr, IsErrOf};
 ghost use Rattle.translog.specs.declared.device.DeviceFault.TheVariants.{Failed as Broken};
 ghost use Rattle.translog.specs.Device.{AddsFront, count_after};
 ghost use Rattle.translog.specs.Fault.{errs_with, is_failed};
@@ -107,6 +107,14 @@ pub trait LogDevice: Drop {
     /// All its bytes, as a copy of what it holds in memory. Nothing is read.
     fn held(&self, alloc: Global) -> Result<Vec<u8>, AllocError>
         ensures { IfOk result (λ held. held.items ≡ bytes self.now) };
+
+    /// All its bytes where they stand, if they stand in one piece and none of them is in doubt. Nothing is read.
+    fn whole(&self) -> Option<&[u8]>
+        ensures is { IfSome result (λ whole. whole.now ≡ bytes self.now) }
+        ensures sure { is_doubtful self.now ≡ true → result ≡ None }
+    {
+        None
+    }
 
     /// How often it has failed. At its greatest value the count stays.
     fn faults(&self) -> u64

@@ -298,6 +298,14 @@ impl<F: Read + Write + OpenFile + Drop> LogDevice for FileDevice<F> {
         self.bytes.to_vec(alloc)
     }
 
+    fn whole(&self) -> Option<&[u8]> {
+        let is_sure = !self.is_doubtful && !self.overhangs && self.synced == self.bytes.len();
+        if !is_sure || self.bytes.packed_len() > 0 {
+            return None;
+        }
+        Some(self.bytes.behind(0))
+    }
+
     fn faults(&self) -> u64 {
         self.failures
     }

@@ -125,7 +125,7 @@ impl<D: LogDevice> Translog<D> {
         Ok(records)
     }
 
-    /// The same; the frames' contents are read on all processors.
+    /// The same; the frames' contents are read on all processors, where they stand if the device has them in one piece.
     #[tactic(auto, using(crate::proofs::KeptLaws::torn_rules))]
     pub fn read_on<R: Threads + Sync>(
         &mut self,
@@ -140,8 +140,13 @@ impl<D: LogDevice> Translog<D> {
         ensures counts { D.failures self.new.device ≡ count_after (errs_with is_device result) (D.failures self.old.device) }
         ensures in_memory { D.in_memory ≡ true → IfErr result (λ e. is_device e ≡ false) }
     {
-        let bytes = frames::read(alloc, &mut self.device)?;
-        let (records, torn, groups) = stretches::found_on(rt, alloc, bytes.as_slice())?;
+        let (records, torn, groups) = match self.device.whole() {
+            Some(bytes) => stretches::found_on(rt, alloc, bytes)?,
+            None => {
+                let bytes = frames::read(alloc, &mut self.device)?;
+                stretches::found_on(rt, alloc, bytes.as_slice())?
+            }
+        };
         self.groups = groups;
         Ok((records, torn))
     }

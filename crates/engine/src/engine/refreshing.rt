@@ -4,13 +4,14 @@ ghost use Rattle.op.specs.Documents.{documents};
 ghost use Rattle.op.specs.Records.{shown};
 ghost use Rattle.engine.specs.Live.{AreLive};
 ghost use Rattle.engine.specs.Parts.{merged, without};
-ghost use Rattle.engine.specs.Published.{IsFronted};
+ghost use Rattle.engine.specs.Published.{AreKnown, IsFronted};
 ghost use Rattle.engine.specs.SnapshotChange.{ShowsMore};
 
 use crate::changes::Changes;
 use crate::engine::Engine;
 use crate::showing::Showing;
 use crate::unshown::{Begun, Prebuilt, Unshown};
+use op::Record;
 use std::alloc::{AllocError, Global};
 use std::sync::Arc;
 
@@ -25,26 +26,27 @@ impl Engine {
         ensures mapping { IfOk result (λ o. IfSome o (λ u. u.mapping ≡ self.old.mapping)) }
         ensures all { IfOk result (λ o. IfSome o (λ u. u.point ≡ length self.old.records)) }
     {
-        self.forget_shown();
-        let Some(changes) = Changes::of(alloc, &self.history, self.point)? else {
-            return Ok(None);
-        };
-        if changes.ids().len() < MANY {
+        let forgotten = self.forget_shown();
+        if self.history.len() - self.point < MANY {
             return Ok(None);
         }
+        let parts = self.showing.told(alloc)?;
+        let Some(changes) = Changes::of(alloc, &mut self.history, self.point, parts)? else {
+            return Ok(None);
+        };
         let begun = Begun::out(alloc, changes)?;
-        let unshown = Unshown::of(alloc, &self.mapping, &begun)?;
+        let unshown = Unshown::of(alloc, &self.mapping, &begun, forgotten)?;
         self.pending = Some(begun);
         Ok(Some(unshown))
     }
 
-    /// Lets memory forget the records that searches show, and texts that newer operations replaced. A refresh that is finished leaves this to the next one, so
-    /// that neither takes long.
-    fn forget_shown(&mut self)
+    /// Lets memory forget the records that searches show, and texts that newer operations replaced. A refresh that is finished leaves this to the next one, and
+    /// that one leaves it to whoever builds what it shows to let go of them, so that neither takes long.
+    fn forget_shown(&mut self) -> Option<Arc<Vec<Record>, Global>>
         ensures { self.new ≡ self.old }
     {
         let point = self.point;
-        self.history.forget_to(point);
+        self.history.forget_to(point)
     }
 
     /// Shows the records that were there when the refresh was begun for which this was built. Where another refresh came since, or was begun, it is `false`, and all
@@ -71,6 +73,7 @@ impl Engine {
 
     /// What searches show with the changes of a refresh, where a block was built of them.
     fn showing_with(&self, alloc: Global, begun: &Begun) -> Result<Option<Showing>, AllocError>
+        requires { AreKnown self.now.next self.now.published begun.now.published }
         ensures snapshot { IfOk result (λ o. IfSome o (λ s. s.snapshot ≡ record {
           mapping = self.now.mapping;
           documents = merged begun.now.documents (without begun.now.ids (documents (shown self.now.records self.now.point)));
@@ -79,14 +82,14 @@ impl Engine {
         ensures rises { IfOk result (λ o. IfSome o (λ s. self.now.next ≤ s.next)) }
         ensures live { IfOk result (λ o. IfSome o (λ s. AreLive s.live)) }
     {
-        let Some(block) = begun.made() else {
+        let Some(ready) = begun.made() else {
             return Ok(None);
         };
-        if !block.is_under(&self.mapping) {
+        if !ready.block.is_under(&self.mapping) {
             return Ok(None);
         }
-        let block = Arc::try_clone(block)?;
-        let showing = self.showing.with(alloc, begun.given().ids(), block)?;
+        let block = Arc::try_clone(&ready.block)?;
+        let showing = self.showing.with(alloc, &ready.ids, &ready.parts, block)?;
         Ok(Some(showing))
     }
 }

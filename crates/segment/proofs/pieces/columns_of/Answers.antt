@@ -17,8 +17,8 @@ pub loop-piece-init : goal.loop-piece-init
 loop-piece-init g c =
     let m = c.args.mapping.now in
     let ss = c.args.sources.now in
-    let size = c.max-size.result in
-    let some : 0 < size = omega (arith, c.max-size.ensures) in
+    let size = c.piece_size-size.result in
+    let some : 0 < size = omega (arith, c.piece_size-size.ensures) in
     let pieces = c.in_ok-pieces.pieces in
     let gives = c.into_iter-piece-iterator.ensures.into_iter_gives in
     let all : length pieces.items ≡ length ss / size + min 1 (length ss % size) = sym pieces.ok.0 ∙ c.in_ok-pieces.ensures.len in
@@ -39,15 +39,15 @@ loop-piece-init g c =
     )
 
 pub join-requires-clause-long : goal.join-requires-clause-long
-join-requires-clause-long g c = long-so_far c.args.mapping.now c.max-size.result (length c.args.sources.now) c.args.sources.now c.loop-piece.makings c.loop-piece.piece-iterator.rest.items c.loop-piece.invariant.0
+join-requires-clause-long g c = long-so_far c.args.mapping.now c.piece_size-size.result (length c.args.sources.now) c.args.sources.now c.loop-piece.makings c.loop-piece.piece-iterator.rest.items c.loop-piece.invariant.0
 
 pub join-requires-clause-later : goal.join-requires-clause-later
 join-requires-clause-later g c =
     let m = c.args.mapping.now in
     let ss = c.args.sources.now in
     let left = c.next.new.self.rest.items in
-    long-piece m c.max-size.result (length ss) ss c.loop-piece.makings c.in_ok-piece.field-0 left
-    (subst (IsSoFar m c.max-size.result (length ss) ss c.loop-piece.makings) (c.in-Some.ensures.steps.0 ∙ ap (λ (r : Result Makings AllocError). r ∷ left) c.in_ok-piece.was) c.loop-piece.invariant.0)
+    long-piece m c.piece_size-size.result (length ss) ss c.loop-piece.makings c.in_ok-piece.field-0 left
+    (subst (IsSoFar m c.piece_size-size.result (length ss) ss c.loop-piece.makings) (c.in-Some.ensures.steps.0 ∙ ap (λ (r : Result Makings AllocError). r ∷ left) c.in_ok-piece.was) c.loop-piece.invariant.0)
 
 -- one piece more
 pub loop-piece-preserved : goal.loop-piece-preserved
@@ -56,8 +56,8 @@ loop-piece-preserved g c =
     let ss = c.args.sources.now in
     let left = c.next.new.self.rest.items in
     let steps = c.in-Some.ensures.steps in (
-      piece-more m c.max-size.result (length ss) ss c.loop-piece.makings c.in_ok-piece.field-0 c.join.new.makings left
-          (subst (IsSoFar m c.max-size.result (length ss) ss c.loop-piece.makings) (steps.0 ∙ ap (λ (r : Result Makings AllocError). r ∷ left) c.in_ok-piece.was) c.loop-piece.invariant.0) c.in_ok-join.ensures,
+      piece-more m c.piece_size-size.result (length ss) ss c.loop-piece.makings c.in_ok-piece.field-0 c.join.new.makings left
+          (subst (IsSoFar m c.piece_size-size.result (length ss) ss c.loop-piece.makings) (steps.0 ∙ ap (λ (r : Result Makings AllocError). r ∷ left) c.in_ok-piece.was) c.loop-piece.invariant.0) c.in_ok-join.ensures,
       omega (arith, steps.1, c.loop-piece.invariant.1, ap length steps.0),
     )
 
@@ -69,7 +69,7 @@ finish_halves-requires g c =
     let none : left ≡ [] = nil_from_length left (omega (arith, c.loop-piece.invariant.1, c.in-None.ensures.steps.0)) in (
       search (rules, sendable) depth 20,
       makings-few m.fields (map (all_values m) ss) (length ss) c.loop-piece.makings (sym (length-map ss (all_values m)))
-          (all-pieces m c.max-size.result (length ss) ss c.loop-piece.makings (subst (IsSoFar m c.max-size.result (length ss) ss c.loop-piece.makings) none c.loop-piece.invariant.0)),
+          (all-pieces m c.piece_size-size.result (length ss) ss c.loop-piece.makings (subst (IsSoFar m c.piece_size-size.result (length ss) ss c.loop-piece.makings) none c.loop-piece.invariant.0)),
     )
 
 -- all documents
@@ -81,4 +81,4 @@ returns g c =
     let none : left ≡ [] = nil_from_length left (omega (arith, c.loop-piece.invariant.1, c.in-None.ensures.steps.0)) in
     IfOk-weaker c.finish_halves.result (AreFinished (length ss) c.loop-piece.makings) _
     (λ columns made. makings-finished m.fields (map (all_values m) ss) (length ss) c.loop-piece.makings columns (sym (length-map ss (all_values m)))
-    (all-pieces m c.max-size.result (length ss) ss c.loop-piece.makings (subst (IsSoFar m c.max-size.result (length ss) ss c.loop-piece.makings) none c.loop-piece.invariant.0)) made) c.finish_halves.ensures
+    (all-pieces m c.piece_size-size.result (length ss) ss c.loop-piece.makings (subst (IsSoFar m c.piece_size-size.result (length ss) ss c.loop-piece.makings) none c.loop-piece.invariant.0)) made) c.finish_halves.ensures

@@ -27,4 +27,5 @@ invariant_of-self-3 c =
       omega (arith, at, leads.more, c.self.invariant.1),
       rw c.take.ensures.after tt,
       still-begun (λ l. (arc_value {X = PartList} l).published) inside.merging before.next after.next before.published after.published fronted rises c.self.invariant.3,
+      rw c.take.ensures.after tt,
     )

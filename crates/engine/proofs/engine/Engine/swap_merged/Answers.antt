@@ -1,6 +1,9 @@
 use Rattle.std.proofs.Common.{◌≡◌, [], true, false, refl, sym, subst}
-use Rattle.engine.specs.Contents.{EngineData}
+use Rattle.std.specs.Arc.{arc_value}
+use Rattle.engine.specs.Changes.{ChangesData}
+use Rattle.engine.specs.Contents.{EngineData, Shows}
 use Rattle.engine.specs.Published.{AreGone}
+use Rattle.engine.proofs.BegunLaws.{known-after}
 use Rattle.engine.proofs.engine.Engine.swap_merged.Goals as goal
 
 -- a segment that was taken is there
@@ -16,3 +19,16 @@ returns-in-None-clause-answer c =
   where
     no : false ≡ true → ⊥
     no f = cc
+
+-- what a refresh was begun with is told by its numbers still
+pub invariant_of-self : goal.invariant_of-self
+invariant_of-self c =
+    let inside = c.self.inside in
+    let after = c.in-Some.after in
+    let made = c.in_ok-after.ensures in (
+      subst (Shows (arc_value inside.mapping) inside.history.records inside.point) (sym (rw c.in-Some.is at made.snapshot)) c.self.invariant.0,
+      c.self.invariant.1,
+      c.self.invariant.2,
+      tt,
+      known-after (λ (x : ChangesData). x.published) inside.pending c.args.merged.taken inside.showing after (rw c.in-Some.is at made.rises) (λ none. rw c.in-Some.is at (made.none none)) (rw c.in-Some.is at made.swapped) c.self.invariant.4,
+    )

@@ -2,7 +2,7 @@ use Rattle.std.proofs.Common.{◌++◌, [], List, append_assoc, subst, sym}
 use Rattle.std.specs.Prelude.{fold}
 use Rattle.op.specs.declared.record.Record.{Record}
 use Rattle.op.specs.Records.{after_record, operations}
-use Rattle.engine.specs.Kept.{HasRisen, HistoryData, IsKept, IsQuiet}
+use Rattle.engine.specs.Kept.{items_of, HasRisen, HistoryData, IsKept, IsQuiet}
 use Rattle.engine.proofs.QuietLaws.{quiet-rise}
 use Rattle.op.specs.Operations.{IsAscending, next_seq}
 use Rattle.engine.specs.Applied.{RiseFrom}
@@ -13,7 +13,7 @@ use Rattle.engine.proofs.history.History.apply_all.Goals as goal
 -- the operations and the records have the same records more
 pub invariant_of-self-2 : goal.invariant_of-self-2
 invariant_of-self-2 c =
-    let before = c.self.inside.before.entries in
+    let before = c.self.inside.before.entries ++ items_of c.self.inside.shared in
     let recent = c.self.inside.recent.items in (
       rw (c.in_ok-add_all.ensures.ok, c.deref.ensures.value, c.in_ok-append.ensures.items, c.in_ok-reserve.ensures.items)
           (subst (λ (rs : List Record). IsKept (fold after_record c.self.inside.operations c.args.records.items) rs) (append_assoc before recent c.args.records.items) (IsKept-rise _ _ _ _ c.self.invariant.0 c.requires)),

@@ -9,7 +9,7 @@ use Rattle.std.proofs.lemmas.List.{take_all}
 use Rattle.engine.specs.Kept.{HistoryData, IsQuiet}
 use Rattle.engine.specs.SnapshotChange.{is_op, is_write}
 use Rattle.engine.proofs.QuietLaws.{ids-next, none_left, quiet-drop, quiet-item, stay-next, writes-next}
-use Rattle.engine.proofs.RefreshLaws.{drop-behind, ids-end, not-all, rest-whole}
+use Rattle.engine.proofs.RefreshLaws.{ids-end, not-all}
 use Rattle.engine.proofs.history.History.ids_since.Goals as goal
 
 -- one record more
@@ -18,10 +18,7 @@ loop-kept-preserved c =
     let h = c.self.inside in
     let rs = c.args.self.now.records in
     let i = c.loop-kept.kept-index in
-    let p = c.args.point - h.begin in
-    let begins : h.begin ≤ c.args.point = subst (λ (x : HistoryData). x.begin ≤ c.args.point) (sym c.self.view_is) c.requires.begin in
-    let behind = sym (drop-behind h.before.entries h.recent.items c.args.point h.begin c.self.invariant.2 begins) ∙ ap (λ (x : HistoryData). drop c.args.point x.records) c.self.view_is in
-    let rest = ap (λ (xs : List Record). take (length xs - p) (drop p xs)) c.deref.ensures.value ∙ rest-whole p h.recent.items ∙ behind in
+    let rest = c.deref-kept-items.ensures.value ∙ c.in_ok-since.ensures in
     let r = c.kept-item.result in
     let within = subst (λ (xs : List Record). i < length xs) rest c.loop-kept-test.true in
     let item = subst (λ (xs : List Record). r ≡ get_or xs i r) rest c.kept-item.is in
@@ -46,10 +43,7 @@ returns-clause-others c =
     let h = c.self.inside in
     let rs = c.args.self.now.records in
     let i = c.loop-kept.kept-index in
-    let p = c.args.point - h.begin in
-    let begins : h.begin ≤ c.args.point = subst (λ (x : HistoryData). x.begin ≤ c.args.point) (sym c.self.view_is) c.requires.begin in
-    let behind = sym (drop-behind h.before.entries h.recent.items c.args.point h.begin c.self.invariant.2 begins) ∙ ap (λ (x : HistoryData). drop c.args.point x.records) c.self.view_is in
-    let rest = ap (λ (xs : List Record). take (length xs - p) (drop p xs)) c.deref.ensures.value ∙ rest-whole p h.recent.items ∙ behind in
+    let rest = c.deref-kept-items.ensures.value ∙ c.in_ok-since.ensures in
     λ id none. ap (λ os. last_on os id) (sym (ids-end rs c.args.point i (subst (λ (xs : List Record). length xs ≤ i) rest c.loop-kept-test.false))) ∙ c.loop-kept.invariant.others id none
 
 pub returns-clause-stay : goal.returns-clause-stay
@@ -57,10 +51,7 @@ returns-clause-stay c =
     let h = c.self.inside in
     let rs = c.args.self.now.records in
     let i = c.loop-kept.kept-index in
-    let p = c.args.point - h.begin in
-    let begins : h.begin ≤ c.args.point = subst (λ (x : HistoryData). x.begin ≤ c.args.point) (sym c.self.view_is) c.requires.begin in
-    let behind = sym (drop-behind h.before.entries h.recent.items c.args.point h.begin c.self.invariant.2 begins) ∙ ap (λ (x : HistoryData). drop c.args.point x.records) c.self.view_is in
-    let rest = ap (λ (xs : List Record). take (length xs - p) (drop p xs)) c.deref.ensures.value ∙ rest-whole p h.recent.items ∙ behind in
+    let rest = c.deref-kept-items.ensures.value ∙ c.in_ok-since.ensures in
     λ o before. ap (λ os. op_at os o.seq) (shown-all rs ∙ sym (ids-end rs c.args.point i (subst (λ (xs : List Record). length xs ≤ i) rest c.loop-kept-test.false))) ∙ c.loop-kept.invariant.stay o before
 
 pub returns-clause-are : goal.returns-clause-are
@@ -68,10 +59,7 @@ returns-clause-are c =
     let h = c.self.inside in
     let rs = c.args.self.now.records in
     let i = c.loop-kept.kept-index in
-    let p = c.args.point - h.begin in
-    let begins : h.begin ≤ c.args.point = subst (λ (x : HistoryData). x.begin ≤ c.args.point) (sym c.self.view_is) c.requires.begin in
-    let behind = sym (drop-behind h.before.entries h.recent.items c.args.point h.begin c.self.invariant.2 begins) ∙ ap (λ (x : HistoryData). drop c.args.point x.records) c.self.view_is in
-    let rest = ap (λ (xs : List Record). take (length xs - p) (drop p xs)) c.deref.ensures.value ∙ rest-whole p h.recent.items ∙ behind in
+    let rest = c.deref-kept-items.ensures.value ∙ c.in_ok-since.ensures in
     let end = take_all i (drop c.args.point rs) (subst (λ (xs : List Record). length xs ≤ i) rest c.loop-kept-test.false) in
     λ id. c.loop-kept.invariant.are id ∙ ap (λ (xs : List Record). list_any (is_write id) xs) end
 
@@ -80,10 +68,7 @@ returns-then-left-gt0-clause-only c =
     let h = c.self.inside in
     let rs = c.args.self.now.records in
     let i = c.loop-kept.kept-index in
-    let p = c.args.point - h.begin in
-    let begins : h.begin ≤ c.args.point = subst (λ (x : HistoryData). x.begin ≤ c.args.point) (sym c.self.view_is) c.requires.begin in
-    let behind = sym (drop-behind h.before.entries h.recent.items c.args.point h.begin c.self.invariant.2 begins) ∙ ap (λ (x : HistoryData). drop c.args.point x.records) c.self.view_is in
-    let rest = ap (λ (xs : List Record). take (length xs - p) (drop p xs)) c.deref.ensures.value ∙ rest-whole p h.recent.items ∙ behind in
+    let rest = c.deref-kept-items.ensures.value ∙ c.in_ok-since.ensures in
     let r = c.kept-item.result in
     let within = subst (λ (xs : List Record). i < length xs) rest c.loop-kept-test.true in
     let item = subst (λ (xs : List Record). r ≡ get_or xs i r) rest c.kept-item.is in

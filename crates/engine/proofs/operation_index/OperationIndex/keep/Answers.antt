@@ -10,10 +10,10 @@ use Rattle.engine.proofs.operation_index.OperationIndex.keep.Goals as goal
 pub resync-requires : goal.resync-requires
 resync-requires c =
     let counted : c.count.result ≡ known c.in-Resync.known = grind (arith, common_steps, to_z-of_z) in
-    runs_on c.args.kept.now c.in-Resync.field-0 c.count.result c.in-Resync.known c.in-Resync.tail c.requires c.in-Resync.is counted
+    runs_on c.args.kept c.in-Resync.field-0 c.count.result c.in-Resync.known c.in-Resync.tail c.requires c.in-Resync.is counted
 
 -- what a recovery brings rises
 pub of-requires : goal.of-requires
 of-requires c =
     rw c.as_slice.ensures
-    (rw c.in-Recover.is at (IsAscending-after [] c.args.kept.now tt c.requires))
+    (rw c.in-Recover.is at (IsAscending-after [] c.args.kept tt c.requires))

@@ -14,4 +14,4 @@ loop-op-preserved c =
     let lt = c.loop-op-test.true in
     let more : take (i + 1) os ≡ take i os ++ o ∷ [] = take_more os i o lt ∙ ap (λ (p : Op). take i os ++ p ∷ []) (sym c.op-item.is) in
     let added : add (take i os) o ≡ take i os ++ o ∷ [] = subst (λ (p : Op). add (take i os) p ≡ take i os ++ p ∷ []) (sym c.op-item.is) (add-take os i o c.requires lt) in
-    c.in_ok-add.ensures.ok ∙ ap (λ (ps : List Op). add ps o) c.loop-op.invariant ∙ added ∙ sym more
+    c.in_ok-add.ensures.ok ∙ ap (add c.loop-op.index) c.in_ok-copy.ensures ∙ ap (λ (ps : List Op). add ps o) c.loop-op.invariant ∙ added ∙ sym more

@@ -17,11 +17,11 @@ living-requires c =
     let qs = c.in_ok-parts.parts.items in
     let es = (arc_value c.args.block).documents in
     let mappings = rw c.deref.ensures.value at c.in_ok-parts.ensures.mappings in
-    let left = rw (c.deref.ensures.value, c.deref-2.ensures.value, c.in_ok-sought.ensures) at c.in_ok-parts.ensures.documents in
-    let is = ap (λ (p : PartData). p.documents) c.in_ok-part.ensures ∙ sym (merged-none es (rw c.deref-3.ensures at c.len-sorted.ensures.sorted)) in
+    let left = rw c.deref.ensures.value at c.in_ok-parts.ensures.documents in
+    let is = ap (λ (p : PartData). p.documents) c.in_ok-part.ensures ∙ sym (merged-none es (rw c.deref-2.ensures at c.len-sorted.ensures.sorted)) in
     let under = ap (λ (p : PartData). p.mapping) c.in_ok-part.ensures ∙ c.requires.under ∙ ap (λ (l : PartListData). l.mapping) (sym c.self.view_is) in
     let fits : length qs < 4294967295 = omega (arith, c.len.ensures, c.if-len-ge-MOST_PARTS.false) in
-    rw (c.deref-4.ensures.value, c.in_ok-insert.ensures.items)
+    rw (c.deref-3.ensures.value, c.in_ok-insert.ensures.items)
     (front-parts m ps qs c.args.ids.now es 0 c.self.invariant mappings left c.requires.only c.in_ok-part.part under is fits)
 
 -- it shows the new documents, and the others as they were
@@ -32,9 +32,9 @@ returns-clause-documents c =
     let qs = c.in_ok-parts.parts.items in
     let es = (arc_value c.args.block).documents in
     let mappings = rw c.deref.ensures.value at c.in_ok-parts.ensures.mappings in
-    let left = rw (c.deref.ensures.value, c.deref-2.ensures.value, c.in_ok-sought.ensures) at c.in_ok-parts.ensures.documents in
-    let is = ap (λ (p : PartData). p.documents) c.in_ok-part.ensures ∙ sym (merged-none es (rw c.deref-3.ensures at c.len-sorted.ensures.sorted)) in
-    let all = ap (λ (xs : List PartData). woven (documents_of_parts xs)) (c.deref-4.ensures.value ∙ c.in_ok-insert.ensures.items)
+    let left = rw c.deref.ensures.value at c.in_ok-parts.ensures.documents in
+    let is = ap (λ (p : PartData). p.documents) c.in_ok-part.ensures ∙ sym (merged-none es (rw c.deref-2.ensures at c.len-sorted.ensures.sorted)) in
+    let all = ap (λ (xs : List PartData). woven (documents_of_parts xs)) (c.deref-3.ensures.value ∙ c.in_ok-insert.ensures.items)
     ∙ front-woven m ps qs c.args.ids.now es 0 c.self.invariant mappings left c.requires.only c.in_ok-part.part is
     ∙ ap (λ (l : PartListData). merged es (without c.args.ids.now l.documents)) c.self.view_is in
     IfOk-weaker c.living.result _ _ (λ l made. made ∙ all) c.living.ensures.documents
@@ -45,9 +45,9 @@ returns-clause-published c =
     let ps = c.self.inside.parts.items in
     let qs = c.in_ok-parts.parts.items in
     let es = (arc_value c.args.block).documents in
-    let left = rw (c.deref.ensures.value, c.deref-2.ensures.value, c.in_ok-sought.ensures) at c.in_ok-parts.ensures.documents in
+    let left = rw c.deref.ensures.value at c.in_ok-parts.ensures.documents in
     let new : Published = record { number = c.args.number; mapping = (arc_value c.args.block).mapping; documents = es } in
-    let all = ap (λ (xs : List PartData). living (all_published xs) (documents_of_parts xs)) (c.deref-4.ensures.value ∙ c.in_ok-insert.ensures.items)
+    let all = ap (λ (xs : List PartData). living (all_published xs) (documents_of_parts xs)) (c.deref-3.ensures.value ∙ c.in_ok-insert.ensures.items)
     ∙ ap (λ (p : PartData). living (published_of p ∷ all_published qs) (p.documents ∷ documents_of_parts qs)) c.in_ok-part.ensures
     ∙ ap (λ (ss : List Published). living (new ∷ ss) (es ∷ documents_of_parts qs)) (c.in_ok-parts.ensures.published ∙ ap all_published c.deref.ensures.value)
     ∙ ap (λ (ls : List Documents). living (new ∷ all_published ps) (es ∷ ls)) left
@@ -60,8 +60,8 @@ returns-clause-live c =
     let ids = c.args.ids.now in
     let qs = c.in_ok-parts.parts.items in
     let es = (arc_value c.args.block).documents in
-    let left = rw (c.deref.ensures.value, c.deref-2.ensures.value, c.in_ok-sought.ensures) at c.in_ok-parts.ensures.documents in
-    let all = ap (λ (xs : List PartData). filter is_live (documents_of_parts xs)) (c.deref-4.ensures.value ∙ c.in_ok-insert.ensures.items)
+    let left = rw c.deref.ensures.value at c.in_ok-parts.ensures.documents in
+    let all = ap (λ (xs : List PartData). filter is_live (documents_of_parts xs)) (c.deref-3.ensures.value ∙ c.in_ok-insert.ensures.items)
     ∙ ap (λ (p : PartData). filter is_live (p.documents ∷ documents_of_parts qs)) c.in_ok-part.ensures
     ∙ ap (λ (ls : List Documents). filter is_live (es ∷ ls)) left
     ∙ ap (λ (l : PartListData). filter is_live (changed_live (is_among ids) (record { number = c.args.number; mapping = c.args.self.now.mapping; documents = es }) l.live)) c.self.view_is in

@@ -1,6 +1,6 @@
 use Rattle.std.proofs.Common.{◌≡◌, ◌++◌, drop}
 use Rattle.engine.specs.OperationIndex.{operations_in}
-use Rattle.engine.proofs.history.ops_in.Given as goal
+use Rattle.engine.proofs.changes.ops_in.Given as goal
 
 -- those so far, and those that are left
 abbrev pub invariant-loop-kept : goal.invariant-loop-kept
