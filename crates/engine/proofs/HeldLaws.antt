@@ -36,6 +36,9 @@ ops-insert ss zero s = refl
 ops-insert [] (suc at) s = refl
 ops-insert (t ∷ ss) (suc at) s = ap (λ os. t.op ∷ os) (ops-insert ss at s)
 
+pub AreWhole-insert : (ss : List SlotData) (at : ℕ) (o : Op) → AreWhole ss → AreWhole (insert ss at (record { op = o; gone = false }))
+AreWhole-insert ss at o all = each-insert (λ s. s.gone ≡ false) ss at (record { op = o; gone = false }) all refl
+
 -- ---- one operation more, or several behind all
 
 newer-placed : (b : Bool) (l : Option Op) (o : Op) (n : ℕ) → is_newer l n ≡ true → is_newer (if b && not (is_newer l o.seq) then Some o else l) n ≡ true

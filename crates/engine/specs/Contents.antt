@@ -1,9 +1,9 @@
 -- An engine as contracts see it.
-use Rattle.std.specs.Prelude.{◌≡◌, ◌≤◌, ℕ, List, length}
+use Rattle.std.specs.Prelude.{◌≡◌, ◌≤◌, ℕ, List, [], ◌∷◌, length}
 use Rattle.doc.specs.Mapping.{MappingData}
 use Rattle.op.specs.declared.record.Record.{Record}
 use Rattle.op.specs.Documents.{Documents, documents}
-use Rattle.op.specs.Records.{shown}
+use Rattle.op.specs.Records.{operations, shown}
 use Rattle.engine.specs.Answer.{SnapshotData}
 use Rattle.engine.specs.Published.{Published, Segments, IsBegun}
 
@@ -21,6 +21,17 @@ pub record EngineData : Type 0 where
   pub published : List Published
   pub live : List Documents
   pub next : ℕ
+
+-- the engine of records, which searches show through one segment, whose number is 0
+abbrev pub opened_engine : MappingData → List Record → EngineData
+opened_engine m rs = record {
+  mapping = m;
+  records = rs;
+  point = length rs;
+  published = (record { number = 0; mapping = m; documents = documents (operations rs) }) ∷ [];
+  live = documents (operations rs) ∷ [];
+  next = 1;
+}
 
 -- its contents
 abbrev pub contents_of : EngineData → Contents

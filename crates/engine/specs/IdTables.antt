@@ -1,8 +1,10 @@
 -- The numbers at ids, in many tables: an id stands in the one at its place.
 -- For proofs alone: no public contract rests on it.
-use Rattle.std.specs.Prelude.{◌+◌, ◌==◌, ℕ, zero, suc, Bool, true, false, List, [], ◌∷◌, length, Option, None, Some, slice_get}
+use Rattle.std.specs.Prelude.{◌≡◌, ◌+◌, ◌==◌, ℕ, zero, suc, Bool, true, false, List, [], ◌∷◌, length, Option, None, Some, option_map, slice_get}
 use Rattle.std.specs.HashMap.{HashMap, spare}
 use Rattle.doc.specs.Id.{Id}
+use Rattle.op.specs.declared.operation.Op.{Op}
+use Rattle.op.specs.Operations.{last_on}
 use Rattle.engine.specs.declared.id_key.IdKey.{IdKey}
 use Rattle.engine.specs.IdFilter.{place_in}
 use Rattle.engine.specs.OperationIndex.{number_at}
@@ -15,6 +17,10 @@ number_in (Some table) id = number_at table id
 -- the number at an id
 abbrev pub number_among : {S : Type 0} → List (HashMap IdKey ℕ S) → Id → Option ℕ
 number_among tables id = number_in (slice_get tables (place_in (length tables) id)) id
+
+-- at each id the number of the last of these operations on it
+abbrev pub HaveLast : {S : Type 0} → List Op → List (HashMap IdKey ℕ S) → Type 0
+HaveLast os tables = (id : Id) → number_among tables id ≡ option_map (λ o. o.seq) (last_on os id)
 
 abbrev pub one_if : Bool → ℕ
 one_if true = 1

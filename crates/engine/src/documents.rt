@@ -12,7 +12,6 @@ ghost use Rattle.engine.specs.Slot.{ops, AreHeld};
 
 use crate::history::History;
 use crate::last_of_each::last_of_each;
-use crate::operation_index::OperationIndex;
 use crate::slot::Slot;
 use doc::{DocId, Source};
 use op::{Body, Op};
@@ -31,11 +30,13 @@ pub(crate) struct Entry<'a> {
 /// The documents of operations in ascending order.
 pub(crate) fn documents_of<'a>(
     alloc: Global,
-    operations: &'a OperationIndex,
+    slots: &'a [Slot],
 ) -> Result<Vec<Entry<'a>>, AllocError>
-    ensures { IfOk result (λ v. map entry_view v.items ≡ documents operations.now) }
+    requires ascending { IsAscending (ops slots.now) }
+    requires held { AreHeld (ops slots.now) slots.now }
+    ensures { IfOk result (λ v. map entry_view v.items ≡ documents (ops slots.now)) }
 {
-    let latest = latest_of(alloc, operations.as_slice())?;
+    let latest = latest_of(alloc, slots)?;
     let entries = entries_left(alloc, &latest)?;
     Ok(entries)
 }

@@ -11,7 +11,7 @@ ghost use Rattle.engine.specs.Applied.{applied_of, records_after, RiseFrom};
 ghost use Rattle.engine.specs.Found.{found_document};
 ghost use Rattle.engine.specs.Last.{last_of};
 ghost use Rattle.segment.specs.Builds.{Builds};
-ghost use Rattle.engine.specs.Contents.{contents_of, segments_of};
+ghost use Rattle.engine.specs.Contents.{contents_of, opened_engine, segments_of};
 ghost use Rattle.engine.specs.Live.{changed_live, changed_segments, is_live, live_of, small_count, woven, AreLive, FitOneMerge};
 ghost use Rattle.engine.specs.Published.{next_after, numbered, taken_of, AreBelow, AreGone, HasMerged, IsFronted, IsSwapped};
 ghost use Rattle.engine.specs.SnapshotChange.{changed, is_written, next_segment, ArePublished, IsNumbered, IsRefreshed, IsSnapshotChange, OnlyOps};
@@ -36,6 +36,7 @@ use std::marker::Model;
 use std::snapshot::Snapshot as Seen;
 use std::sync::Arc;
 
+mod opening;
 mod refreshing;
 
 /// The last operation on an id, and whether it left a document there.
@@ -98,14 +99,7 @@ impl Engine {
     /// The engine of these records; searches show them all, through one segment, whose number is 0.
     pub fn open(alloc: Global, mapping: Mapping, records: Vec<Record>) -> Result<Engine, AllocError>
         requires { All IsRecord records.items }
-        ensures { IfOk result (λ e. e ≡ record {
-          mapping = mapping;
-          records = records.items;
-          point = length records.items;
-          published = (record { number = 0; mapping = mapping; documents = documents (operations records.items) }) ∷ [];
-          live = documents (operations records.items) ∷ [];
-          next = 1;
-        }) }
+        ensures { IfOk result (λ e. e ≡ opened_engine mapping records.items) }
     {
         Engine::open_with(&Segment::build, alloc, mapping, records)
     }
@@ -121,18 +115,11 @@ impl Engine {
     ) -> Result<Engine, AllocError>
         requires builds { Builds F.Fn builder.now }
         requires records { All IsRecord records.items }
-        ensures { IfOk result (λ e. e ≡ record {
-          mapping = mapping;
-          records = records.items;
-          point = length records.items;
-          published = (record { number = 0; mapping = mapping; documents = documents (operations records.items) }) ∷ [];
-          live = documents (operations records.items) ∷ [];
-          next = 1;
-        }) }
+        ensures { IfOk result (λ e. e ≡ opened_engine mapping records.items) }
     {
         let mapping = Arc::new(alloc, mapping)?;
         let history = History::opened(alloc, records)?;
-        let showing = Showing::of(builder, alloc, &mapping, 0, history.operations())?;
+        let showing = Showing::of(builder, alloc, &mapping, 0, history.slots())?;
         let point = history.len();
         Ok(Engine {
             mapping,
@@ -241,7 +228,7 @@ impl Engine {
             alloc,
             &self.mapping,
             self.showing.next(),
-            reopened.operations(),
+            reopened.slots(),
         )?;
         let point = reopened.len();
         Ok(Staged {
@@ -263,8 +250,8 @@ impl Engine {
     {
         let Some(ids) = self.history.ids_since(alloc, self.point)? else {
             let next = self.showing.next();
-            let operations = self.history.operations();
-            let showing = Showing::of(&Segment::build, alloc, &self.mapping, next, operations)?;
+            let slots = self.history.slots();
+            let showing = Showing::of(&Segment::build, alloc, &self.mapping, next, slots)?;
             return Ok(showing);
         };
         let entries = documents_at(alloc, &self.history, &ids)?;

@@ -12,11 +12,13 @@ ghost use Rattle.engine.specs.Found.{found_document};
 ghost use Rattle.engine.specs.Kept.{items_of, IsKept};
 ghost use Rattle.engine.specs.OperationIndex.{operations_in};
 ghost use Rattle.engine.specs.Parts.{is_among};
+ghost use Rattle.engine.specs.Slot.{ops, AreHeld};
 ghost use Rattle.engine.specs.SnapshotChange.{is_op, is_write, StayShown};
 ghost use Rattle.std.specs.List.{list_any, AllPass};
 
-use crate::operation_index::OperationIndex;
-use crate::slot::LetGo;
+use crate::operation_index::{OperationIndex, latest_numbers};
+use crate::ordered::ordered_of;
+use crate::slot::{LetGo, Slot};
 use chronicle::{Chronicle, Writer};
 use doc::{DocId, Source};
 use op::{Body, Op, Operations, Record, checkpoint};
@@ -24,6 +26,10 @@ use std::alloc::{AllocError, Global};
 use std::marker::Model;
 use std::mem;
 use std::sync::Arc;
+
+mod unindexed;
+
+pub(crate) use unindexed::Unindexed;
 
 /// What became of a record.
 #[derive(Clone, Copy, Debug, PartialEq, Eq)]
@@ -214,11 +220,13 @@ impl History {
         self.begin + shared_of(&self.shared).len() + self.recent.len()
     }
 
-    /// The operations in order of number.
-    pub(crate) fn operations(&self) -> &OperationIndex
-        ensures { result.now ≡ operations self.now.records }
+    /// The operations in order of number, as memory has them.
+    pub(crate) fn slots(&self) -> &[Slot]
+        ensures same { ops result.now ≡ operations self.now.records }
+        ensures ascending { IsAscending (ops result.now) }
+        ensures held { AreHeld (ops result.now) result.now }
     {
-        &self.operations
+        self.operations.as_slice()
     }
 
     /// The last operation on the id.
@@ -381,15 +389,17 @@ fn operations_of(alloc: Global, records: Vec<Record>) -> Result<OperationIndex, 
     requires { All IsRecord records.items }
     ensures { IfOk result (λ i. IsKept i records.items) }
 {
-    let mut operations = OperationIndex::with_room(alloc, records.len())?;
-    for kept in records {
-        operations.keep(alloc, kept)?;
-    }
-    Ok(operations)
+    let ordered = ordered_of(alloc, records)?;
+    let latest = latest_numbers(alloc, ordered.slots())?;
+    Ok(OperationIndex::over(ordered, latest))
 }
 
 /// Notes records behind those that are noted.
-fn append_all(chronicle: &Chronicle<Record>, before: &mut Writer<Record>, records: &[Record])
+pub(crate) fn append_all(
+    chronicle: &Chronicle<Record>,
+    before: &mut Writer<Record>,
+    records: &[Record],
+)
     requires { chronicle.now ≡ before.old.line.book }
     ensures { before.new ≡ written before.old.line (before.old.entries ++ records.now) }
 {

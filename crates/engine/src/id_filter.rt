@@ -11,6 +11,11 @@ use std::marker::Model;
 /// So many bits an id: one of sixty-four ids that aren't there is looked for, which costs more than the bits.
 const BITS: usize = 64;
 
+/// So many ids have fewer bits each, since caches hold no more.
+const MANY_IDS: usize = 131_072;
+
+const FEW_BITS: usize = 16;
+
 const LEAST_BITS: usize = 64;
 
 const MOST_BITS: usize = 4_294_967_295;
@@ -42,7 +47,8 @@ impl Model for IdFilter {
 impl IdFilter {
     /// The filter of no id, where so many are to come.
     pub(crate) fn none(alloc: Global, ids: usize) -> Result<IdFilter, AllocError> {
-        let len = ids.saturating_mul(BITS).max(LEAST_BITS).min(MOST_BITS);
+        let each = if ids < MANY_IDS { BITS } else { FEW_BITS };
+        let len = ids.saturating_mul(each).max(LEAST_BITS).min(MOST_BITS);
         let bits = Marks::none(alloc, len)?;
         Ok(IdFilter { bits })
     }

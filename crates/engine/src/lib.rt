@@ -18,6 +18,7 @@ pub mod listed;
 mod merging;
 mod operation_index;
 mod operations;
+mod ordered;
 mod paging;
 mod part;
 mod part_list;

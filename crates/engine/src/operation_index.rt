@@ -8,7 +8,7 @@ ghost use Rattle.op.specs.Records.{IsRecord, RunsFrom, after_record};
 ghost use Rattle.engine.specs.Applied as spec;
 ghost use Rattle.engine.specs.Applied.{RiseFrom};
 ghost use Rattle.engine.specs.SnapshotChange.{is_op};
-ghost use Rattle.engine.specs.IdTables.{number_among};
+ghost use Rattle.engine.specs.IdTables.{number_among, HaveLast};
 ghost use Rattle.engine.specs.Kept.{IsNext};
 ghost use Rattle.engine.specs.OperationIndex.{noted, operations_in, raised};
 ghost use Rattle.engine.specs.Slot.{ops, AreHeld, AreWhole, IsReplaced};
@@ -16,6 +16,7 @@ ghost use Rattle.engine.specs.Slot.{ops, AreHeld, AreWhole, IsReplaced};
 use crate::history::Applied;
 use crate::latest::Latest;
 use crate::operations;
+use crate::ordered::Ordered;
 use crate::slot::{LetGo, Slot};
 use doc::DocId;
 use op::{Body, Op, Operations, Record, checkpoint};
@@ -101,9 +102,31 @@ impl OperationIndex {
         Ok(index)
     }
 
+    /// These operations, with what was noted of them by id.
+    pub(crate) fn over(ordered: Ordered, latest: Latest) -> OperationIndex
+        requires { HaveLast ordered latest.tables.items }
+        ensures { result ≡ ordered }
+    {
+        let slots = ordered.into_slots();
+        let local = operations::local_count_on(&slots, 0);
+        // As many ids as operations: none of these replaced another.
+        let settled = if latest.len() == slots.len() {
+            slots.len()
+        } else {
+            0
+        };
+        OperationIndex {
+            slots,
+            latest,
+            local,
+            settled,
+            has_all: true,
+        }
+    }
+
     pub(crate) fn as_slice(&self) -> &[Slot]
         ensures same { ops result.now ≡ self.now }
-        ensures held { AreHeld self.now result.now }
+        ensures held { AreHeld (ops result.now) result.now }
         ensures ascending { IsAscending self.now }
     {
         &self.slots
@@ -453,6 +476,19 @@ fn numbers_of(alloc: Global, slots: &[Slot]) -> Result<Vec<(DocId, u64)>, AllocE
         }
     }
     Ok(numbers)
+}
+
+/// The number of the last operation on each id.
+pub(crate) fn latest_numbers(alloc: Global, slots: &[Slot]) -> Result<Latest, AllocError>
+    requires ascending { IsAscending (ops slots.now) }
+    requires whole { AreWhole slots.now }
+    ensures { IfOk result (λ l. HaveLast (ops slots.now) l.tables.items) }
+{
+    let mut latest = Latest::with_room(alloc, slots.len())?;
+    for slot in slots {
+        note(alloc, &mut latest, slot)?;
+    }
+    Ok(latest)
 }
 
 /// Notes the numbers of operations at their ids. The operations stay, but that it is noted where no two of them are on one id.

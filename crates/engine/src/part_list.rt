@@ -5,6 +5,7 @@ ghost use Rattle.std.specs.FinMap.Entries.{is_sorted};
 ghost use Rattle.doc.specs.Id.{Id, id_cmp};
 ghost use Rattle.query.specs.View.{query_view};
 ghost use Rattle.op.specs.Documents.{documents};
+ghost use Rattle.op.specs.Operations.{IsAscending};
 ghost use Rattle.segment.specs.Builds.{Builds};
 ghost use Rattle.engine.specs.Answer.{is_found};
 ghost use Rattle.engine.specs.Entry.{entry_view};
@@ -14,15 +15,16 @@ ghost use Rattle.engine.specs.Live.{changed_live, changed_segments, is_live, liv
 ghost use Rattle.engine.specs.Published.{numbered, AreDistinct, AreGone, AreTold, IsReplaced};
 ghost use Rattle.engine.specs.Before.{first_of_each};
 ghost use Rattle.engine.specs.Shown.{seen_all, shown_view};
+ghost use Rattle.engine.specs.Slot.{ops, AreHeld};
 
 use crate::block::{Block, Shown, shown_of};
 use crate::choosing::{FEW_SMALL, count_small, parts_numbered, push_if, smallest_numbers};
 use crate::documents::{Entry, documents_of};
 use crate::lessened::{Lessened, parts_left};
 use crate::merging::{merge, merge_owned};
-use crate::operation_index::OperationIndex;
 use crate::paging::{behind, find_pivot, page_behind};
 use crate::part::{Part, Share};
+use crate::slot::Slot;
 use crate::sought::Sought;
 use crate::strands::strands_of;
 use crate::swapping::{Halves, part_showing, split};
@@ -88,17 +90,19 @@ impl PartList {
         alloc: Global,
         mapping: Arc<Mapping, Global>,
         number: u64,
-        operations: &OperationIndex,
+        slots: &[Slot],
     ) -> Result<PartList, AllocError>
-        requires { Builds F.Fn builder.now }
+        requires builds { Builds F.Fn builder.now }
+        requires ascending { IsAscending (ops slots.now) }
+        requires held { AreHeld (ops slots.now) slots.now }
         ensures { IfOk result (λ l. l ≡ record {
           mapping = arc_value mapping;
-          documents = documents operations.now;
-          published = (record { number = number; mapping = arc_value mapping; documents = documents operations.now }) ∷ [];
-          live = documents operations.now ∷ [];
+          documents = documents (ops slots.now);
+          published = (record { number = number; mapping = arc_value mapping; documents = documents (ops slots.now) }) ∷ [];
+          live = documents (ops slots.now) ∷ [];
         }) }
     {
-        let documents = documents_left(alloc, operations)?;
+        let documents = documents_left(alloc, slots)?;
         let block = Block::over(builder, alloc, &mapping, documents)?;
         let block = Arc::new(alloc, block)?;
         let part = Part::over(alloc, number, block)?;
@@ -253,10 +257,12 @@ impl PartList {
 }
 
 /// The documents that operations in ascending order leave. By what they were found is let go of.
-fn documents_left(alloc: Global, operations: &OperationIndex) -> Result<Vec<Shown>, AllocError>
-    ensures { IfOk result (λ v. map shown_view v.items ≡ documents operations.now) }
+fn documents_left(alloc: Global, slots: &[Slot]) -> Result<Vec<Shown>, AllocError>
+    requires ascending { IsAscending (ops slots.now) }
+    requires held { AreHeld (ops slots.now) slots.now }
+    ensures { IfOk result (λ v. map shown_view v.items ≡ documents (ops slots.now)) }
 {
-    let entries = documents_of(alloc, operations)?;
+    let entries = documents_of(alloc, slots)?;
     shown_of(alloc, &entries)
 }
 

@@ -4,6 +4,7 @@ ghost use Rattle.std.specs.Arc.{arc_value};
 ghost use Rattle.std.specs.FinMap.Entries.{is_sorted};
 ghost use Rattle.doc.specs.Id.{Id, id_cmp};
 ghost use Rattle.op.specs.Documents.{documents};
+ghost use Rattle.op.specs.Operations.{IsAscending};
 ghost use Rattle.segment.specs.Builds.{Builds};
 ghost use Rattle.engine.specs.Contents.{segments_shown};
 ghost use Rattle.engine.specs.Entry.{entry_view};
@@ -11,13 +12,14 @@ ghost use Rattle.engine.specs.Parts.{all_published, has_id, is_among, merge_of, 
 ghost use Rattle.engine.specs.Lessened.{all_before, IsLessened};
 ghost use Rattle.engine.specs.Live.{changed_live, changed_segments, is_live, live_of, small_count, woven, FitOneMerge};
 ghost use Rattle.engine.specs.Published.{are_taken, next_after, numbered, taken_of, AreBelow, AreDistinct, AreGone, AreKnown, AreTold, HasMerged, IsBegun, IsSwapped};
+ghost use Rattle.engine.specs.Slot.{ops, AreHeld};
 
 use crate::block::Block;
 use crate::handed::Handed;
 use crate::lessened::Lessened;
-use crate::operation_index::OperationIndex;
 use crate::part::{Part, copies_of};
 use crate::part_list::PartList;
+use crate::slot::Slot;
 use crate::snapshot::Snapshot;
 use crate::swapping::{BegunMerge, Merged, Merging, are_below_greatest};
 use doc::{DocId, Mapping, Source};
@@ -64,18 +66,20 @@ impl Showing {
         alloc: Global,
         mapping: &Arc<Mapping, Global>,
         number: u64,
-        operations: &OperationIndex,
+        slots: &[Slot],
     ) -> Result<Showing, AllocError>
-        requires { Builds F.Fn builder.now }
+        requires builds { Builds F.Fn builder.now }
+        requires ascending { IsAscending (ops slots.now) }
+        requires held { AreHeld (ops slots.now) slots.now }
         ensures { IfOk result (λ s. s ≡ record {
-          snapshot = record { mapping = arc_value mapping.now; documents = documents operations.now };
-          published = (record { number = number; mapping = arc_value mapping.now; documents = documents operations.now }) ∷ [];
-          live = documents operations.now ∷ [];
+          snapshot = record { mapping = arc_value mapping.now; documents = documents (ops slots.now) };
+          published = (record { number = number; mapping = arc_value mapping.now; documents = documents (ops slots.now) }) ∷ [];
+          live = documents (ops slots.now) ∷ [];
           next = next_after number;
         }) }
     {
         let mapping = Arc::try_clone(mapping)?;
-        let parts = PartList::of(builder, alloc, mapping, number, operations)?;
+        let parts = PartList::of(builder, alloc, mapping, number, slots)?;
         shown(alloc, parts, number.saturating_add(1))
     }
 

@@ -20,7 +20,7 @@ const MANY: usize = 256;
 
 impl Engine {
     /// Begins a refresh that shows the records that are there now, where many documents have to be built for it: these may be built while records come. Nothing
-    /// changes yet, but that a refresh which was begun before can't be finished any more.
+    /// changes yet. After one was begun none is, until that one is finished or `refresh` shows all records.
     pub fn begin_refresh(&mut self, alloc: Global) -> Result<Option<Unshown>, AllocError>
         ensures same { self.new ≡ self.old }
         ensures mapping { IfOk result (λ o. IfSome o (λ u. u.mapping ≡ self.old.mapping)) }
@@ -49,8 +49,7 @@ impl Engine {
         self.history.forget_to(point)
     }
 
-    /// Shows the records that were there when the refresh was begun for which this was built. Where another refresh came since, or was begun, it is `false`, and all
-    /// stays as it is.
+    /// Shows the records that were there when the refresh was begun for which this was built. Where another refresh came since, it is `false`, and all stays as it is.
     pub fn finish_refresh(&mut self, alloc: Global, prebuilt: Prebuilt) -> Result<bool, AllocError>
         ensures done { IfOk result (λ b. b ≡ true → ShowsMore prebuilt.point self.old self.new) }
         ensures stays { IfOk result (λ b. b ≡ false → self.new ≡ self.old) }

@@ -1,6 +1,7 @@
 //! How a copy begins: as that of a new index, or of the records that its log keeps.
 ghost use Rattle.std.specs.Prelude.{◌≡◌, ◌<◌, ◌⊎◌, true, false, [], All, Ok, IfOk, IfErr, OnOk};
 ghost use Rattle.segment.specs.Builds.{Builds};
+ghost use Rattle.engine.specs.Contents.{opened_engine};
 ghost use Rattle.op.specs.Records.{IsRecord};
 ghost use Rattle.translog.specs.Frames.{IsUnopened, LosesNothing};
 ghost use Rattle.translog.specs.Kept.{kept, IsTornLog, IsTranslog};
@@ -9,6 +10,7 @@ ghost use Rattle.replica.specs.declared.fault.CopyFault.TheVariants.{Mismatch};
 ghost use Rattle.replica.specs.Copy as spec;
 ghost use Rattle.replica.specs.Fault.{has_failed, of_log};
 ghost use Rattle.replica.specs.Logged.{HasRecords, IsUnread};
+ghost use Rattle.replica.specs.Opens.{Opens};
 ghost use Rattle.replica.specs.Searched.{first_segments};
 
 use crate::copy::Copy;
@@ -16,6 +18,7 @@ use crate::fault::CopyFault;
 use crate::role::Birth;
 use crate::state::State;
 use doc::{Mapping, Source};
+use engine::Engine;
 use op::Record;
 use segment::Segment;
 use std::alloc::{AllocError, Global};
@@ -42,34 +45,9 @@ impl<D: LogDevice> Copy<D> {
         ensures unread { IfErr result (λ r. IsUnread (D.bytes device) r.fault) }
         ensures in_memory { D.in_memory ≡ true → IfErr result (λ r. has_failed r.fault ≡ false) }
     {
-        Copy::open_with(&Segment::build, alloc, id, birth, mapping, device)
-    }
-
-    /// The same; the segment that searches look through is built by the builder.
-    pub fn open_with<
-        F: Fn(Global, &Arc<Mapping, Global>, Vec<Source>) -> Result<Segment, AllocError>,
-    >(
-        builder: &F,
-        alloc: Global,
-        id: u32,
-        birth: Birth,
-        mapping: Mapping,
-        device: D,
-    ) -> Result<Copy<D>, Refused<D, CopyFault>>
-        requires { Builds F.Fn builder.now }
-        ensures records { IfOk result (λ c. kept (D.bytes device) ≡ Ok c.copy.records) }
-        ensures copy { IfOk result (λ c. c.copy ≡ spec.opened id birth mapping c.copy.records) }
-        ensures segments { IfOk result (λ c. c.segments ≡ first_segments mapping c.copy.records) }
-        ensures open { IfOk result (λ c. c.closed ≡ false) }
-        ensures left { IfOk result (λ c. LosesNothing (own_header (D.bytes device)) (D.bytes device) c.log) }
-        ensures counts { IfOk result (λ c. c.failures ≡ D.failures device) }
-        ensures refused { IfErr result (λ r. IsUnopened (has_failed r.fault) (own_header (D.bytes device)) (D.bytes device) (D.bytes r.device) (D.failures device) (D.failures r.device)) }
-        ensures unread { IfErr result (λ r. IsUnread (D.bytes device) r.fault) }
-        ensures in_memory { D.in_memory ≡ true → IfErr result (λ r. has_failed r.fault ≡ false) }
-    {
         let mut log = Translog::over(device);
         match log.read(alloc) {
-            Ok(found) => Copy::of_found(builder, alloc, id, birth, mapping, found, log),
+            Ok(found) => Copy::of_found(&Engine::open, alloc, id, birth, mapping, found, log),
             Err(fault) => {
                 drop(mapping);
                 Err(unread(fault, log))
@@ -77,7 +55,7 @@ impl<D: LogDevice> Copy<D> {
         }
     }
 
-    /// The same; the log is read on all processors.
+    /// The same; the log is read on all processors, and the segment that searches look through is built by the builder while operations are noted by id.
     pub fn open_on<
         R: Threads + Sync,
         F: Fn(Global, &Arc<Mapping, Global>, Vec<Source>) -> Result<Segment, AllocError>,
@@ -103,7 +81,16 @@ impl<D: LogDevice> Copy<D> {
     {
         let mut log = Translog::over(device);
         match log.read_on(rt, alloc) {
-            Ok(found) => Copy::of_found(builder, alloc, id, birth, mapping, found, log),
+            Ok(found) => {
+                let opener = |alloc: Global, mapping: Mapping, records: Vec<Record>| -> Result<
+                    Engine,
+                    AllocError,
+                >
+                    requires { Builds F.Fn builder.now × All IsRecord records.items }
+                    ensures { IfOk result (λ e. e ≡ opened_engine mapping records.items) }
+                { engine_on(rt, builder, alloc, mapping, records) };
+                Copy::of_found(&opener, alloc, id, birth, mapping, found, log)
+            }
             Err(fault) => {
                 drop(mapping);
                 Err(unread(fault, log))
@@ -112,8 +99,8 @@ impl<D: LogDevice> Copy<D> {
     }
 
     /// The copy of what was read of its log.
-    fn of_found<F: Fn(Global, &Arc<Mapping, Global>, Vec<Source>) -> Result<Segment, AllocError>>(
-        builder: &F,
+    fn of_found<O: Fn(Global, Mapping, Vec<Record>) -> Result<Engine, AllocError>>(
+        opener: &O,
         alloc: Global,
         id: u32,
         birth: Birth,
@@ -121,7 +108,7 @@ impl<D: LogDevice> Copy<D> {
         found: (Vec<Record>, Torn),
         log: Translog<D>,
     ) -> Result<Copy<D>, Refused<D, CopyFault>>
-        requires builds { Builds F.Fn builder.now }
+        requires opens { Opens O.Fn opener.now }
         requires found { kept (D.bytes log.device) ≡ Ok found.0.items }
         requires torn { IsTornLog (D.bytes log.device) found.0.items found.1 log.groups }
         requires rules { All IsRecord found.0.items }
@@ -136,7 +123,7 @@ impl<D: LogDevice> Copy<D> {
         ensures in_memory { D.in_memory ≡ true → IfErr result (λ r. has_failed r.fault ≡ false) }
     {
         let mut log = log;
-        match opened(builder, alloc, id, birth, mapping, found, &mut log) {
+        match opened(opener, alloc, id, birth, mapping, found, &mut log) {
             Ok(state) => Ok(Copy {
                 state,
                 log,
@@ -184,12 +171,27 @@ impl<D: LogDevice> Copy<D> {
     }
 }
 
-/// The state of the records that were read of a log; then what is torn of the log is cut off.
-fn opened<
-    D: LogDevice,
+/// The engine of records, opened on threads. A closure that calls a generic function of another crate isn't proved, so one calls this.
+fn engine_on<
+    R: Threads + Sync,
     F: Fn(Global, &Arc<Mapping, Global>, Vec<Source>) -> Result<Segment, AllocError>,
 >(
+    rt: &R,
     builder: &F,
+    alloc: Global,
+    mapping: Mapping,
+    records: Vec<Record>,
+) -> Result<Engine, AllocError>
+    requires builds { Builds F.Fn builder.now }
+    requires records { All IsRecord records.items }
+    ensures { IfOk result (λ e. e ≡ opened_engine mapping records.items) }
+{
+    Engine::open_on(rt, builder, alloc, mapping, records)
+}
+
+/// The state of the records that were read of a log; then what is torn of the log is cut off.
+fn opened<D: LogDevice, O: Fn(Global, Mapping, Vec<Record>) -> Result<Engine, AllocError>>(
+    opener: &O,
     alloc: Global,
     id: u32,
     birth: Birth,
@@ -197,7 +199,7 @@ fn opened<
     found: (Vec<Record>, Torn),
     log: &mut Translog<D>,
 ) -> Result<State, CopyFault>
-    requires builds { Builds F.Fn builder.now }
+    requires opens { Opens O.Fn opener.now }
     requires found { kept (D.bytes log.old.device) ≡ Ok found.0.items }
     requires torn { IsTornLog (D.bytes log.old.device) found.0.items found.1 log.old.groups }
     requires rules { All IsRecord found.0.items }
@@ -212,7 +214,7 @@ fn opened<
     ensures in_memory { D.in_memory ≡ true → IfErr result (λ e. has_failed e ≡ false) }
 {
     let (records, torn) = found;
-    let state = State::open(builder, alloc, id, birth, mapping, records)?;
+    let state = State::open(opener, alloc, id, birth, mapping, records)?;
     match log.mend(torn) {
         Ok(()) => Ok(state),
         Err(fault) => {

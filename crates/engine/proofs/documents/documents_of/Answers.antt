@@ -1,5 +1,4 @@
 use Rattle.std.proofs.Common.{◌∙◌, ap}
-use Rattle.op.specs.Documents.{documents}
 use Rattle.engine.specs.Latest.{left_all}
 use Rattle.engine.specs.Slot.{ops}
 use Rattle.engine.proofs.LatestLaws.{documents-latest}
@@ -8,4 +7,4 @@ use Rattle.engine.proofs.documents.documents_of.Goals as goal
 -- what the last operations leave
 pub returns : goal.returns
 returns c =
-    c.in_ok-entries.ensures ∙ ap left_all c.deref.ensures.value ∙ documents-latest (ops c.as_slice.result.now) c.in_ok-latest.latest.items c.in_ok-latest.ensures ∙ ap documents c.as_slice.ensures.same
+    c.in_ok-entries.ensures ∙ ap left_all c.deref.ensures.value ∙ documents-latest (ops c.args.slots.now) c.in_ok-latest.latest.items c.in_ok-latest.ensures

@@ -2,7 +2,7 @@ use Rattle.std.proofs.Common.{ℕ, List, ap, subst}
 use Rattle.replica.specs.Fault.{of_log}
 use Rattle.replica.specs.Logged.{IsUnread}
 use Rattle.replica.proofs.LogLaws.{unread}
-use Rattle.replica.proofs.copy.Copy.open_with.Goals as goal
+use Rattle.replica.proofs.copy.Copy.open.Goals as goal
 
 -- the log that gave no records is that of the device
 pub returns-in-Err-clause-unread : goal.returns-in-Err-clause-unread
