@@ -276,12 +276,18 @@ impl Segment {
         ensures { OnOk result (marks.new ≡ zip_with (λ b s. b || list_any (begins_with text.now) (terms_at self.now.mapping.fields (all_values self.now.mapping s) _name.now)) marks.old self.now.sources) }
     {
         let from = String::from_str(alloc, text)?;
+        // A word's list is looked for before the list of the word before it is marked, so that neither waits for the other's memory.
+        let mut before: &[u32] = &[];
         for (word, places) in column.texts.range(from..) {
             if !begins_with(word, text) {
+                marks.mark(before);
                 return Ok(());
             }
-            marks.mark(places.as_slice());
+            let found = places.as_slice();
+            marks.mark(before);
+            before = found;
         }
+        marks.mark(before);
         Ok(())
     }
 
@@ -367,10 +373,26 @@ fn limits_of_many(column: &Column, bounds: &Bounds) -> Option<Limits>
     ensures is { IfSome result (λ l. limits_view l ≡ bounds_view bounds.now) }
     ensures some { IfSome result (λ _. 0 < length column.now.blocks.items) }
 {
-    if column.blocks.is_empty() || !are_many(column, bounds) {
+    if column.blocks.is_empty() {
         return None;
     }
-    Limits::of(bounds)
+    let limits = Limits::of(bounds)?;
+    if fill_blocks(column, limits) || are_many(column, bounds) {
+        Some(limits)
+    } else {
+        None
+    }
+}
+
+/// Whether the blocks that lie within the limits as a whole have so many numbers: that is sooner seen than by the lists.
+fn fill_blocks(column: &Column, limits: Limits) -> bool {
+    let mut left = column.has.len() / DOCUMENTS_PER_PLACE;
+    for block in &column.blocks {
+        if limits.have(block.first) && limits.have(block.last) {
+            left = left.saturating_sub(block.numbers.len());
+        }
+    }
+    left == 0
 }
 
 /// Whether going to the list of each number within the bounds takes long.
