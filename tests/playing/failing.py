@@ -101,13 +101,14 @@ def streams():
         check("what is said of a folder", other_output(ran.stderr, b"indexd: the script can't be read: Is a directory (os error 21)\n"))
         os.close(at)
         closed_input = ["-c", 'exec "$0" replay - <&-', program()]
-        complains("standard input is closed", run(closed_input, program="sh"))
+        check("a standard input that is closed is an empty script", not_all_right(run(closed_input, program="sh"), b""))
         for what in (script, "-"):
             with open(script, "rb") as given, open("/dev/full", "wb") as full:
                 complains(f"standard output is full, replay {Path(what).name}", run(["replay", what], stdin=given, stdout=full))
             with open(script, "rb") as given:
                 closed_output = ["-c", 'exec "$0" replay "$1" >&-', program(), what]
-                complains(f"standard output is closed, replay {Path(what).name}", run(closed_output, program="sh", stdin=given))
+                ran = run(closed_output, program="sh", stdin=given)
+                check(f"what is written to a standard output that is closed is gone, replay {Path(what).name}", not_all_right(ran, b""))
         reader, writer = os.pipe()
         os.close(reader)
         complains("standard output is a pipe that nobody reads", run(["replay", script], stdout=writer))

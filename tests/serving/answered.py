@@ -106,7 +106,7 @@ def explained():
                 for request, _ in REFUSED:
                     got = page_names(server.ask(request))
                     check("a request that is to be refused", "" if got and (got[0][0] >= 400 or b"_bulk" in request) else repr(got))
-                said = server.errors_said()
+                said = server.errors_said(len(REFUSED) if words else 0)
             if not words:
                 check("nothing is explained where nobody asks", "" if not said else repr(said[:3]))
                 continue

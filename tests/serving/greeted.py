@@ -71,6 +71,45 @@ deleted
 """
 
 
+PERL = r"""
+use strict;
+use warnings;
+use Search::Elasticsearch;
+my $port = shift;
+my $es = Search::Elasticsearch->new(nodes => "127.0.0.1:$port");
+my %at = (index => "books");
+sub fault { my ($ask) = @_; eval { $ask->(); 1 } and return "none"; (my $kind = ref $@) =~ s/.*:://; return $kind }
+print $es->ping, " ", $es->info->{version}{number}, "\n";
+print $es->indices->exists(%at) ? "there" : "not there", "\n";
+print $es->index(%at, id => 1, body => {title => "Faust", year => 1808}, refresh => "wait_for")->{result}, "\n";
+print $es->get(%at, id => 1)->{_source}{title}, "\n";
+print $es->exists(%at, id => 2) ? "there" : "not there", "\n";
+print fault(sub { $es->create(%at, id => 1, body => {}) }), "\n";
+print fault(sub { $es->get(%at, id => 2) }), "\n";
+print fault(sub { $es->search(%at, body => {query => {nothing => {}}}) }), "\n";
+print fault(sub { $es->get_source(%at, id => 1) }), "\n";
+print $es->search(%at, body => {query => {match => {title => "faust"}}})->{hits}{total}{value}, "\n";
+my $bulk = $es->bulk_helper(%at, refresh => "true");
+$bulk->index(map { {id => "m$_", source => {year => $_}} } 1 .. 300);
+$bulk->delete_ids("m1");
+$bulk->flush;
+print $es->count(%at)->{count}, "\n";
+print $es->delete(%at, id => 1)->{result}, "\n";
+"""
+PERL_OUTPUT = """1 7.10.2
+there
+created
+Faust
+not there
+Conflict
+Missing
+Request
+Request
+1
+300
+deleted
+"""
+PRODUCT = b"\r\nx-elastic-product: Elasticsearch"
 MAPPING = {"dynamic": False, "properties": {"title": {"type": "text"}, "year": {"type": "long"}}}
 
 
@@ -80,33 +119,40 @@ def mapping_in(folder):
     return mapping
 
 
-def has_class():
+def has_library(*words):
+    """Whether a program that loads a library ends well."""
     try:
-        return subprocess.run([PYTHON, "-c", "import elasticsearch"], capture_output=True).returncode == 0
+        return subprocess.run(words, capture_output=True).returncode == 0
     except OSError:
         return False
 
 
-def classes(copies):
-    """The client class over an index of so many copies."""
+def runs(language, program, copies, text, wanted):
+    """What a program prints that uses a client library over an index of this many copies."""
     with tempfile.TemporaryDirectory() as folder, Server("--greet", "--copies", copies, "--mapping", mapping_in(folder)) as server:
-        ran = subprocess.run([PYTHON, "-", str(server.port)], input=CLIENT.encode(), capture_output=True, timeout=SECONDS, env={**os.environ, "PYTHONIOENCODING": "utf-8"})
-        lines, good = (ran.stdout + ran.stderr[-500:]).decode(errors="replace").splitlines(), CLIENT_OUTPUT.splitlines()
-        check(f"{copies} copies: as many lines of the client class", "" if len(lines) == len(good) else repr(lines[-2:]))
+        ran = subprocess.run([program, "-", str(server.port)], input=text.encode(), capture_output=True, timeout=SECONDS, env={**os.environ, "PYTHONIOENCODING": "utf-8"})
+        lines, good = (ran.stdout + ran.stderr[-500:]).decode(errors="replace").splitlines(), wanted.splitlines()
+        check(f"{copies} copies: as many lines of the library for {language}", "" if len(lines) == len(good) else repr(lines[-2:]))
         for got, line in zip(lines, good):
-            check(f"{copies} copies: the client class", other(got.encode(), line.encode()))
+            check(f"{copies} copies: the library for {language}", other(got.encode(), line.encode()))
 
 
 def greeted():
-    has = has_class()
+    has = has_library(PYTHON, "-c", "import elasticsearch")
     check("python3-elasticsearch is installed", "" if has else "its client class can't be imported: apt-get install python3-elasticsearch")
     for copies in (1, 3) if has else ():
-        classes(copies)
+        runs("Python", PYTHON, copies, CLIENT, CLIENT_OUTPUT)
+    if has_library("perl", "-MSearch::Elasticsearch", "-e", "1"):
+        runs("Perl", "perl", 1, PERL, PERL_OUTPUT)
+    else:
+        print("skipped the library for Perl: libsearch-elasticsearch-perl isn't installed")
     with Server("--greet") as server:
         server.ask(PUT)
         greetings(server)
+        signed_pages(server)
         heads(server)
         waits(server)
+        idle_parameters(server)
     with Server() as server:
         server.ask(PUT)
         ungreeted(server)
@@ -122,21 +168,33 @@ def greetings(server):
         sorted_text = json.dumps(named, sort_keys=True, separators=(",", ":")).encode()
         good = head.startswith(b"HTTP/1.1 200 OK\r\n") and body == sorted_text and named.get("version", {}).get("number") == "7.10.2"
         check(f"GET {target.decode()}", "" if good else shown(got))
-    for request, wanted in ((b"GET /?q=x", (400, "BadParameter")), (b"POST /", (404, "NoRoute")), (b"GET /books", (404, "NoRoute")), (b"GET /other", (404, "NoRoute")),
-                            (b"PUT /books", (404, "NoRoute"))):
+    got = server.ask(b"GET /?q=x HTTP/1.1\r\n\r\n")
+    check("GET /?q=x", "" if page_names(got) == [(400, "BadParameter")] else shown(got))
+    for request in (b"POST /", b"GET /books", b"GET /other", b"PUT /books", b"GET /books/_source/1", b"POST /books/_delete_by_query", b"GET /_cat/health", b"GET *"):
         got = server.ask(request + b" HTTP/1.1\r\n\r\n")
-        check(request.decode(), "" if page_names(got) == [wanted] else shown(got))
+        check(f"{request.decode()}, which no library takes for a missing document", "" if page_names(got) == [(400, "NoHandler")] else shown(got))
+    for target in (b"/books/_doc/9", b"/other/_doc/1"):
+        got = server.ask(b"GET %s HTTP/1.1\r\n\r\n" % target)
+        check(f"GET {target.decode()} is still not found", "" if got.startswith(b"HTTP/1.1 404 ") else shown(got))
+
+
+def signed_pages(server):
+    """Each page names the product, whatever was asked."""
+    for request in (b"GET /", b"GET /books/_doc/1", b"GET /books/_doc/9", b"PATCH /books/_doc/1", b"HEAD /books", b"HEAD /books/_doc/1", b"GET /nothing", b"GET /books/_search", b"nothing",
+                    b"POST /books/_doc/1"):
+        got = server.ask(request + b" HTTP/1.1\r\n\r\n")
+        check(f"{request.decode()} names the product", "" if PRODUCT in got.partition(b"\r\n\r\n")[0] and got.count(PRODUCT) == 1 else shown(got))
 
 
 def heads(server):
     """A HEAD has the status line and the fields of the page of its GET, a field more and no body, and the stream ends after it."""
     for target in (b"/", b"/books/_doc/1", b"/books/_doc/9", b"/other/_doc/1", b"/books/_count", b"/books/_bulk", b"/_bulk", b"/books/nothing/here", b"/books/_search?q=x"):
         page = server.ask(b"GET %s HTTP/1.1\r\n\r\n" % target)
-        wanted = page.partition(b"\r\n\r\n")[0] + b"\r\nconnection: close\r\n\r\n"
+        wanted = page.partition(PRODUCT)[0] + b"\r\nconnection: close" + PRODUCT + b"\r\n\r\n"
         check(f"HEAD {target.decode()}", other(server.ask(b"HEAD %s HTTP/1.1\r\n\r\n" % target + get_of(b"1")), wanted))
     for target, status in ((b"/books", b"200 OK"), (b"/b%6foks?pretty", b"200 OK"), (b"/other", b"404 Not Found"), (b"/books?q=x", b"400 Bad Request")):
         got = server.ask(b"HEAD %s HTTP/1.1\r\n\r\n" % target + get_of(b"1"))
-        good = got.startswith(b"HTTP/1.1 %s\r\n" % status) and got.endswith(b"\r\nconnection: close\r\n\r\n") and got.count(b"\r\n\r\n") == 1
+        good = got.startswith(b"HTTP/1.1 %s\r\n" % status) and got.endswith(b"\r\nconnection: close" + PRODUCT + b"\r\n\r\n") and got.count(b"\r\n\r\n") == 1
         check(f"HEAD {target.decode()}", "" if good else shown(got))
     got = server.ask(b"HEAD /books/_doc/1 HTTP/1.1\r\n\r\n") and server.ask(get_of(b"1"))
     check("a HEAD changes nothing", "" if page_names(got) == [(200, "")] else shown(got))
@@ -156,21 +214,44 @@ def waits(server):
         check(request.split(b" HTTP")[0].decode(), "" if page_names(got) == [(400, "BadParameter")] else shown(got))
 
 
+# What the high-level client for Java sends with each search and each write.
+OF_SEARCH = (b"typed_keys=true&max_concurrent_shard_requests=5&ignore_unavailable=false&expand_wildcards=open&allow_no_indices=true&ignore_throttled=true"
+             b"&search_type=query_then_fetch&batched_reduce_size=512&ccs_minimize_roundtrips=true")
+IDLE = (*(it.partition(b"=")[0] for it in OF_SEARCH.split(b"&")), b"allow_partial_search_results", b"error_trace", b"human", b"master_timeout", b"pre_filter_shard_size", b"preference", b"request_cache",
+        b"timeout")
+
+
+def idle_parameters(server):
+    """Parameters that could change no answer are read over; others are refused, and so are these in another spelling."""
+    search = server.ask(b"POST /books/_search HTTP/1.1\r\n\r\n")
+    for query in (OF_SEARCH, *(it + b"=x" for it in IDLE), *IDLE, b"pretty&" + OF_SEARCH, b"timeout=1m&timeout=2m"):
+        got = server.ask(b"POST /books/_search?%s HTTP/1.1\r\n\r\n" % query)
+        check(f"a search with {query.decode()}", other(got, search))
+    got = server.ask(put_of(b"idle?timeout=1m&refresh=wait_for&wait", b"{}"))
+    check("a write with a parameter that isn't known", "" if page_names(got) == [(400, "BadParameter")] else shown(got))
+    got = server.ask(put_of(b"idle?timeout=1m&refresh=wait_for&op_type=create", b"{}") + get_of(b"idle?preference=_local"))
+    check("a write and a get with such parameters", "" if page_names(got) == [(201, ""), (200, "")] else shown(got))
+    for query in (b"filter_path=took", b"routing=a", b"realtime=false", b"q=x", b"rest_total_hits_as_int=true", b"timeouts=1", b"Timeout=1m", b"time%6fut=1m", b"track_total_hits=false"):
+        got = server.ask(b"GET /books/_search?%s HTTP/1.1\r\n\r\n" % query)
+        check(f"a search with {query.decode()}", "" if page_names(got) == [(400, "BadParameter")] else shown(got))
+
+
 def ungreeted(server):
     """Without --greet these pages are those of any request that isn't answered."""
     for request, wanted in ((b"GET / HTTP/1.1\r\n\r\n", (404, "NoRoute")), (b"HEAD / HTTP/1.1\r\n\r\n", (404, "NoRoute")), (b"HEAD /books HTTP/1.1\r\n\r\n", (404, "NoRoute")),
-                            (b"HEAD /books/_doc/1 HTTP/1.1\r\n\r\n", (405, "BadMethod")), (put_of(b"2?refresh=wait_for", b"{}"), (400, "BadParameter"))):
+                            (b"HEAD /books/_doc/1 HTTP/1.1\r\n\r\n", (405, "BadMethod")), (put_of(b"2?timeout=1m", b"{}"), (400, "BadParameter")), (put_of(b"2?refresh=wait_for", b"{}"), (400, "BadParameter"))):
         got = server.ask(request)
-        good = page_names(got) == [wanted] and b"connection:" not in got
+        good = page_names(got) == [wanted] and b"connection:" not in got and PRODUCT not in got
         check(f"{request.split(b' HTTP')[0].decode()} without --greet", "" if good else shown(got))
 
 
 def reasons():
     """With --explain too, a line has why what the request is turned into is refused."""
     with Server("--greet", "--explain") as server:
-        asked = (b"GET / HTTP/1.1\r\n\r\n", b"HEAD /books HTTP/1.1\r\n\r\n", put_of(b"1?refresh=wait_for", b"{}"), b"HEAD /other HTTP/1.1\r\n\r\n", put_of(b"1?refresh=wait_for", b"{"))
+        asked = (b"GET / HTTP/1.1\r\n\r\n", b"HEAD /books HTTP/1.1\r\n\r\n", put_of(b"1?refresh=wait_for", b"{}"), b"HEAD /other HTTP/1.1\r\n\r\n", put_of(b"1?refresh=wait_for", b"{"),
+                 b"GET /books/_source/1 HTTP/1.1\r\n\r\n")
         for request in asked:
             server.ask(request)
-        said = server.errors_said()
-        good = len(said) == 2 and "HEAD /other: another index" in said[0] and "PUT /books/_doc/1?refresh=wait_for: " in said[1] and "parameter" not in said[1]
+        said = server.errors_said(3)
+        good = len(said) == 3 and "there is no such path" in said[2] and "HEAD /other: another index" in said[0] and "PUT /books/_doc/1?refresh=wait_for: " in said[1] and "parameter" not in said[1]
         check("why requests are refused", "" if good else repr(said))

@@ -31,7 +31,7 @@ def free_port():
 class Server:
     """A server of a new index, killed at the end where it hasn't ended."""
 
-    def __init__(self, *words, index="books", env=None, pass_fds=(), greatest_file=None, most_files=None, errors=subprocess.PIPE):
+    def __init__(self, *words, index="books", env=None, pass_fds=(), greatest_file=None, most_files=None, most_seconds=START_SECONDS, errors=subprocess.PIPE):
         self.port = free_port()
         # (what a search finds is then the same, however long a test takes)
         words = words if "--refresh-ms" in words else ("--refresh-ms", 0, *words)
@@ -43,7 +43,7 @@ class Server:
             restore_signals=greatest_file is None)  # Python ignores SIGXFSZ, and a server that is to meet a full file inherits that.
         if greatest_file is not None:
             self.limit_files(greatest_file)
-        late = threading.Timer(START_SECONDS, self.process.kill)
+        late = threading.Timer(most_seconds, self.process.kill)
         late.daemon = True
         late.start()
         self.said = self.process.stdout.readline()
@@ -57,10 +57,14 @@ class Server:
         self.process.kill()
         self.process.communicate()
 
-    def errors_said(self):
-        """Ends the server, and gives the lines that it said on standard error."""
+    def errors_said(self, least=0):
+        """Ends the server, once it has said so many lines on standard error or no more in time, and gives its lines. (One may come after the page.)"""
+        late = threading.Timer(SECONDS, self.process.kill)
+        late.start()
+        said = b"".join(self.process.stderr.readline() for _ in range(least))
+        late.cancel()
         self.process.kill()
-        return self.process.communicate()[1].decode(errors="replace").splitlines()
+        return (said + self.process.stderr.read()).decode(errors="replace").splitlines()
 
     def limit_files(self, length):
         resource.prlimit(self.process.pid, resource.RLIMIT_FSIZE, (length, resource.RLIM_INFINITY))

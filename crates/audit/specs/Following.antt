@@ -20,7 +20,7 @@ shut_of c (Some f) = Some (shut_by c f)
 abbrev pub standing_of : Copy → Option Cut → Standing
 standing_of c cut = record { copy = c; shut = shut_of c cut }
 
--- a step whose log may fail: a restart, or one that adds records, so many
+-- a step whose log may fail: a restart, or one that adds records, `added` of them
 pub record MayFail (c : Copy) (input : Input) (added : ℕ) : Type 0 where
   pub may : (is_restart input || nat_lt 0 added) ≡ true
   pub adds : length (left_by c (copy_step c input)).records ≡ length c.records + added

@@ -14,12 +14,12 @@ abbrev pub behind : ℕ → Result Decision MasterFault → ℕ
 behind n (Ok d) = behind_id n d.given
 behind n (Err e) = n
 
--- the number behind the last id that the entries give, n where they give none
+-- the number after the last id that the entries give, n where they give none
 abbrev pub next_given : ℕ → List Ruling → ℕ
 next_given n [] = n
 next_given n (r ∷ rs) = next_given (behind n r.answer) rs
 
--- so many journals, of which this is the first, are those of the master and of each copy to which that one gives an id
+-- `count` journals, of which this is the first, are those of the master and of each copy to which that one gives an id
 abbrev pub HasEach : Option Journal → ℕ → Type 0
 HasEach None count = ⊥
 HasEach (Some (of_master s rs)) count = next_given s.next rs ≤ count

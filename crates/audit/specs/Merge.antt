@@ -50,11 +50,11 @@ pub record HaltsAt (start : World) (parts : List (List Placed)) (node place : �
   pub there : slice_get (part_of (slice_get parts node)) count ≡ Some move
   pub at : move.place ≡ place
 
--- the next of these moves of a node, after so many
+-- the next of these moves of a node, after `count` of them
 abbrev pub IsNextOf : List Placed → World → ℕ → ℕ → ℕ → Move → Type 0
 IsNextOf ps w count i k m = (slice_get (map (λ p. p.what) ps) count ≡ Some m) × CanGo w i k m
 
--- the same of some move
+-- these moves have a next one, after `count` of them
 abbrev pub HasNextOf : List Placed → World → ℕ → ℕ → ℕ → Type 0
 HasNextOf ps w count i k = (m : Move) × IsNextOf ps w count i k m
 

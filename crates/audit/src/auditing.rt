@@ -60,7 +60,7 @@ fn are_all(journals: &[Journal]) -> bool
     }
 }
 
-/// The number behind the last id that the entries give; the first one where they give none.
+/// The number after the last id that the entries give; the first one where they give none.
 fn next_given(first: u64, rulings: &[Ruling]) -> u64
     ensures { result ≡ given.next_given first rulings.now }
 {
@@ -115,7 +115,7 @@ fn count_in(alloc: Global, state: &State) -> Result<Option<u8>, AllocError>
     }
 }
 
-/// Whether the master of a new index of so many copies is so.
+/// Whether this is the state of the master of a new index of `copies` copies.
 fn is_begun(alloc: Global, state: &State, copies: u8) -> Result<bool, AllocError>
     ensures { IfOk result (λ is. IsTrue is ↔ (state.now ≡ begun copies)) }
 {

@@ -31,7 +31,7 @@ pub(crate) struct Cut {
     added: u64,
 }
 
-/// A copy over a log that doesn't fail, and the step whose log failed as the journal says, until the restart's answer tells whether its record was
+/// A copy over a log that doesn't fail, and the step whose log failed as the journal says, until the restart's answer says whether its record was
 /// kept.
 #[derive(Drop)]
 pub(crate) struct Following {
@@ -53,7 +53,7 @@ impl Model for Following {
 }
 
 impl Following {
-    /// A copy as it is when its id is given, in an index that begins with so many.
+    /// A copy as it is when its id is given, in an index that begins with `copies` copies.
     pub(crate) fn born(
         alloc: Global,
         mapping: &Mapping,
@@ -213,7 +213,7 @@ fn takes(
     }
 }
 
-/// Whether a step that is ready gives this output. It is done where it does. In memory only memory may be wanting.
+/// Whether a step that is ready gives this output. It is done where it does. Over a log in memory only memory can run out.
 fn commits(
     alloc: Global,
     copy: &mut OneCopy,
@@ -264,7 +264,7 @@ fn may_refuse(
     }
 }
 
-/// Whether a refusal is this one; want of memory tells nothing.
+/// Whether a refusal is this one; want of memory says nothing.
 fn refuses(made: CopyFault, fault: &CopyFault) -> Result<bool, AllocError>
     requires { is_log made ≡ false }
     ensures { IfOk result (λ is. (IsTrue is ↔ (made ≡ fault.now)) × (fault_of made ≡ Some made)) }
@@ -306,7 +306,7 @@ fn may_fail(alloc: Global, copy: &mut OneCopy, input: &Input) -> Result<Option<u
     }
 }
 
-/// What a copy whose log failed may answer, beside the output of a restart.
+/// What a copy whose log failed may answer, apart from the output of a restart.
 fn may_shut(restart: bool, fault: &CopyFault) -> bool
     ensures { result ≡ may_shut restart fault.now }
 {
@@ -320,7 +320,7 @@ fn may_shut(restart: bool, fault: &CopyFault) -> bool
 
 // ---- restarts
 
-/// Whether the restart that gives this output found the records of the step that failed, so many; nothing where it can't be.
+/// Whether the restart that gives this output found the `added` records of the step that failed; nothing where it can't be.
 fn found(
     alloc: Global,
     copy: &mut OneCopy,
@@ -355,7 +355,7 @@ fn count(alloc: Global, copy: &mut OneCopy) -> Result<u64, AllocError>
     count
 }
 
-/// Whether an output tells that so many records more than a count are there; nothing where it is no restart's, or tells another number.
+/// Whether an output says that `added` records more than `count` are there; nothing where it is no restart's, or says another number.
 fn reported(count: u64, added: u64, output: &Output) -> Option<bool>
     ensures some { IfSome result (λ kept. IsReport count (count + added) output.now × (kept ≡ not (is_point output.now.answer count))) }
     ensures none { result ≡ None → IsReport count (count + added) output.now → ⊥ }
@@ -451,7 +451,7 @@ fn torn(cut: Cut, is_kept: bool) -> Placed
 
 // ---- its beginning
 
-/// Copy `node` of an index that begins with so many, as it is when its id is given.
+/// Copy `node` of an index that begins with `copies` copies, as it is when its id is given.
 fn born(alloc: Global, mapping: &Mapping, copies: u32, node: u32) -> Result<OneCopy, AllocError>
     requires { 0 < copies }
     ensures copy { IfOk result (λ c. c.copy ≡ born mapping.now copies node) }

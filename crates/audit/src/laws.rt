@@ -48,7 +48,7 @@ pub fn a_merge_of_moves_audits()
     ensures halted { (mapping : MappingData) (n : ℕ) (js : List Journal) (node place : ℕ) → IsSize n → Pass mapping n js → AreAll js → HaltsAt (new_world mapping n) (map placed_in js) node place → IsAudited mapping js (Err (Uncaused node place)) }
 {}
 
-/// The worked rows: a run of two copies, the same without the last entry, with another document in a message, and with another answer.
+/// The worked rows: a run of two copies, that run without the last entry, with another document in a message, and with another answer.
 pub fn rows()
     ensures { Row_audit }
 {}

@@ -32,7 +32,7 @@ pub fn make(alloc: Global, mapping: &Mapping, copies: u8, parts: &[Part]) -> Res
     }
 }
 
-/// So many zeros.
+/// `count` zeros.
 #[tactic(auto, using(crate::proofs::Parts::zeros_more))]
 fn zeros(alloc: Global, count: usize) -> Result<Vec<usize>, AllocError>
     ensures length { IfOk result (λ v. length v.items ≡ count) }

@@ -34,7 +34,7 @@ pub(crate) trait Stage: Drop {
     fn guess(&self, node: u32, next: &Move) -> Option<u64>
         ensures { IfSome result (λ k. CanGo (world self.now) node k next.now) };
 
-    /// The same, and looks at every message.
+    /// The number of a message with which a node's move can come. It looks at every message.
     fn number(&self, node: u32, next: &Move) -> Option<u64>
         ensures some { IfSome result (λ k. CanGo (world self.now) node k next.now) }
         ensures none { result ≡ None → (k : ℕ) → CanGo (world self.now) node k next.now → ⊥ };
@@ -45,7 +45,7 @@ pub(crate) trait Stage: Drop {
         ensures { OnOk result (world self.new ≡ (world_step (world self.old) (event_of node number next.now)).world) };
 }
 
-/// A number with which the next of these moves can come, after so many, where one is guessed.
+/// A number with which the next of these moves can come, after `count` of them, where one is guessed.
 fn guess_at<S: Stage>(stage: &S, node: u32, part: &Part, count: usize) -> Option<u64>
     ensures { IfSome result (λ k. HasNextOf part.now (S.world stage.now) count node k) }
 {
@@ -55,7 +55,7 @@ fn guess_at<S: Stage>(stage: &S, node: u32, part: &Part, count: usize) -> Option
     }
 }
 
-/// A number with which the next of these moves can come, after so many.
+/// A number with which the next of these moves can come, after `count` of them.
 fn number_at<S: Stage>(stage: &S, node: u32, part: &Part, count: usize) -> Option<u64>
     ensures some { IfSome result (λ k. HasNextOf part.now (S.world stage.now) count node k) }
     ensures none { result ≡ None → (k : ℕ) (m : Made) → IsNextOf part.now (S.world stage.now) count node k m → ⊥ }

@@ -30,7 +30,7 @@ pub(crate) struct Posts {
 }
 
 impl Posts {
-    /// No messages between so many nodes.
+    /// No messages between `nodes` nodes.
     pub(crate) fn new(alloc: Global, nodes: usize) -> Result<Posts, AllocError> {
         let mut senders = Vec::new(alloc);
         for _ in 0..nodes {
@@ -119,7 +119,7 @@ impl Post {
         self.numbers.get(place).copied()
     }
 
-    /// The next message is the one behind this number, unless one behind that was taken.
+    /// The next message is the one after this number, unless one after that was taken.
     fn pass(&mut self, number: u64) {
         for place in self.taken..self.numbers.len() {
             if self.numbers[place] == number {

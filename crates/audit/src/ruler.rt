@@ -36,7 +36,7 @@ impl Model for Ruler {
 }
 
 impl Ruler {
-    /// The master of a new index of so many copies.
+    /// The master of a new index of `copies` copies.
     pub(crate) fn begun(alloc: Global, copies: u8) -> Result<Ruler, AllocError>
         requires { (1 ≤ copies) × (copies ≤ 5) }
         ensures { IfOk result (λ r. r ≡ record { state = begun copies; closed = false }) }

@@ -24,7 +24,7 @@ pub(crate) struct Making {
 }
 
 impl Making {
-    /// A world of so many nodes, before any move.
+    /// A world of `nodes` nodes, before any move.
     pub(crate) fn new(alloc: Global, world: World, nodes: usize) -> Result<Making, AllocError>
         ensures { IfOk result (λ m. m.world ≡ world) }
     {
@@ -123,7 +123,7 @@ impl Stage for Making {
     }
 }
 
-/// Whether all is there that a move needs beside a message.
+/// Whether all is there that a move needs, apart from a message.
 fn is_ready(world: &World, node: u32, next: &Move) -> bool
     ensures { IsTrue result ↔ IsReady world.now.world node next.now }
 {

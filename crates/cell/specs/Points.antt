@@ -43,7 +43,7 @@ pub record IsPointSince (opening : Copy) (p : PointData) : Type 0 where
   pub node_is : opening.id ≡ p.node
   pub records_is : p.records ≡ (after (open_at opening) 0 p.deeds).copy.records
 
--- the place is of another copy, or of this one behind all of these entries
+-- the place is of another copy, or of this one after all of these entries
 abbrev pub IsShownBehind : PrefixData Deed → PointData → Type 0
 IsShownBehind h p = p.node ≡ h.number → IsPrefix h.entries p.deeds
 

@@ -43,7 +43,7 @@ pub record IsAllShown (c : CellData) : Type 0 where
   pub mapping : c.line.shown.listing.mapping ≡ (standing c.journal).copy.mapping
   pub records : c.line.shown.listing.records ≡ (standing c.journal).copy.records
 
--- a call is in the journal, and what is shown stays: memory was wanting for what it shows
+-- a call is in the journal, and what is shown stays: there was no memory for what it shows
 pub record IsUnshown (old new : CellData) (p q : PassData) (input : Input) : Type 0 where
   pub refresh : is_refresh input ≡ true
   pub receipt : Receipt

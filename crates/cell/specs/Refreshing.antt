@@ -1,4 +1,4 @@
--- A write with the refresh behind it, and the note of what searches show then.
+-- A write with the refresh after it, and the note of what searches show then.
 use Rattle.std.specs.Prelude.{◌≡◌, ◌⊎◌}
 use Rattle.replica.specs.declared.input.Input.TheVariants.{Write as Client, Refresh}
 use Rattle.replica.specs.declared.input.Write.{Write}
@@ -17,7 +17,7 @@ pub record IsRefreshed (old new : CellData) (p q : PassData) (note : Published) 
   pub whole : IsAllShown new
   pub note_is : note ≡ new.line.shown
 
--- the refresh has its entry, and memory was wanting for the note
+-- the refresh has its entry, and there was no memory for the note
 pub record IsWithoutNote (old new : CellData) (p q : PassData) (e : NodeFault) : Type 0 where
   pub receipt : Receipt
   pub call : IsCall old.journal new.journal p q Refresh receipt

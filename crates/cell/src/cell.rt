@@ -61,7 +61,7 @@ fn showing_of<D: LogDevice>(copy: &Copy<D>, place: Place) -> Result<Option<Showi
     }))
 }
 
-/// The place behind all entries of a copy's journal. Nothing while the copy is closed.
+/// The place after all entries of a copy's journal. Nothing while the copy is closed.
 #[tactic(auto, using(crate::proofs::Growing::stands_at, crate::proofs::Growing::stands_since))]
 fn place_of<D: LogDevice, J: IndexName>(held: &Held<D, J>, copy: &Copy<D>) -> Option<Place>
     requires { IsHeld held.now copy.now }
@@ -83,7 +83,7 @@ fn place_of<D: LogDevice, J: IndexName>(held: &Held<D, J>, copy: &Copy<D>) -> Op
     ))
 }
 
-/// The same of a copy with its journal.
+/// What a copy with its journal shows.
 #[tactic(auto, using(crate::proofs::Growing::shown_in, crate::proofs::Growing::whole_copy))]
 fn showing_in<D: LogDevice, J: IndexName>(held: &Held<D, J>) -> Result<Option<Showing>, AllocError>
     requires { (standing held.now).copy.point ≡ length (standing held.now).copy.records }
@@ -107,7 +107,7 @@ fn is_refresh(input: &Input) -> bool
 }
 
 impl<D: LogDevice, J: IndexName> CopyCell<D, J> {
-    /// A copy that shows all of its records. Where memory is wanting, or the copy is closed, it is given back.
+    /// A copy that shows all of its records. Out of memory, or where the copy is closed, it gives the copy back.
     #[tactic(auto, using(crate::proofs::Growing::begun_published, crate::proofs::Growing::begun_all))]
     pub fn begin<R: Wait>(
         rt: &R,
@@ -143,7 +143,7 @@ impl<D: LogDevice, J: IndexName> CopyCell<D, J> {
         &self.held
     }
 
-    /// What the copy has of an id, of all its records, as `Held::get` tells it; it makes no entry.
+    /// What the copy has of an id, of all its records, as `Held::get` answers it; it makes no entry.
     #[tactic(auto, using(crate::proofs::Refusing::same_published))]
     pub fn get(&mut self, alloc: Global, id: DocId) -> Result<Got<J>, NodeFault>
         ensures got { IfOk result (IsGotFrom self.old.journal id) }
@@ -171,7 +171,7 @@ impl<D: LogDevice, J: IndexName> CopyCell<D, J> {
         self.held.is_synced()
     }
 
-    /// One call of the copy, as `Held::call` makes it. After a refresh or a restart searches show all records of the copy; where memory is wanting for
+    /// One call of the copy, as `Held::call` makes it. After a refresh or a restart searches show all records of the copy; where memory runs out for
     /// that it is a refusal, though the call was made, and searches show what they showed.
     #[tactic(auto, using(crate::proofs::Refusing::refused, crate::proofs::Refusing::unshown, crate::proofs::Refusing::call_as, crate::proofs::Refusing::shown_all, crate::proofs::Refusing::shown_same))]
     pub fn call<R: Wait>(
@@ -250,8 +250,8 @@ impl<D: LogDevice, J: IndexName> CopyCell<D, J> {
         self.held.finish_merge(alloc)
     }
 
-    /// A write, the refresh behind it, and a note of what searches show then, which is all records of the copy. A refused write has no refresh; where
-    /// the refresh is refused, or memory is wanting for the note, the write stands, and its receipt is in the pass.
+    /// A write, the refresh after it, and a note of what searches show then, which is all records of the copy. A refused write has no refresh; where
+    /// the refresh is refused, or memory runs out for the note, the write stands, and its receipt is in the pass.
     #[tactic(auto, using(crate::proofs::Refreshing::write_refreshed, crate::proofs::Refreshing::write_refused, crate::proofs::Refreshing::write_stands, crate::proofs::Refreshing::still_named))]
     pub fn write_refreshed<N: Name, R: Wait>(
         &mut self,

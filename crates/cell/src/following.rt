@@ -17,7 +17,7 @@ use std::marker::Brand;
 use std::sync::Wait;
 use translog::LogDevice;
 
-/// A searcher that was given out before a write finds what the write's note tells of.
+/// A searcher that was given out before a write finds what the write's note says.
 #[tactic(auto, using(crate::proofs::Refreshing::note_found))]
 fn found_behind<N: Name, R: Wait, D: LogDevice, J: IndexName>(
     rt: &R,

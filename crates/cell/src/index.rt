@@ -5,7 +5,7 @@ use chronicle::RegistryName;
 use doc::Mapping;
 use std::marker::{Brand, Model, PhantomData};
 
-/// Which index it is: its name and its mapping, beside the registry of its copies' journals. A call of a program picks it by `Brand`.
+/// Which index it is: its name and its mapping, next to the registry of its copies' journals. A call of a program picks it by `Brand`.
 pub trait IndexName: RegistryName {
     ghost use Rattle.cell.specs.Index.{IndexData};
 

@@ -70,7 +70,7 @@ impl<J: RegistryName> JournalPoint<J> {
         Began::of(self.place.node(), self.place.beginning().again())
     }
 
-    /// What it tells of the journal, where that had entries.
+    /// What it says of the journal, where that had entries.
     #[tactic(auto, using(crate::proofs::Pointing::is_journal))]
     pub fn heard(&self) -> Option<Heard<J>>
         ensures some { IfSome result (λ h. h ≡ prefix self.now.node self.now.deeds) }
@@ -84,7 +84,7 @@ impl<J: RegistryName> JournalPoint<J> {
         }
     }
 
-    /// Whether it is of another copy's journal, or behind all of these entries.
+    /// Whether it is of another copy's journal, or after all of these entries.
     pub fn is_behind(&self, heard: &Heard<J>) -> bool
         ensures behind { IsTrue result → IsShownBehind heard.now self.now }
         ensures earlier { IsFalse result → IsEarlier heard.now self.now.node self.now.deeds }

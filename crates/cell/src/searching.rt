@@ -27,7 +27,7 @@ pub enum CopySearchFault {
     NoMemory,
     /// The copy has ended.
     Ended,
-    /// What was found is of another copy, behind so many entries of its journal. That is never met.
+    /// What was found is of another copy, after this many entries of its journal. That is never met.
     Stray(u64),
 }
 

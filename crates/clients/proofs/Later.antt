@@ -54,14 +54,14 @@ true_if true x y e = refl
 true_if false x y e = absurd (cc e)
 
 later_if : (more rest : List ℕ) (x : Framed) (b : Bool) → nat_le x.frame.length (length rest) ≡ b
-    → Later more (if b then asked (record { method = x.method; target = x.target; body = take x.frame.length rest }) x.frame.closes (drop x.frame.length rest) else none) (with_body (rest ++ more) (Ok x))
+    → Later more (if b then asked (record { method = x.method; target = x.target; body = take x.frame.length rest; sender = x.sender }) x.frame.closes (drop x.frame.length rest) else none) (with_body (rest ++ more) (Ok x))
 later_if more rest x false e = tt
 later_if more rest x true e =
     let fits : x.frame.length ≤ length rest = true_le x.frame.length (length rest) e in
     let still : nat_le x.frame.length (length (rest ++ more)) ≡ true = le_true x.frame.length (length (rest ++ more)) (omega (arith, fits, length-append rest more)) in
-    true_if (nat_le x.frame.length (length (rest ++ more))) (asked (record { method = x.method; target = x.target; body = take x.frame.length (rest ++ more) }) x.frame.closes (drop x.frame.length (rest ++ more))) none still
-    ∙ ap (λ body. asked (record { method = x.method; target = x.target; body = body }) x.frame.closes (drop x.frame.length (rest ++ more))) (take_in x.frame.length rest more fits)
-    ∙ ap (λ behind. asked (record { method = x.method; target = x.target; body = take x.frame.length rest }) x.frame.closes behind) (drop_in x.frame.length rest more fits)
+    true_if (nat_le x.frame.length (length (rest ++ more))) (asked (record { method = x.method; target = x.target; body = take x.frame.length (rest ++ more); sender = x.sender }) x.frame.closes (drop x.frame.length (rest ++ more))) none still
+    ∙ ap (λ body. asked (record { method = x.method; target = x.target; body = body; sender = x.sender }) x.frame.closes (drop x.frame.length (rest ++ more))) (take_in x.frame.length rest more fits)
+    ∙ ap (λ behind. asked (record { method = x.method; target = x.target; body = take x.frame.length rest; sender = x.sender }) x.frame.closes behind) (drop_in x.frame.length rest more fits)
 
 later_body : (more rest : List ℕ) (f : Result Framed Fault) → Later more (with_body rest f) (with_body (rest ++ more) f)
 later_body more rest (Err x) = refl

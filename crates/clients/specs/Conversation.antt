@@ -1,34 +1,35 @@
 -- A conversation from its beginning on.
-use Rattle.std.specs.Prelude.{◌≡◌, ℕ, Bool, List, [], ◌∷◌, ◌++◌, Option, Some, None, IfSome, if◌then◌else◌}
+use Rattle.std.specs.Prelude.{◌≡◌, ℕ, List, [], ◌∷◌, ◌++◌, Option, Some, None, IfSome, if◌then◌else◌}
 use Rattle.doc.specs.Mapping.{MappingData}
 use Rattle.wire.specs.Requests.{Standing, requests}
 use Rattle.front.specs.Command.{Command}
 use Rattle.front.specs.Reply.{Reply}
+use Rattle.front.specs.Rule.{Rule, AnsweredBy}
 use Rattle.clients.specs.Talk.{Talk, begun}
-use Rattle.clients.specs.Steps.{Receives, Sends, AnsweredBy, Answers, standing}
+use Rattle.clients.specs.Steps.{Receives, Sends, Answers, standing}
 
--- any steps of a conversation whose requests are answered by one rule, one after another: these bytes were received in all, these were sent. Between two steps the service may have changed, by what other
--- connections asked, or be that of another thread
-pub data Run {S K : Type 0} (greets : Bool) (answers : S → Command → Reply → S → Type 0) (knows : S → K) (index : List ℕ) (mapping : MappingData) : List ℕ → List ℕ → Talk K → Type 0 where
-  begins : Run greets answers knows index mapping [] [] begun
-  receives : (received sent bytes : List ℕ) (old new : Talk K) → Run greets answers knows index mapping received sent old → Receives bytes old new → Run greets answers knows index mapping (received ++ bytes) sent new
-  answers_one : (received sent : List ℕ) (old new : Talk K) (q : Standing) (s t : S) → Run greets answers knows index mapping received sent old → Answers greets answers knows index mapping q s t old new → Run greets answers knows index mapping received sent new
-  sends : (received sent bytes : List ℕ) (old new : Talk K) → Run greets answers knows index mapping received sent old → Sends bytes old new → Run greets answers knows index mapping received (sent ++ bytes) new
+-- any steps of a conversation, one after another, whose requests one rule answers: these bytes were received in all, and these were sent. Between two steps the
+-- service may change, since other connections ask too, or be that of another thread
+pub data Run {S K : Type 0} (rule : Rule) (answers : S → Command → Reply → S → Type 0) (knows : S → K) (index : List ℕ) (mapping : MappingData) : List ℕ → List ℕ → Talk K → Type 0 where
+  begins : Run rule answers knows index mapping [] [] begun
+  receives : (received sent bytes : List ℕ) (old new : Talk K) → Run rule answers knows index mapping received sent old → Receives bytes old new → Run rule answers knows index mapping (received ++ bytes) sent new
+  answers_one : (received sent : List ℕ) (old new : Talk K) (q : Standing) (s t : S) → Run rule answers knows index mapping received sent old → Answers rule answers knows index mapping q s t old new → Run rule answers knows index mapping received sent new
+  sends : (received sent bytes : List ℕ) (old new : Talk K) → Run rule answers knows index mapping received sent old → Sends bytes old new → Run rule answers knows index mapping received (sent ++ bytes) new
 
--- these requests were answered in order, each once, by a service that went on from what the client knew after the one before, and these are their pages
-abbrev pub Told : {S K : Type 0} → Bool → (S → Command → Reply → S → Type 0) → (S → K) → List ℕ → MappingData → Option K → List Standing → List ℕ → Option K → Type 0
-Told {S} greets answers knows index mapping known [] out last = (out ≡ []) × (last ≡ known)
-Told {S} greets answers knows index mapping known (q ∷ qs) out last =
-    (s : S) × (t : S) × (one : List ℕ) × (rest : List ℕ) × IfSome known (λ k. knows s ≡ k) × AnsweredBy greets answers index mapping q s one t × Told greets answers knows index mapping (Some (knows t)) qs rest last × (out ≡ one ++ rest)
+-- these requests were answered in order, each once, by a service that went on from what the client knew after the request before, and these are their pages
+abbrev pub Told : {S K : Type 0} → Rule → (S → Command → Reply → S → Type 0) → (S → K) → List ℕ → MappingData → Option K → List Standing → List ℕ → Option K → Type 0
+Told {S} rule answers knows index mapping known [] out last = (out ≡ []) × (last ≡ known)
+Told {S} rule answers knows index mapping known (q ∷ qs) out last =
+    (s : S) × (t : S) × (one : List ℕ) × (rest : List ℕ) × IfSome known (λ k. knows s ≡ k) × AnsweredBy rule answers index mapping q s one t × Told rule answers knows index mapping (Some (knows t)) qs rest last × (out ≡ one ++ rest)
 
--- what was sent and what waits to be sent are the pages of the first requests of the bytes, and those that wait to be answered are the others.
--- Bytes that come later change nothing of what was answered. The client was told nothing at first, and knows what the last reply told
-pub record Kept {S K : Type 0} (greets : Bool) (answers : S → Command → Reply → S → Type 0) (knows : S → K) (index : List ℕ) (mapping : MappingData) (received sent : List ℕ) (c : Talk K) : Type 0 where
+-- what was sent and what waits to be sent are the pages of the first requests of the bytes, and the other requests wait to be answered. Bytes that come later
+-- change nothing of what was answered. The client knows nothing at first, and then what the service reports after the last reply
+pub record Kept {S K : Type 0} (rule : Rule) (answers : S → Command → Reply → S → Type 0) (knows : S → K) (index : List ℕ) (mapping : MappingData) (received sent : List ℕ) (c : Talk K) : Type 0 where
   pub done : List Standing
-  pub told : Told greets answers knows index mapping None done (sent ++ c.unsent) c.known
+  pub told : Told rule answers knows index mapping None done (sent ++ c.unsent) c.known
   pub others : requests received ≡ done ++ standing c
   pub later : (more : List ℕ) → requests (received ++ more) ≡ done ++ (if c.ended then [] else requests (c.waiting ++ more))
 
-abbrev pub IsKept : {S K : Type 0} → Bool → (S → Command → Reply → S → Type 0) → (S → K) → Type 0
-IsKept {S} {K} greets answers knows =
-    (index : List ℕ) (mapping : MappingData) (received sent : List ℕ) (c : Talk K) → Run greets answers knows index mapping received sent c → Kept greets answers knows index mapping received sent c
+abbrev pub IsKept : {S K : Type 0} → Rule → (S → Command → Reply → S → Type 0) → (S → K) → Type 0
+IsKept {S} {K} rule answers knows =
+    (index : List ℕ) (mapping : MappingData) (received sent : List ℕ) (c : Talk K) → Run rule answers knows index mapping received sent c → Kept rule answers knows index mapping received sent c

@@ -4,7 +4,7 @@ use crate::limits::{LONGEST_REQUEST, SHARE};
 use std::alloc::{AllocError, Global};
 use std::collections::VecDeque;
 
-/// Places of one size, and those who wait for one, the first to come in front.
+/// Places of one size, and the connections that wait for one, in the order in which they came.
 pub(crate) struct Places {
     free: usize,
     line: VecDeque<usize>,
@@ -27,7 +27,7 @@ impl Places {
         }
     }
 
-    /// Whether there was a place; else this one stands in line for the next.
+    /// Takes a place, and returns whether there was one. If not, this connection waits in line for the next.
     pub(crate) fn take(&mut self, who: usize) -> Result<bool, AllocError> {
         if self.free == 0 || !self.line.is_empty() {
             self.line.push_back(who)?;
@@ -37,7 +37,7 @@ impl Places {
         Ok(true)
     }
 
-    /// A place is given back. It goes to the first in line.
+    /// Takes a place back. It goes to the first in line.
     pub(crate) fn give_back(&mut self) -> Option<usize> {
         let next = self.line.pop_front();
         if next.is_none() {
@@ -47,7 +47,7 @@ impl Places {
     }
 }
 
-/// One half is for small shares, the other for tickets, each room for the longest request.
+/// One half of the room is for small shares, the other for tickets. A ticket is room for the longest request.
 #[derive(Drop)]
 pub(crate) struct Budget {
     pub(crate) shares: Places,

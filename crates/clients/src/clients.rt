@@ -1,4 +1,4 @@
-//! Connections that a few threads serve: each in turn waits for all, and works on what is ready.
+//! Connections that a few threads serve. Each thread in turn waits for all connections, and works on those that are ready.
 
 use crate::connection::{Connection, Next};
 use crate::limits::{Limits, ROOM, SWEEP};
@@ -6,7 +6,7 @@ use crate::noting::{Notes, Noting};
 use crate::poller::{LISTENER, Poller};
 use crate::table::{Job, Table};
 use crate::watcher::Watcher;
-use front::{Command, Reply, Resumable, Service};
+use front::{Command, Reply, Resumable, Rule, Service};
 use mio::net::TcpStream;
 use mio::{Interest, Token, Waker};
 use std::alloc::Global;
@@ -17,13 +17,13 @@ use std::sync::{Mutex, Wait};
 use std::time::{Clock, Duration, Instant};
 use std::{io, thread};
 
-/// The longest wait between two looks whether the server has ended, and how much was written, in milliseconds.
+/// The longest time after which the refreshing lane looks again whether the server has ended, and how much was written, in milliseconds.
 const TICK: u64 = 10;
 
-/// Once so many writes came the index is refreshed before its time: a write waits while a refresh takes what changed.
+/// After this many writes the index is refreshed before its time is over, since a write waits while a refresh takes what changed.
 const MANY: u64 = 2_048;
 
-/// How many connections are accepted before others are looked at.
+/// The most connections that are accepted before the open ones are looked at.
 const MOST_ACCEPTED: u64 = 256;
 
 /// The next connection that is ready, whether no other is open, and whether others are ready.
@@ -34,10 +34,11 @@ struct NextJob<K: Drop> {
     others: bool,
 }
 
-/// The connections of a listener, whose clients know this of the service.
+/// The connections of a listener. `K` is what a client knows of the service.
 pub struct Clients<'w, W: Watcher, K: Drop> {
     alloc: Global,
     limits: Limits,
+    rule: &'w Rule,
     watcher: &'w W,
     started: Option<Instant>,
     poller: Mutex<Poller>,
@@ -53,6 +54,7 @@ impl<'w, W: Watcher, K: Drop> Drop for Clients<'w, W, K> {
         let Clients {
             alloc: _,
             limits: _limits,
+            rule: _rule,
             watcher: _watcher,
             started: _started,
             poller: _poller,
@@ -66,12 +68,13 @@ impl<'w, W: Watcher, K: Drop> Drop for Clients<'w, W, K> {
 }
 
 impl<'w, W: Watcher, K: Drop> Clients<'w, W, K> {
-    /// The connections that come to a listener.
+    /// The connections that come to a listener. This rule answers their requests.
     pub fn new<R: Net + Clock>(
         rt: &R,
         alloc: Global,
         listener: TcpListener,
         limits: Limits,
+        rule: &'w Rule,
         watcher: &'w W,
     ) -> io::Result<Clients<'w, W, K>> {
         let (poller, waker) = Poller::new(rt, alloc, listener)?;
@@ -79,6 +82,7 @@ impl<'w, W: Watcher, K: Drop> Clients<'w, W, K> {
         Ok(Clients {
             alloc,
             limits,
+            rule,
             watcher,
             started: Instant::now(rt).ok(),
             poller: Mutex::new(poller),
@@ -90,13 +94,14 @@ impl<'w, W: Watcher, K: Drop> Clients<'w, W, K> {
         })
     }
 
-    /// In how many threads `run` is to be called: those that work, and the one that refreshes.
+    /// How many threads must call `run`: those that work, and the one that refreshes.
     pub fn lanes(&self) -> usize {
         self.limits.working() + 1
     }
 
-    /// Serves connections in this lane with this service, until the last that is wanted has ended; in the last lane it refreshes the index again and again,
-    /// by a call that does it while commands go on, where it can, and else by one that holds them up. Both tell whether it was done.
+    /// Serves connections in this lane with this service, until the last one that the limits allow has ended. The last lane refreshes the index again and again
+    /// instead. It calls `show_more`, during which commands go on, and if that doesn't refresh, `refresh`, which blocks commands. Both return whether they
+    /// refreshed.
     pub fn run<R: Wait + Clock, S: Resumable<Known = K> + Drop, P: Fn() -> bool, B: Fn() -> bool>(
         &self,
         rt: &R,
@@ -123,7 +128,7 @@ impl<'w, W: Watcher, K: Drop> Clients<'w, W, K> {
         worked
     }
 
-    /// Works on what is ready, and where nothing is waits until something is.
+    /// Works on connections that are ready. If none is ready, it waits until one is.
     fn serve<'a, R: Wait + Clock, S: Resumable<Known = K>>(
         &'a self,
         rt: &R,
@@ -147,7 +152,7 @@ impl<'w, W: Watcher, K: Drop> Clients<'w, W, K> {
         table.next()
     }
 
-    /// Has the connection do what it can, and puts it back.
+    /// Works on the connection as far as it can, and puts it back, or closes it if it has ended.
     fn work<R: Wait + Clock, S: Resumable<Known = K>>(
         &self,
         rt: &R,
@@ -156,7 +161,7 @@ impl<'w, W: Watcher, K: Drop> Clients<'w, W, K> {
         room: &mut [u8],
     ) {
         let mut job = job;
-        let next = job.connection.work(service, self.watcher, room);
+        let next = job.connection.work(self.rule, service, self.watcher, room);
         let now = self.now(rt);
         if next == Next::Ended {
             return self.close(rt, job, now);
@@ -177,7 +182,7 @@ impl<'w, W: Watcher, K: Drop> Clients<'w, W, K> {
         self.end_behind_last(open);
     }
 
-    /// Ends the server where all connections that are wanted have begun, and none is open.
+    /// Ends the server if all connections that it is to serve have begun, and none is open.
     fn end_behind_last(&self, open: usize) {
         if open == 0 && self.all_begun.load(Ordering::SeqCst) {
             self.end();
@@ -189,8 +194,8 @@ impl<'w, W: Watcher, K: Drop> Clients<'w, W, K> {
         let _ = self.waker.wake();
     }
 
-    /// Waits for all connections, while no other thread does: it has the lead. Where one alone is ready this thread works on it itself, and gives the
-    /// lead up only before a command that would hold up the others: handing it on costs more than a get.
+    /// Waits for all connections. Only one thread at a time does this: it has the lead. If only one connection is ready, this thread works on it itself, and
+    /// gives the lead up only before a command that would hold up the others, since handing the lead on costs more than a get.
     fn lead<'a, R: Wait + Clock, S: Resumable<Known = K>>(
         &'a self,
         rt: &R,
@@ -237,7 +242,7 @@ impl<'w, W: Watcher, K: Drop> Clients<'w, W, K> {
         table.is_ready()
     }
 
-    /// Waits until something is ready, and notes what is.
+    /// Waits until something is ready, and notes what is ready.
     fn look<R: Wait + Clock>(&self, rt: &R, poller: &mut Poller) -> io::Result<()> {
         let most = if poller.calls && poller.full.is_none() {
             0
@@ -267,7 +272,7 @@ impl<'w, W: Watcher, K: Drop> Clients<'w, W, K> {
         Ok(())
     }
 
-    /// Accepts the connections that wait, so many at most.
+    /// Accepts the connections that wait, `MOST_ACCEPTED` at most.
     fn accept<R: Wait>(&self, rt: &R, poller: &mut Poller, now: u64) {
         for _ in 0..MOST_ACCEPTED {
             if self.has_all(poller) {
@@ -294,7 +299,7 @@ impl<'w, W: Watcher, K: Drop> Clients<'w, W, K> {
         }
     }
 
-    /// No connection can be had: it is tried again when one has ended, or after a second. Those that come wait, and the others go on.
+    /// No connection can be accepted. The server tries again when one has ended, or after a second. Until then new connections wait, and open ones go on.
     fn is_full<R: Wait>(&self, rt: &R, poller: &mut Poller, now: u64) {
         let open = self.table.lock(rt).open();
         poller.full = Some((now, open));
@@ -311,7 +316,7 @@ impl<'w, W: Watcher, K: Drop> Clients<'w, W, K> {
         }
     }
 
-    /// No more connections are wanted.
+    /// Accepts no more connections: all that the server is to serve have begun.
     fn stop_accepting<R: Wait>(&self, rt: &R, poller: &mut Poller) {
         poller.calls = false;
         let _ = poller.poll.registry().deregister(&mut poller.listener);
@@ -320,7 +325,7 @@ impl<'w, W: Watcher, K: Drop> Clients<'w, W, K> {
         self.end_behind_last(open);
     }
 
-    /// Takes a connection into the table. One for which memory is wanting ends at once.
+    /// Takes a connection into the table. If there is no memory for it, it ends at once.
     fn admit<R: Wait>(&self, rt: &R, poller: &mut Poller, stream: TcpStream, now: u64) {
         poller.begun = poller.begun.saturating_add(1);
         let mut stream = stream;
@@ -337,13 +342,7 @@ impl<'w, W: Watcher, K: Drop> Clients<'w, W, K> {
         let deadline = now.saturating_add(self.limits.idle.saturating_mul(1000));
         let connection = Box::new(
             self.alloc,
-            Connection::new(
-                self.alloc,
-                poller.begun,
-                stream,
-                deadline,
-                self.limits.greets,
-            ),
+            Connection::new(self.alloc, poller.begun, stream, deadline),
         );
         let mut table = self.table.lock(rt);
         match connection {
@@ -352,7 +351,7 @@ impl<'w, W: Watcher, K: Drop> Clients<'w, W, K> {
         }
     }
 
-    /// How many milliseconds have gone by; 0 where no clock can be read, and then no time is over.
+    /// How many milliseconds have passed since the start. If no clock can be read, this is 0, and no deadline passes.
     fn now<R: Clock>(&self, clock: &R) -> u64 {
         let Some(started) = self.started else {
             return 0;
@@ -366,7 +365,7 @@ impl<'w, W: Watcher, K: Drop> Clients<'w, W, K> {
         }
     }
 
-    /// Refreshes the index again and again until the last connection has ended: each time that its time is over, or many writes came.
+    /// Refreshes the index again and again until the server has ended: each time that its time is over, or `MANY` writes came.
     fn refresh_in_turn<C: Clock, P: Fn() -> bool, B: Fn() -> bool>(
         &self,
         clock: &C,
@@ -394,7 +393,7 @@ impl<'w, W: Watcher, K: Drop> Clients<'w, W, K> {
         }
     }
 
-    /// Refreshes the index where something was written. What is refused is tried again when its time is over.
+    /// Refreshes the index if something was written. If a refresh is refused, it is tried again when its time is over.
     fn refresh_once<P: Fn() -> bool, B: Fn() -> bool>(&self, show_more: &P, refresh: &B)
         requires show_more { P.Fn.pre show_more.now tt }
         requires refresh { B.Fn.pre refresh.now tt }
@@ -402,7 +401,7 @@ impl<'w, W: Watcher, K: Drop> Clients<'w, W, K> {
         if self.notes.written.load(Ordering::SeqCst) == 0 {
             return;
         }
-        // What comes from now on may not be shown by it.
+        // The refresh may not show what comes from now on.
         self.notes.written.store(0, Ordering::SeqCst);
         if show_more() {
             return;
@@ -416,7 +415,7 @@ impl<'w, W: Watcher, K: Drop> Clients<'w, W, K> {
     }
 }
 
-/// Whether it is time to accept: no connection was refused, or one has ended since, or a while has gone by.
+/// Whether it is time to accept: accepting hasn't failed, or a connection has ended since it failed, or a second has passed.
 fn may_accept(full: Option<(u64, usize)>, now: u64, open: usize) -> bool {
     match full {
         Some((since, then)) => open < then || now.saturating_sub(since) >= SWEEP,

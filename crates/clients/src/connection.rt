@@ -4,7 +4,7 @@ use crate::conversation::Conversation;
 use crate::limits::{LINGER, LONGEST_REQUEST, MOST_LINGERING, PATIENCE, SHARE, STEPS_IN_A_ROW};
 use crate::progress::Progress;
 use crate::watcher::Watcher;
-use front::Resumable;
+use front::{Resumable, Rule};
 use mio::net::TcpStream;
 use std::alloc::Global;
 use std::io::{Error, ErrorKind, Read};
@@ -15,7 +15,7 @@ use std::net::Shutdown;
 pub(crate) enum Next {
     /// It waits for its peer.
     Waits,
-    /// It has more to do, behind the others.
+    /// It has more to do, after the others.
     Goes,
     /// It needs room for a large request.
     Wants,
@@ -30,7 +30,7 @@ pub(crate) enum Held {
     ForTicket,
 }
 
-/// What the times of a connection are counted for.
+/// What a connection does now. Its deadline depends on this.
 #[derive(Clone, Copy, Debug, PartialEq, Eq)]
 enum Phase {
     Idle,
@@ -40,7 +40,7 @@ enum Phase {
     Held,
 }
 
-/// A connection, its conversation, and what it holds of the room for unfinished requests.
+/// A connection, its conversation, and what it has of the room for unfinished requests.
 #[derive(Drop)]
 pub(crate) struct Connection<K: Drop> {
     number: u64,
@@ -66,12 +66,11 @@ impl<K: Drop> Connection<K> {
         number: u64,
         stream: TcpStream,
         deadline: u64,
-        greets: bool,
     ) -> Connection<K> {
         Connection {
             number,
             stream,
-            conversation: Conversation::new(alloc, greets),
+            conversation: Conversation::new(alloc),
             progress: Progress::new(),
             answered: 0,
             drained: false,
@@ -87,9 +86,10 @@ impl<K: Drop> Connection<K> {
         }
     }
 
-    /// Does what can be done without waiting, up to so many steps.
+    /// Does what can be done without waiting, `STEPS_IN_A_ROW` steps at most.
     pub(crate) fn work<S: Resumable<Known = K>, W: Watcher>(
         &mut self,
+        rule: &Rule,
         service: &mut S,
         watcher: &W,
         room: &mut [u8],
@@ -99,7 +99,7 @@ impl<K: Drop> Connection<K> {
         }
         self.drained = false;
         for _ in 0..STEPS_IN_A_ROW {
-            let next = self.step(service, watcher, room);
+            let next = self.step(rule, service, watcher, room);
             if next != Next::Goes {
                 return next;
             }
@@ -107,9 +107,10 @@ impl<K: Drop> Connection<K> {
         Next::Goes
     }
 
-    /// Sends what waits to be sent, or else answers a request that stands whole, or else reads.
+    /// Sends what waits to be sent, or else answers a request that came whole, or else reads.
     fn step<S: Resumable<Known = K>, W: Watcher>(
         &mut self,
+        rule: &Rule,
         service: &mut S,
         watcher: &W,
         room: &mut [u8],
@@ -121,7 +122,7 @@ impl<K: Drop> Connection<K> {
             return self.linger(room);
         }
         if self.progress.may_stand(self.conversation.waiting()) {
-            return self.answer(service, watcher);
+            return self.answer(rule, service, watcher);
         }
         self.gather(room)
     }
@@ -135,18 +136,19 @@ impl<K: Drop> Connection<K> {
         }
     }
 
-    /// Answers the next request, and sends its page as far as it is taken at once. Where memory is wanting for it this connection ends.
+    /// Answers the next request, and sends as much of its page as the peer takes at once. If there is no memory for it, this connection ends.
     fn answer<S: Resumable<Known = K>, W: Watcher>(
         &mut self,
+        rule: &Rule,
         service: &mut S,
         watcher: &W,
     ) -> Next {
         if !self.conversation.is_sent() {
             return Next::Goes;
         }
-        match self.conversation.answer(service) {
+        match self.conversation.answer(rule, service) {
             Ok(Some(request)) => {
-                watcher.answered(self.number, &request, self.conversation.page());
+                watcher.answered(rule, self.number, &request, self.conversation.page());
                 self.answered = self.answered.saturating_add(1);
                 self.progress = Progress::new();
                 self.send()
@@ -179,7 +181,7 @@ impl<K: Drop> Connection<K> {
         }
     }
 
-    /// How many bytes more it may hold.
+    /// How many more bytes of an unfinished request it may keep.
     fn room_left(&self) -> usize {
         let most = if self.has_ticket {
             LONGEST_REQUEST
@@ -189,7 +191,7 @@ impl<K: Drop> Connection<K> {
         most.saturating_sub(self.conversation.waiting().len())
     }
 
-    /// Reads on for a while after the last page, so that it isn't lost where the peer still sends (RFC 9112, section 9.6).
+    /// Reads on for a while after the last page, so that the page isn't lost if the peer still sends (RFC 9112, section 9.6).
     fn linger(&mut self, room: &mut [u8]) -> Next {
         let Some(left) = self.lingers else {
             return match self.stream.shutdown(Shutdown::Write) {
@@ -211,7 +213,7 @@ impl<K: Drop> Connection<K> {
         }
     }
 
-    /// Whether it holds no byte of an unfinished request.
+    /// Whether it has no byte of an unfinished request.
     pub(crate) fn is_empty(&self) -> bool {
         self.conversation.waiting().is_empty()
     }
@@ -221,7 +223,7 @@ impl<K: Drop> Connection<K> {
         self.conversation.waiting().len() < SHARE
     }
 
-    /// What it waits for now. Its time begins anew where that is something else than before.
+    /// Notes what it waits for now. If that has changed, or a request was answered since, its time begins anew.
     pub(crate) fn rest(&mut self, now: u64, idle: u64) {
         let phase = self.phase_now();
         if phase == self.phase && self.answered == self.since {
@@ -252,7 +254,7 @@ impl<K: Drop> Connection<K> {
     }
 }
 
-/// What comes after a read or a write that gave this error.
+/// What comes next after a read or a write that returned this error.
 fn after(error: &Error) -> Next {
     match error.kind() {
         ErrorKind::WouldBlock => Next::Waits,

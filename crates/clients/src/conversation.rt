@@ -1,10 +1,8 @@
-//! What one connection has said and is told: bytes come in pieces, requests that stand whole are answered, pages go out as they are taken.
-ghost use Rattle.std.specs.Prelude.{◌≡◌, ◌↔◌, [], IsTrue, OnOk, OnErr, IfOk, string_bytes};
-ghost use Rattle.wire.specs.Reading.{IsStanding};
-ghost use Rattle.wire.specs.Requests.{Standing};
-ghost use Rattle.clients.specs.Steps.{AnsweredBy};
+//! The conversation on one connection. Bytes come in pieces, each request that came whole is answered, and pages go out as far as the peer takes them.
+ghost use Rattle.std.specs.Prelude.{◌≡◌, ◌↔◌, [], IsTrue, OnOk, OnErr, IfOk};
+ghost use Rattle.front.specs.RuleView.{rule_view};
 
-use front::{Resumable, Service, answer, greet};
+use front::{Resumable, Rule, answer_by};
 use std::alloc::{AllocError, Global};
 use std::io;
 use std::io::{Read, Write};
@@ -17,7 +15,6 @@ pub struct Conversation<K: Drop> {
     page: String,
     sent: usize,
     ended: bool,
-    greets: bool,
     known: Option<K>,
 }
 
@@ -29,7 +26,6 @@ impl<K: Drop> Drop for Conversation<K> {
             page: _page,
             sent: _,
             ended: _,
-            greets: _,
             known: _known,
         } = self;
     }
@@ -37,13 +33,12 @@ impl<K: Drop> Drop for Conversation<K> {
 
 impl<K: Drop> Conversation<K> {
     ghost use Rattle.std.specs.Io.KnownBytes.{Keeps};
-    ghost use Rattle.clients.specs.Talk.{talk, greets_of, begun};
-    ghost use Rattle.clients.specs.Steps.{Receives, SendsTo, Gathers, AnswersNext};
+    ghost use Rattle.clients.specs.Talk.{talk, begun};
+    ghost use Rattle.clients.specs.Steps.{Receives, SendsTo, Gathers, AnswersNext, BreaksNext};
 
-    /// One in which nothing was said. Its requests are answered by `greet` or by `answer`.
-    pub fn new(alloc: Global, greets: bool) -> Conversation<K>
-        ensures nothing { talk result ≡ begun }
-        ensures rule { greets_of result ≡ greets }
+    /// A conversation in which nothing has come or gone out yet.
+    pub fn new(alloc: Global) -> Conversation<K>
+        ensures { talk result ≡ begun }
     {
         Conversation {
             alloc,
@@ -51,7 +46,6 @@ impl<K: Drop> Conversation<K> {
             page: String::new(alloc),
             sent: 0,
             ended: false,
-            greets,
             known: None,
         }
     }
@@ -70,19 +64,19 @@ impl<K: Drop> Conversation<K> {
         self.ended
     }
 
-    /// The page that was answered last, whole.
+    /// The whole page of the last answer.
     pub fn page(&self) -> &str {
         self.page.as_str()
     }
 
-    /// Whether the page was sent.
+    /// Whether the whole page was sent.
     pub fn is_sent(&self) -> bool
         ensures { IsTrue result ↔ ((talk self.now).unsent ≡ []) }
     {
         self.sent >= self.page.len()
     }
 
-    /// What of the page isn't sent yet.
+    /// The part of the page that isn't sent yet.
     pub fn unsent(&self) -> &[u8]
         ensures { result.now ≡ (talk self.now).unsent }
     {
@@ -94,79 +88,62 @@ impl<K: Drop> Conversation<K> {
     pub fn receive(&mut self, bytes: &[u8]) -> Result<(), AllocError>
         ensures ok { OnOk result (Receives bytes.now (talk self.old) (talk self.new)) }
         ensures err { OnErr result (talk self.new ≡ talk self.old) }
-        ensures rule { greets_of self.new ≡ greets_of self.old }
     {
         self.waiting.extend_from_slice(bytes)
     }
 
-    /// Reads once, no more than the room holds, and takes what came, which is so many bytes: none at the end of the input.
+    /// Reads once, at most as many bytes as the room has, and takes what came. Returns how many bytes came: 0 at the end of the input.
     pub fn gather<R: Read>(&mut self, reader: &mut R, room: &mut [u8]) -> io::Result<usize>
         ensures ok { IfOk result (λ n. Gathers n (R.remaining reader.old) (R.remaining reader.new) (talk self.old) (talk self.new)) }
         ensures err { OnErr result (talk self.new ≡ talk self.old) }
-        ensures rule { greets_of self.new ≡ greets_of self.old }
     {
         let n = reader.read(room)?;
         self.receive(&room[..n])?;
         Ok(n)
     }
 
-    /// Hands the writer what of the page isn't sent, in one call, and tells how many bytes it took.
+    /// Hands the writer the part of the page that isn't sent, in one call, and returns how many bytes it took.
     pub fn send<W: Write>(&mut self, writer: &mut W) -> io::Result<usize>
         ensures ok { IfOk result (λ n. SendsTo n (W.contents writer.old) (W.contents writer.new) (talk self.old) (talk self.new)) }
         ensures err { OnErr result (Keeps (W.contents writer.old) (W.contents writer.new) × (talk self.new ≡ talk self.old)) }
-        ensures rule { greets_of self.new ≡ greets_of self.old }
     {
         let n = writer.write(self.unsent())?;
         self.sent += n;
         Ok(n)
     }
 
-    /// Answers the first request that stands whole, and gives it back; none where none does, or the stream has ended. The service goes on from what the
-    /// client knows, which then knows what it tells. The page of the request before was sent.
+    /// Answers the first request that came whole, by a rule, and returns it. Returns `None` if no request came whole, or the stream has ended. The service goes
+    /// on from what the client knows, and the client then knows what the service reports. The page of the request before must have been sent. If memory runs
+    /// out, the conversation ends.
     pub fn answer<S: Resumable<Known = K>>(
         &mut self,
+        rule: &Rule,
         service: &mut S,
     ) -> Result<Option<Whole>, StreamFault>
         requires { (talk self.old).unsent ≡ [] }
-        ensures ok { IfOk result (AnswersNext (greets_of self.old) S.answers S.knows (S.name service.old) (S.fields service.old) service.old service.new (talk self.old) (talk self.new)) }
+        ensures ok { IfOk result (AnswersNext (rule_view rule.now) S.answers S.knows (S.name service.old) (S.fields service.old) service.old service.new (talk self.old) (talk self.new)) }
+        ensures err { OnErr result (BreaksNext (rule_view rule.now) S.answers S.knows (S.name service.old) (S.fields service.old) service.old service.new (talk self.old) (talk self.new)) }
         ensures name { S.name service.new ≡ S.name service.old }
         ensures fields { S.fields service.new ≡ S.fields service.old }
-        ensures rule { greets_of self.new ≡ greets_of self.old }
     {
         if self.ended {
             return Ok(None);
         }
+        // A failure ends the conversation, so that nothing is done twice.
+        self.ended = true;
         let mut rest = self.waiting.as_slice();
         let Some(whole) = read_request(self.alloc, &mut rest)? else {
+            self.ended = false;
             return Ok(None);
         };
         let rest = rest.to_vec(self.alloc)?;
         service.resume(&self.known);
-        let page = answered(self.alloc, self.greets, service, &whole)?;
+        let page = answer_by(self.alloc, rule, service, &whole)?;
         self.known = Some(service.known());
         self.page = page;
         self.sent = 0;
         self.ended = whole.ends();
         self.waiting = rest;
         Ok(Some(whole))
-    }
-}
-
-/// Answers a request by one rule or the other.
-fn answered<S: Service>(
-    alloc: Global,
-    greets: bool,
-    service: &mut S,
-    whole: &Whole,
-) -> Result<String, StreamFault>
-    ensures ok { IfOk result (λ page. (q : Standing) → IsStanding whole.now q → AnsweredBy greets S.answers (S.name service.old) (S.fields service.old) q
-        service.old (string_bytes page) service.new) }
-    ensures name { S.name service.new ≡ S.name service.old }
-    ensures fields { S.fields service.new ≡ S.fields service.old }
-{
-    if greets {
-        greet(alloc, service, whole)
-    } else {
-        answer(alloc, service, whole)
     }
 }

@@ -7,25 +7,25 @@ pub const MOST_THREADS: usize = 64;
 /// The longest request: its head and its body, in bytes.
 pub(crate) const LONGEST_REQUEST: usize = 16_384 + 1_048_576;
 
-/// How many bytes of an unfinished request a connection may hold without a ticket.
+/// How many bytes of an unfinished request a connection may keep without a ticket.
 pub(crate) const SHARE: usize = 4096;
 
-/// After how many steps in a row a connection stands behind the others again.
+/// After this many steps in a row a connection waits until the others had their turn.
 pub(crate) const STEPS_IN_A_ROW: u64 = 32;
 
-/// How many bytes are read at once.
+/// The most bytes that are read at once.
 pub(crate) const ROOM: usize = 16_384;
 
-/// How many bytes a connection that has ended is listened to for.
+/// The most bytes that are still read from a connection that has ended.
 pub(crate) const MOST_LINGERING: usize = 2_097_152;
 
-/// How long a request may take from its first byte to its last, and a page to be taken, in milliseconds.
+/// How long a request may take from its first byte to its last, and how long a peer may take for a page, in milliseconds.
 pub(crate) const PATIENCE: u64 = 30_000;
 
-/// How long a connection that has ended is listened to for more, in milliseconds.
+/// How long a connection that has ended is still read from, in milliseconds.
 pub(crate) const LINGER: u64 = 500;
 
-/// The longest wait of a thread that polls, which is also how often times are looked at, in milliseconds.
+/// The longest wait of a thread that polls, in milliseconds. It is also the time between two looks at the deadlines.
 pub(crate) const SWEEP: u64 = 1000;
 
 /// How much is served, and how long.
@@ -33,16 +33,14 @@ pub(crate) const SWEEP: u64 = 1000;
 pub struct Limits {
     /// How many threads work, 1 to 64.
     pub threads: usize,
-    /// How many connections are served in all; with none all that come.
+    /// How many connections are served in all. With `None`, all that come.
     pub connections: Option<u64>,
-    /// How many bytes of unfinished requests are held at most.
+    /// The most bytes of unfinished requests that are kept.
     pub bytes: u64,
-    /// How long a connection is kept that asks nothing, in seconds.
+    /// How long a connection that asks nothing is kept, in seconds.
     pub idle: u64,
-    /// After how many milliseconds the index is refreshed again, or sooner, where many writes came; 0 for never.
+    /// After how many milliseconds the index is refreshed again, or sooner if many writes came; 0 for never.
     pub refresh: u64,
-    /// Whether requests are answered as the client libraries of Elasticsearch ask them.
-    pub greets: bool,
 }
 
 impl Limits {

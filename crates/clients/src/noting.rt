@@ -1,4 +1,4 @@
-//! What the threads of a server have to know of the commands that are asked.
+//! What the threads of a server must know of the commands of all threads.
 ghost use Rattle.std.specs.Prelude.{◌≡◌};
 
 use crate::poller::Poller;
@@ -45,13 +45,13 @@ fn writes_of(command: &Command) -> u64 {
     }
 }
 
-/// A service, with what is noted of its commands. It answers as the service does. Where its thread has the lead, it gives that up before a command that
-/// may wait, or where other connections are open that may take long, so that another thread goes on.
+/// A service that notes its commands, and answers as the service does. If its thread has the lead, it gives the lead up before a command that may wait, and, if
+/// other connections are open, before one that may take long. So another thread goes on.
 #[derive(Drop)]
 pub(crate) struct Noting<'a, S: Service> {
     pub(crate) service: S,
     pub(crate) notes: &'a Notes,
-    /// What the thread holds that has the lead.
+    /// The poller, if this thread has the lead.
     pub(crate) lead: Option<MutexGuard<'a, Poller>>,
     /// Whether no other connection is open.
     pub(crate) alone: bool,
@@ -86,7 +86,7 @@ impl<'a, S: Service> Service for Noting<'a, S> {
         }
         let writes = writes_of(&command);
         let reply = self.service.call(command);
-        // Behind the write, so that a refresh that takes the note back shows it.
+        // This note follows the write, so that a refresh that resets the note shows the write.
         if writes > 0 {
             self.notes.written.fetch_add(writes, Ordering::SeqCst);
         }

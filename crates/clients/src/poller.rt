@@ -1,4 +1,4 @@
-//! What is waited for: the sources, and connections that come.
+//! What threads wait for: connections that are ready, and connections that come.
 
 use mio::net::TcpListener;
 use mio::{Events, Interest, Poll, Token, Waker};
@@ -7,16 +7,16 @@ use std::net::Net;
 use std::time::Duration;
 use std::{io, net};
 
-/// The token of the listener; those of connections are their places.
+/// The token of the listener. The token of a connection is its place.
 pub(crate) const LISTENER: usize = usize::MAX;
 
 /// The token of the waker.
 const WAKER: usize = usize::MAX - 1;
 
-/// How many events are taken at once.
+/// The most events that are taken at once.
 const AT_ONCE: usize = 256;
 
-/// What one thread at a time waits at.
+/// What one thread at a time waits on.
 #[derive(Drop)]
 pub(crate) struct Poller {
     pub(crate) poll: Poll,
@@ -26,16 +26,16 @@ pub(crate) struct Poller {
     pub(crate) begun: u64,
     /// Whether connections may wait to be accepted.
     pub(crate) calls: bool,
-    /// Since when no connection could be had, and how many were open then.
+    /// Since when no connection can be accepted, and how many were open then.
     pub(crate) full: Option<(u64, usize)>,
-    /// Whether it was told that no connection could be had.
+    /// Whether it was reported that no connection can be accepted.
     pub(crate) told: bool,
-    /// When times were looked at last.
+    /// When deadlines were looked at last.
     pub(crate) swept: u64,
 }
 
 impl Poller {
-    /// One that waits for connections, and what ends its wait from another thread.
+    /// A poller that waits for connections, and a waker that ends its wait from another thread.
     pub(crate) fn new<R: Net>(
         rt: &R,
         alloc: Global,
@@ -60,7 +60,7 @@ impl Poller {
         Ok((poller, waker))
     }
 
-    /// Waits until something is ready, at most so many milliseconds.
+    /// Waits until something is ready, `most` milliseconds at most.
     pub(crate) fn wait(&mut self, most: u64) -> io::Result<()> {
         self.poll
             .poll(&mut self.events, Some(Duration::from_millis(most)))

@@ -1,11 +1,11 @@
-//! How far a request has come, so that one that comes byte by byte isn't looked at again for each byte.
+//! How much of a request has come, so that a request that comes byte by byte isn't looked at from its start for each byte.
 
 use wire::cut_at;
 
 /// The most bytes of a head.
 const MOST_HEAD: usize = 16_384;
 
-/// Where the next byte of a head stands, as the reading of requests has it.
+/// Where the next byte of a head stands, by the rules for reading requests.
 #[derive(Clone, Copy)]
 enum Place {
     Blank,
@@ -16,7 +16,7 @@ enum Place {
 }
 
 impl Place {
-    /// The place after a byte; none where the head ends with it.
+    /// The place after a byte, or none if the head ends with this byte.
     fn next(self, byte: u8) -> Option<Place> {
         match self {
             Place::Blank => Some(match byte {
@@ -52,8 +52,8 @@ enum Head {
     Whole(usize),
 }
 
-/// How many bytes of the request that stands first were looked at, and below how many it can't be whole. It says when to look, and never what stands
-/// there.
+/// How many bytes of the first request were looked at, and how many there must be before it can be whole. This says only when to look, never what the bytes
+/// are.
 #[derive(Clone, Copy)]
 pub(crate) struct Progress {
     head: Head,
@@ -62,7 +62,7 @@ pub(crate) struct Progress {
 }
 
 impl Progress {
-    /// Nothing was looked at.
+    /// No byte was looked at yet.
     pub(crate) fn new() -> Progress {
         Progress {
             head: Head::At(Place::Blank),
@@ -71,7 +71,7 @@ impl Progress {
         }
     }
 
-    /// Whether a whole request may stand in the bytes, so that it is worth to read it. The bytes that were looked at before are at their front.
+    /// Whether the bytes may have a whole request, so that it is worth reading them. They begin with the bytes that were looked at before.
     pub(crate) fn may_stand(&mut self, bytes: &[u8]) -> bool {
         if bytes.len() < self.wanted {
             return false;
@@ -95,7 +95,7 @@ impl Progress {
         self.seen >= MOST_HEAD
     }
 
-    /// No whole request stood in the bytes: where their head is whole a body is lacking, else any byte may end it.
+    /// Notes that the bytes have no whole request. If their head is whole, a part of the body is missing. Else any byte may end the request.
     pub(crate) fn missed(&mut self, bytes: &[u8]) {
         let more = bytes.len().saturating_add(1);
         self.wanted = match self.head {
@@ -107,7 +107,7 @@ impl Progress {
     }
 }
 
-/// The length of the body that a head names, 0 where it names none.
+/// The length of the body that a head names, or 0 if it names none.
 fn body_length(head: &[u8]) -> usize {
     let mut rest = head;
     while !rest.is_empty() {

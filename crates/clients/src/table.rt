@@ -5,7 +5,7 @@ use crate::connection::{Connection, Held, Next};
 use std::alloc::{AllocError, Global};
 use std::collections::VecDeque;
 
-/// A place of the table. While a thread works on a connection it isn't here; what is noted meanwhile has it looked at again.
+/// A place of the table. While a thread works on a connection, the connection isn't here. If something is noted meanwhile, the connection is looked at again.
 #[derive(Drop)]
 struct Slot<K: Drop> {
     connection: Option<Box<Connection<K>>>,
@@ -21,7 +21,7 @@ pub(crate) struct Job<K: Drop> {
     pub(crate) connection: Box<Connection<K>>,
 }
 
-/// The connections, the places that are free, and those that may have something to do, in turn.
+/// The connections, the places that are free, and the places of connections that may have something to do, in their order.
 pub(crate) struct Table<K: Drop> {
     slots: Vec<Slot<K>>,
     free: Vec<usize>,
@@ -89,7 +89,8 @@ impl<K: Drop> Table<K> {
         Ok(place)
     }
 
-    /// Something may have come for the connection at this place. An event of one that has ended has the next one at its place look in vain.
+    /// Notes that something may have come for the connection at this place. After an event of a connection that has ended, the next one at its place looks in
+    /// vain.
     pub(crate) fn note(&mut self, place: usize, closed: bool) {
         let Some(slot) = self.slots.get_mut(place) else {
             return;
@@ -109,12 +110,12 @@ impl<K: Drop> Table<K> {
         }
     }
 
-    /// Has a connection stand behind those that are ready. Where memory is wanting for that the sweep does it later.
+    /// Puts a connection after those that are ready. If there is no memory for that, the sweep does it later.
     fn queue(&mut self, place: usize) {
         let _ = self.ready.push_back(place);
     }
 
-    /// The next connection that may have something to do, and room to do it.
+    /// The next connection that may have something to do, and has room to do it.
     pub(crate) fn next(&mut self) -> Option<Job<K>> {
         for _ in 0..self.ready.len() {
             let place = self.ready.pop_front()?;
@@ -138,7 +139,7 @@ impl<K: Drop> Table<K> {
         Some(connection)
     }
 
-    /// The connection, if it has a share of the room for bytes or there is one; else it goes back, and waits.
+    /// Returns the connection if it has a share of the room for bytes, or gets one. Else the connection goes back to its place, and waits.
     fn admitted(&mut self, place: usize, mut connection: Box<Connection<K>>) -> Option<Job<K>> {
         if connection.held == Held::Free && !connection.has_share && !connection.expired {
             match self.budget.shares.take(place) {
@@ -157,7 +158,7 @@ impl<K: Drop> Table<K> {
         None
     }
 
-    /// Puts a connection back that a thread has worked on.
+    /// Puts back a connection that a thread has worked on.
     pub(crate) fn put(&mut self, job: Job<K>, next: Next, now: u64) {
         let Job {
             place,
@@ -203,12 +204,12 @@ impl<K: Drop> Table<K> {
         }
     }
 
-    /// A connection begins: it is looked at at once, since something may have come with it.
+    /// Begins a connection. A thread looks at it at once, since something may have come with it.
     pub(crate) fn start(&mut self, place: usize, connection: Box<Connection<K>>) {
         self.set(place, connection, true);
     }
 
-    /// A connection has ended, which held this; its place is free.
+    /// Ends a connection, and takes back its share and its ticket, if it had them. Its place is free again.
     pub(crate) fn end(&mut self, place: usize, has_share: bool, has_ticket: bool, now: u64) {
         if let Some(slot) = self.slots.get_mut(place) {
             slot.used = false;
@@ -218,7 +219,7 @@ impl<K: Drop> Table<K> {
         self.give_back(has_share, has_ticket, now);
     }
 
-    /// What is given back goes to those that wait for it.
+    /// Gives a share or a ticket back. It goes to the first connection that waits for it.
     fn give_back(&mut self, share: bool, ticket: bool, now: u64) {
         if share {
             if let Some(place) = self.budget.shares.give_back() {
@@ -232,7 +233,7 @@ impl<K: Drop> Table<K> {
         }
     }
 
-    /// A connection has what it waited for.
+    /// Gives a connection what it waited for.
     fn grant(&mut self, place: usize, now: u64) {
         let idle = self.idle;
         if let Some(slot) = self.slots.get_mut(place) {
@@ -249,7 +250,7 @@ impl<K: Drop> Table<K> {
         self.note(place, false);
     }
 
-    /// Has those look up whose time is over, and those that were noted for want of memory.
+    /// Queues the connections whose time is over, and those that were noted but not queued because memory ran out.
     pub(crate) fn sweep(&mut self, now: u64) {
         for place in 0..self.slots.len() {
             let Some(slot) = self.slots.get_mut(place) else {

@@ -1,17 +1,18 @@
-//! Who is told what goes on.
+//! What the server reports of what goes on.
 
+use front::Rule;
 use wire::Whole;
 
-/// Is told what goes on, by any thread.
+/// Gets reports of what goes on. Any thread may call it.
 pub trait Watcher: Sync {
-    /// A request of this connection was answered by this page. Connections are counted from 1 on.
-    fn answered(&self, _connection: u64, _request: &Whole, _page: &str) {}
+    /// A request of this connection was answered by this rule with this page. Connections are counted from 1 on.
+    fn answered(&self, _rule: &Rule, _connection: u64, _request: &Whole, _page: &str) {}
 
-    /// No connection more could be had, as where the limit of open files is reached. It is told once.
+    /// No more connections can be accepted, for example because the limit of open files is reached. This is reported once.
     fn is_full(&self) {}
 }
 
-/// One that looks away.
+/// A watcher that ignores all reports.
 #[derive(Clone, Copy)]
 pub struct NoWatcher;
 

@@ -67,7 +67,7 @@ pub record IsSettledBulk {J : Type 0} (bulk : Receipt) (c : ConfirmedBulk J) : T
   pub settled : AreBulkSettledAt c.bulk c.acknowledgements.items c.places.items
   pub behind : All (IsBehind c.bulk) c.acknowledgements.items
 
--- a bulk with an entry of its own in the journal of its copy, and for each of its writes that was kept one behind it that acknowledges it
+-- a bulk with an entry of its own in the journal of its copy, and for each of its writes that was kept one after it that acknowledges it
 pub record IsBulkConfirmed {J : Type 0} (writes : List Write) (c : ConfirmedBulk J) : Type 0 where
   pub asked : c.bulk.deed.input ≡ Bulk writes
   pub stands : IsEntry c.bulk

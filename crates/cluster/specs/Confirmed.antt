@@ -56,7 +56,7 @@ AcknowledgedBy (Err e) w = ⊥
 abbrev pub Acknowledges : Receipt → Written → Type 0
 Acknowledges r w = AcknowledgedBy r.deed.answer w
 
--- the second is of the same journal, at the place of the first or behind it
+-- the second is of the same journal, at the place of the first or after it
 pub record IsBehind (first second : Receipt) : Type 0 where
   pub stands : IsEntry second
   pub copy : second.node ≡ first.node
@@ -99,7 +99,7 @@ is_unled OutOfMemory = false
 is_unled WrongAddress = false
 is_unled Exhausted = false
 
--- whether a copy leads no more with this answer, for it counts no copies that have to acknowledge its writes, or leads anew
+-- whether a copy leads no more with this answer, for it counts no copies that have to acknowledge its writes, or leads again
 abbrev pub is_end_by : Input → Result Output CopyFault → Bool
 is_end_by input (Ok output) = (output.members == 0) || is_promotion input
 is_end_by input (Err e) = is_unled e
@@ -107,12 +107,12 @@ is_end_by input (Err e) = is_unled e
 abbrev pub is_end : Deed → Bool
 is_end d = is_end_by d.input d.answer
 
--- the second entry stands behind, and ends the lead in which the first was written
+-- the second entry stands after the first, and ends the lead in which the first was written
 pub record IsEndedBy (first second : Receipt) : Type 0 where
   pub behind : IsBehind first second
   pub ends : is_end second.deed ≡ true
 
--- a write with an entry of its own in the journal of its copy, and one behind it that acknowledges it
+-- a write with an entry of its own in the journal of its copy, and one after it that acknowledges it
 pub record IsConfirmed {J : Type 0} (write : Write) (c : Confirmed J) : Type 0 where
   pub written : Written
   pub asked : c.write.deed.input ≡ Client write

@@ -37,7 +37,7 @@ pub record IsOwnFrom (began : Copy) (j : Journal) : Type 0 where
 pub record StandsIn (js : List Journal) (r : Receipt) : Type 0 where
   pub one : Any (HasReceipt r) js
 
--- what is handed out where a cluster of so many copies ends, which began as these: the journal of the master, and one of each copy in the order of their
+-- what is handed out where a cluster of `copies` copies ends, which began as these: the journal of the master, and one of each copy in the order of their
 -- ids, each legal and those of copies of one caller, in which these receipts stand
 pub record AreHandedOut (copies : ℕ) (began : List Copy) (receipts : List Receipt) (master : Journal) (js : List Journal) : Type 0 where
   pub legal : All IsLegalJournal (master ∷ js)
@@ -59,7 +59,7 @@ pub record IsFirstLost (js : List Journal) (rs : List Receipt) (place : ℕ) : T
   pub lost : HoldsAt (IsLost js place) rs index
   pub others : AllWithin (StandsIn js) rs 0 index
 
--- the same, of journals that copies left which began as these
+-- the first of these receipts that stands in no journal of the copies, which began as these, is of this place
 pub record IsLostBy (began : List Copy) (rs : List Receipt) (place : ℕ) : Type 0 where
   pub journals : List Journal
   pub own : AllZip IsOwnFrom began journals

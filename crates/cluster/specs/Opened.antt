@@ -22,7 +22,7 @@ use Rattle.cluster.specs.declared.opening.Opened.{Opened}
 use Rattle.cluster.specs.Given.{GivenData, IsGiven}
 use Rattle.cluster.specs.Opening.{birth_of, leader_of, BeganWith, ReadyData}
 
--- the copy begins with the records that a device of its node held, in an index that began with so many copies
+-- the copy begins with the records that a device of its node held, in an index that began with `count` copies
 pub record HasKept (gave : List GivenData) (m : MappingData) (count : ℕ) (c : Copy) : Type 0 where
   pub bytes : List ℕ
   pub from : IsGiven gave c.id bytes
@@ -30,7 +30,7 @@ pub record HasKept (gave : List GivenData) (m : MappingData) (count : ℕ) (c : 
   pub read : kept bytes ≡ Ok records
   pub copy_is : c ≡ opened c.id (birth_of c.id count) m records
 
--- each copy with one of these ids was opened, or it is told why not, in order of the ids
+-- each copy with one of these ids was opened, or is listed as not, in order of the ids
 abbrev pub AreOpened : List ℕ → List Copy → List Unopened → Type 0
 AreOpened [] [] [] = Unit {0}
 AreOpened [] [] (u ∷ us) = ⊥
@@ -59,7 +59,7 @@ abbrev pub last_id : ℕ → List Copy → ℕ
 last_id id [] = id
 last_id id (c ∷ cs) = last_id c.id cs
 
--- a copy that opened, and the number behind its last operation
+-- a copy that opened, and the number after its last operation
 abbrev pub ended : Copy → Opened
 ended c = record { copy = c.id; next = next_seq (operations c) }
 
@@ -71,7 +71,7 @@ pub record IsOpenedAs (gave : List GivenData) (m : MappingData) (count id : ℕ)
   pub kept : HasKept gave m count copy
   pub end : x ≡ ended copy
 
--- one more is told of that wasn't
+-- one more is listed that wasn't
 pub record IsLeftOut (id : ℕ) (old new : List Unopened) : Type 0 where
   pub copy : Unopened
   pub id_is : copy.copy ≡ id
@@ -88,7 +88,7 @@ pub record IsPromoted (copy : ℕ) (past : List MasterEntry) : Type 0 where
   pub decision : Decision
   pub decided : IsDecided (Promote copy) decision past
 
--- of the copies that were in sync, as the master knew after some of its entries, each was opened, or it is told why not; and the last decision makes the
+-- of the copies that were in sync, as the master knew after some of its entries, each was opened, or is listed as not; and the last decision makes the
 -- one the primary that is to lead of those that opened
 pub record IsLed (gave : List GivenData) (m : MappingData) (count : ℕ) (began : List Copy) (unopened : List Unopened) (past : List MasterEntry) : Type 0 where
   pub before : List MasterEntry
@@ -100,7 +100,7 @@ pub record IsLed (gave : List GivenData) (m : MappingData) (count : ℕ) (began 
   pub leads : leader_of state.primary (map ended began) ≡ Some leader
   pub promoted : IsPromoted leader past
 
--- the index that devices held, where the master's held these bytes, and which began with so many copies: the master began with what its log kept, each
+-- the index that devices held, where the master's held these bytes, and which began with `count` copies: the master began with what its log kept, each
 -- copy in sync that opened with the records of its own device, and one of these leads
 pub record IsReopened (gave : List GivenData) (bytes : List ℕ) (m : MappingData) (count : ℕ) (began : List Copy) (unopened : List Unopened) (past : List MasterEntry) : Type 0 where
   pub first : State
@@ -108,12 +108,12 @@ pub record IsReopened (gave : List GivenData) (bytes : List ℕ) (m : MappingDat
   pub master : IsPrefix (Began first ∷ []) past
   pub led : IsLed gave m count began unopened past
 
--- they are those of a new index of so many copies, from this id on
+-- they are those of a new index of n copies, from this id on
 abbrev pub AreNew : MappingData → ℕ → ℕ → List Copy → Type 0
 AreNew m n id [] = Unit {0}
 AreNew m n id (c ∷ cs) = (c ≡ begun id n m) × AreNew m n (id + 1) cs
 
--- a new index of so many copies, where the master's device held these bytes
+-- a new index of n copies, where the master's device held these bytes
 pub record IsNewIndex (bytes : List ℕ) (m : MappingData) (n : ℕ) (began : List Copy) (past : List MasterEntry) : Type 0 where
   pub first : State
   pub read : begun_state n bytes ≡ Ok first

@@ -14,14 +14,14 @@ use Rattle.replica.specs.Copy.{Copy, opened}
 use Rattle.translog.specs.Frames.{contents_in}
 use Rattle.translog.specs.Kept.{kept}
 
--- the first frame of a master's log begins an index of so many copies; nothing where there is no frame
+-- the first frame of a master's log begins an index of this many copies; nothing where there is no frame
 abbrev pub IsFirst : List (List ℕ) → Option ℕ → Type 0
 IsFirst [] None = Unit {0}
 IsFirst [] (Some n) = ⊥
 IsFirst (content ∷ contents) None = ⊥
 IsFirst (content ∷ contents) (Some n) = entry_of content ≡ Some (Begin n)
 
--- the index of a master's log began with so many copies
+-- the index of a master's log began with this many copies
 pub record BeganWith (bytes : List ℕ) (count : Option ℕ) : Type 0 where
   pub contents : List (List ℕ)
   pub read : contents_in header bytes ≡ Ok contents
@@ -31,7 +31,7 @@ pub record BeganWith (bytes : List ℕ) (count : Option ℕ) : Type 0 where
 abbrev pub birth_of : ℕ → ℕ → Birth
 birth_of id count = if nat_le id count then First else Added
 
--- the greatest number behind the last operation of a copy
+-- the greatest number after the last operation of a copy
 abbrev pub most_of : List Opened → ℕ
 most_of [] = 0
 most_of (o ∷ os) = max o.next (most_of os)
@@ -46,7 +46,7 @@ abbrev pub is_with : ℕ → ℕ → List Opened → Bool
 is_with copy n [] = false
 is_with copy n (o ∷ os) = ((o.copy == copy) && (o.next == n)) || is_with copy n os
 
--- the copy that is to lead, of those that opened: the old primary, unless another one has an operation behind its last; else the first of those that have most
+-- the copy that is to lead, of those that opened: the old primary, unless another one has an operation after its last; else the first of those that have most
 abbrev pub leader_of : ℕ → List Opened → Option ℕ
 leader_of primary os = if is_with primary (most_of os) os then Some primary else first_with (most_of os) os
 

@@ -6,7 +6,7 @@ use cell::IndexName;
 use std::alloc::Global;
 use std::collections::VecDeque;
 
-/// The posts that are held back, oldest first: a write or a bulk for which the window has no room, and what came from callers behind it.
+/// The posts that are held back, oldest first: a write or a bulk for which the window has no room, and what came from callers after it.
 #[derive(Drop)]
 pub(crate) struct Backlog<J: IndexName> {
     posts: VecDeque<Post<J>>,
@@ -50,7 +50,7 @@ impl<J: IndexName> Backlog<J> {
         self.freed = self.posts.len();
     }
 
-    /// Puts a post behind the others. Where there is no memory for that it is handed back.
+    /// Puts a post after the others. Without memory for that it hands the post back.
     pub(crate) fn push(&mut self, post: Post<J>) -> Result<(), Post<J>>
         ensures ok { OnOk result (self.new.posts.items ≡ self.old.posts.items ++ post ∷ []) }
         ensures err { IfErr result (λ p. p ≡ post) }

@@ -25,7 +25,7 @@ pub(crate) trait Work<J: IndexName>: Drop {
     fn run(self) -> Left<J>;
 }
 
-/// What the threads of a copy are started with, beside the copy.
+/// What the threads of a copy are started with, apart from the copy.
 #[derive(Drop)]
 pub(crate) struct Start<D: LogDevice, G: Gate, J: IndexName> {
     pub(crate) alloc: Global,
@@ -35,7 +35,7 @@ pub(crate) struct Start<D: LogDevice, G: Gate, J: IndexName> {
     pub(crate) worker: Sender<Post<J>, Global>,
 }
 
-/// A copy that is to be served, and where it is told whether it is.
+/// A copy that is to be served, and the channel that says whether it is.
 #[derive(Drop)]
 pub(crate) struct Bench<R: Wait + Drop, D: LogDevice, G: Gate, J: IndexName> {
     pub(crate) rt: R,
@@ -47,7 +47,7 @@ pub(crate) struct Bench<R: Wait + Drop, D: LogDevice, G: Gate, J: IndexName> {
 }
 
 impl<R: Wait + Drop, D: LogDevice, G: Gate, J: IndexName> Work<J> for Bench<R, D, G, J> {
-    /// Takes posts in order until it is told to stop. Without memory for what searches are to see the copy isn't served.
+    /// Takes posts in order until one stops it. Without memory for what searches are to see the copy isn't served.
     fn run(self) -> Left<J> {
         let Bench {
             rt,
@@ -71,7 +71,7 @@ impl<R: Wait + Drop, D: LogDevice, G: Gate, J: IndexName> Work<J> for Bench<R, D
     }
 }
 
-/// Serves a copy until its worker is told to stop.
+/// Serves a copy until a post stops its worker.
 fn serve<R: Wait, D: LogDevice, G: Gate, J: IndexName>(
     rt: &R,
     inbox: &Receiver<Post<J>, Global>,

@@ -17,7 +17,7 @@ use std::alloc::{AllocError, Global};
 use std::sync::Wait;
 use translog::LogDevice;
 
-/// A bulk that its copy has answered, and where it is told how it ended.
+/// A bulk that its copy has answered, and the channel that says how it ends.
 #[derive(Drop)]
 struct BegunBulk<J: IndexName> {
     receipt: Receipt<J>,
@@ -26,7 +26,7 @@ struct BegunBulk<J: IndexName> {
 
 impl<D: LogDevice, J: IndexName> Client<D, J> {
     /// Has the primary do the writes of a bulk with one step, and waits until every member has those that were kept. A bulk for which the window of the
-    /// primary has no room waits for it, and what comes to that copy from callers behind it. Where there is no primary since the master could make
+    /// primary has no room waits for it, and what comes to that copy from callers after it. Where there is no primary since the master could make
     /// none, its fault says why.
     pub fn bulk<R: Wait>(&self, rt: &R, writes: Writes) -> Result<ConfirmedBulk<J>, WriteFault<J>>
         ensures confirmed { IfOk result (IsBulkConfirmed writes) }

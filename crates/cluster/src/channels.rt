@@ -4,7 +4,7 @@ use crossbeam_channel::Sender;
 use std::alloc::Global;
 use std::sync::Wait;
 
-/// Sends something, and tells whether it is on its way. Nothing but that depends on its type, so this is proved once for all.
+/// Sends something, and says whether it is on its way. Nothing but that depends on its type, so this is proved once for all.
 pub(crate) fn sent<R: Wait, T: Drop>(rt: &R, to: &Sender<T, Global>, item: T) -> bool {
     to.send(rt, item).is_ok()
 }

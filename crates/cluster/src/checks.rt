@@ -94,7 +94,7 @@ pub(crate) fn acknowledges<J: IndexName>(receipt: &Receipt<J>, written: Written)
     }
 }
 
-/// Whether the second is of the same journal, at the place of the first or behind it.
+/// Whether the second is of the same journal, at the place of the first or after it.
 pub(crate) fn is_behind<J: IndexName>(first: &Receipt<J>, second: &Receipt<J>) -> bool
     ensures { IsTrue result → IsBehind first.now second.now }
 {
@@ -118,14 +118,14 @@ pub(crate) fn are_behind<J: IndexName>(first: &Receipt<J>, others: &[Receipt<J>]
     true
 }
 
-/// Whether the second stands behind, and ends the lead in which the first was written.
+/// Whether the second stands after the first, and ends the lead in which the first was written.
 pub(crate) fn is_ended_by<J: IndexName>(first: &Receipt<J>, second: &Receipt<J>) -> bool
     ensures { IsTrue result → IsEndedBy first.now second.now }
 {
     is_behind(first, second) && is_end(second)
 }
 
-/// Whether the copy leads no more with this entry, or leads anew.
+/// Whether the copy leads no more with this entry, or leads again.
 fn is_end<J: IndexName>(receipt: &Receipt<J>) -> bool
     ensures { result ≡ spec.is_end receipt.now.deed }
 {

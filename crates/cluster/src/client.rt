@@ -236,7 +236,7 @@ impl<D: LogDevice, J: IndexName> Client<D, J> {
     }
 }
 
-/// A write that its copy has answered, and where it is told how the write ended.
+/// A write that its copy has answered, and the channel that says how it ends.
 #[derive(Drop)]
 struct Begun<J: IndexName> {
     receipt: Receipt<J>,
@@ -263,7 +263,7 @@ fn add_entry<J: IndexName>(
     Ok(())
 }
 
-/// A copy that refused is passed over, as not refreshed; want of memory is told.
+/// Passes over a copy that refused, as not refreshed; only `NoMemory` is a refusal.
 fn passed_over<J: IndexName>(fault: ClusterFault) -> Result<Option<Receipt<J>>, ClusterFault>
     ensures { IfOk result (λ o. o ≡ None) }
 {

@@ -37,7 +37,7 @@ use std::sync::{Arc, Mutex, Wait};
 use std::thread::{JoinHandle, Threads};
 use translog::LogDevice;
 
-/// What a cluster is made of, beside its nodes.
+/// What a cluster is made of, apart from its nodes.
 #[derive(Drop)]
 struct Setting<V, G, J: IndexName> {
     alloc: Global,
@@ -115,8 +115,8 @@ where
 
     /// Starts the index that devices hold; over devices that hold nothing a new one, as `start` does.
     ///
-    /// Of the copies that are in sync each is opened; the others are gone for good. The master makes its primary the primary of the next term; or
-    /// where that doesn't open, or another copy has an operation behind its last one, the first of those that have most, for its log has then lost
+    /// It opens each copy that is in sync; the others are gone permanently. The master makes its primary the primary of the next term; or
+    /// where that doesn't open, or another copy has an operation after its last one, the first of those that have most, for its log has then lost
     /// what it kept. The new primary reports those that didn't open. Where none opens the cluster is refused, and nothing is decided.
     pub fn open<R: Threads + Wait + Copy + Send + Drop + 'static>(
         rt: &R,
@@ -348,7 +348,7 @@ where
         }
     }
 
-    /// Has a copy lead, by an entry of the master behind those that are known.
+    /// Has a copy lead, by an entry of the master after those that are known.
     #[tactic(auto, using(crate::proofs::Opened::self_begins))]
     fn lead<R: Wait>(&mut self, rt: &R, known: &Past<J>, leader: u32) -> Result<(), ClusterFault>
         ensures same { (self.new.journals ≡ self.old.journals) × (self.new.label ≡ self.old.label) }
@@ -366,7 +366,7 @@ where
         Ok(())
     }
 
-    /// Opens copies, in order, and tells what each is that opened.
+    /// Opens copies, in order, and says what each is that opened.
     fn open_each<R: Threads + Wait + Copy + Send + Drop + 'static>(
         &mut self,
         rt: &R,
@@ -402,7 +402,7 @@ where
         }
     }
 
-    /// Opens a copy and starts its thread, and tells the number behind its last operation, where it opened. Want of memory is no reason to give it
+    /// Opens a copy and starts its thread, and answers the number after its last operation, where it opened. Want of memory is no reason to give it
     /// up.
     fn open_one<R: Threads + Wait + Copy + Send + Drop + 'static>(
         &mut self,
@@ -520,8 +520,8 @@ where
 
     /// Ends all threads, and hands out the journals, where they are kept: the master's, and those of the copies in the order of their ids, one for each
     /// copy that began. Each entry of a copy has its receipt in the pass of the copy's worker, and the receipts that callers kept
-    /// and hand in stand there too, else `Stray` names the place of the first that doesn't. `NoMemory` also where a copy has no journal, since memory was
-    /// wanting to start its threads.
+    /// and hand in stand there too, else `Stray` names the place of the first that doesn't. `NoMemory` also where a copy has no journal, since there was
+    /// no memory to start its threads.
     pub fn close<R: Threads + Wait>(
         self,
         rt: &R,

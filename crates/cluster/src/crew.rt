@@ -151,7 +151,7 @@ where
         }
     }
 
-    /// What the worker of a copy needs beside it.
+    /// What the worker of a copy needs apart from it.
     fn tools(&self, merges: Sender<Merging, Global>) -> Result<Tools<D, G, J>, AllocError> {
         let gate = another(&self.gate)?;
         let shared = another(&self.client.shared)?;
@@ -162,7 +162,7 @@ where
         })
     }
 
-    /// Starts the threads of a copy, and waits until it serves. Where none can be had, or it doesn't serve, memory is wanting.
+    /// Starts the threads of a copy, and waits until it serves. Where it gets no threads, or the copy doesn't serve, it answers `NoMemory`.
     fn run<R: Threads + Wait + Copy + Send + Drop + 'static>(
         &mut self,
         rt: &R,

@@ -4,8 +4,9 @@ ghost use Rattle.cluster.specs.Given.{given, GivenData};
 
 use crate::gave::Gave;
 use op::CopyIds;
+use private_file::open_to_append;
 use std::alloc::{AllocError, Global};
-use std::fs::{File, OpenFile, OpenOptions};
+use std::fs::{File, OpenFile};
 use std::io::ErrorKind;
 use std::rt::Files;
 use std::{fs, io};
@@ -35,7 +36,7 @@ pub trait Devices<D: LogDevice>: Drop {
         }
     }
 
-    /// Is told which copies are to be opened, before the first of them is.
+    /// Gets the ids of the copies that are to be opened, before the first of them is.
     fn will_open(&mut self, _copies: &CopyIds)
         ensures { gave self.new ≡ gave self.old }
     {}
@@ -129,11 +130,10 @@ impl<R: Files<File = File> + AllocGlobal + Drop> InFolder<R> {
 
     /// Opens the file of a node, which is made where it is missing; then its name is on the disk too.
     fn open(&self, node: u32, path: &str) -> io::Result<FileDevice<File>> {
-        let file = OpenOptions::new()
-            .read(true)
-            .append(true)
-            .create(true)
-            .open(&self.rt, path)?;
+        let file = open_to_append(&self.rt, path)?;
+        if node == 0 && file.try_lock().is_err() {
+            return Err(ErrorKind::WouldBlock.into());
+        }
         let device = if node > 0 && self.syncing == Syncing::Together {
             FileDevice::lazily(self.rt.alloc(), file)?
         } else {

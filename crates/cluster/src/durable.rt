@@ -13,7 +13,7 @@ use ruled::Decided;
 use std::alloc::{AllocError, Global};
 use std::marker::Model;
 
-/// Something that others may be told: it is on the disk, with all that its copy did before. Only what is in one leaves a worker.
+/// Something that may leave its worker: it is on the disk, with all that its copy did before. Only what is in one leaves a worker.
 #[derive(Drop)]
 pub(crate) struct Durable<T> {
     what: T,

@@ -65,7 +65,7 @@ pub enum WriteFault<J: IndexName> {
     NoPrimary(Receipt<J>),
     /// The copy kept the write, and was the primary no more before it was acknowledged: the write's entry, and the one that ended the role.
     Lost(Receipt<J>, Receipt<J>),
-    /// The copy kept the write, and the wait for its acknowledgement ended without one: another copy was made the primary, memory was wanting, or the
+    /// The copy kept the write, and the wait for its acknowledgement ended without one: another copy was made the primary, memory ran out, or the
     /// master's log failed where it was to take out a copy that doesn't answer. The write may be kept; with its entry.
     Unconfirmed(Receipt<J>),
     /// The cluster has no such entry to show.

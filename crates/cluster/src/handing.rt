@@ -44,8 +44,8 @@ impl<J: IndexName> HandedOut<J> {
     }
 }
 
-/// The journals of the master and of the copies that began so, which workers leave. A copy without one, since memory was wanting for it or to start its
-/// threads, is a refusal.
+/// The journals of the master and of the copies that began so, which workers leave. It refuses where a copy has none, since there was no memory for
+/// it or to start its threads.
 pub(crate) fn handed_out<D: LogDevice, J: IndexName>(
     alloc: Global,
     master: Ruled<D, J>,
@@ -66,7 +66,7 @@ pub(crate) fn handed_out<D: LogDevice, J: IndexName>(
     }
 }
 
-/// The same, where each worker has left a journal.
+/// The journals, where each worker has left one.
 fn of_copies<D: LogDevice, J: IndexName>(
     alloc: Global,
     master: Ruled<D, J>,
@@ -86,7 +86,7 @@ fn of_copies<D: LogDevice, J: IndexName>(
     looked_at(alloc, master, lefts, began, receipts)
 }
 
-/// The same, where they are those of the copies: once each receipt is seen to stand.
+/// The journals, where they are those of the copies: once each receipt is seen to stand.
 #[tactic(auto, using(crate::proofs::Handed::lost_by))]
 fn looked_at<D: LogDevice, J: IndexName>(
     alloc: Global,

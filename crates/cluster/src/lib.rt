@@ -1,4 +1,4 @@
-//! Copies that run beside one another, each on a thread of its own, and the master that tells them who leads.
+//! Copies that run concurrently, each on a thread of its own, and the master that says who leads.
 #![tactic(auto)]
 
 mod backlog;

@@ -34,7 +34,7 @@ impl<R: Wait + Drop, J: IndexName> Merger<R, J> {
         }
     }
 
-    /// Builds a merge, and tells whether the worker takes it. Without memory for it the worker is told so.
+    /// Builds a merge, and says whether the worker takes it. Without memory for it the worker gets `None`.
     fn build(&self, merging: Merging) -> bool {
         let merged = merging.build(self.alloc).ok();
         drop(merging);
@@ -75,7 +75,7 @@ impl<D: LogDevice, G: Gate, J: IndexName> Worker<D, G, J> {
         }
     }
 
-    /// Puts a merge in place that was built. One whose segments are gone by then is let go, and the next one is begun; without memory for one the next
+    /// Puts a merge in place that was built. One whose segments are gone by then is dropped, and the next one is begun; without memory for one the next
     /// refresh begins it.
     pub(crate) fn put_merged<R: Wait>(&mut self, rt: &R, merged: Option<Merged>) {
         self.merges.is_under_way = false;

@@ -43,7 +43,7 @@ fn first_count(contents: &[Vec<u8>]) -> Result<Option<u8>, LogFault>
     }
 }
 
-/// Whether the index began with a copy, of so many.
+/// Whether copy `id` is one of the `count` copies that the index began with.
 pub(crate) fn birth_of(id: u32, count: u8) -> Birth
     ensures { result ≡ birth_of id count }
 {
@@ -54,7 +54,7 @@ pub(crate) fn birth_of(id: u32, count: u8) -> Birth
     }
 }
 
-/// A copy that opened, and the number behind its last operation.
+/// A copy that opened, and the number after its last operation.
 #[derive(Clone, Copy, Drop)]
 pub(crate) struct Opened {
     pub(crate) copy: u32,
@@ -74,7 +74,7 @@ pub(crate) fn leader_of(primary: u32, opened: &[Opened]) -> Option<u32>
     }
 }
 
-/// The greatest number behind the last operation of a copy.
+/// The greatest number after the last operation of a copy.
 fn most_of(opened: &[Opened]) -> u64
     ensures { result ≡ most_of opened.now }
 {
@@ -148,7 +148,7 @@ fn ready_of<D: LogDevice, J: IndexName>(
     }
 }
 
-/// A copy of a new index of so many, over a device without records.
+/// A copy of a new index of `copies` copies, over a device without records.
 pub(crate) fn new_copy<D: LogDevice, J: IndexName>(
     alloc: Global,
     journals: Journals,

@@ -1,4 +1,4 @@
-//! What a worker has done and not told yet.
+//! What a worker has done that hasn't left it yet.
 ghost use Rattle.std.specs.Prelude.{◌≡◌, [], ◌∷◌, ◌++◌, List, IfErr, IfNone, IfSome, OnOk, OnErr};
 
 use crate::durable::Durable;
@@ -17,11 +17,11 @@ pub(crate) enum Asked<J: IndexName> {
     Call(Sender<Answered<J>, Global>),
     /// A write: its entry is answered, and later how it ended.
     Write(Sender<Answered<J>, Global>, Sender<Ending<J>, Global>),
-    /// A bulk, in the same way.
+    /// A bulk: its entry is answered, and later how it ended.
     Bulk(Sender<Answered<J>, Global>, Sender<BulkEnding<J>, Global>),
 }
 
-/// An entry that isn't told yet.
+/// An entry whose messages and answer haven't left yet.
 #[derive(Drop)]
 pub(crate) struct Entry<J: IndexName> {
     pub(crate) receipt: Receipt<J>,
@@ -66,7 +66,7 @@ impl<J: IndexName> Outbox<J> {
         self.parcels.len()
     }
 
-    /// Puts a parcel behind the others. Where there is no memory for that it is handed back.
+    /// Puts a parcel after the others. Without memory for that it hands the parcel back.
     pub(crate) fn push(&mut self, parcel: Parcel<J>) -> Result<(), Parcel<J>>
         ensures ok { OnOk result (self.new.parcels.items ≡ self.old.parcels.items ++ parcel ∷ []) }
         ensures err { IfErr result (λ p. p ≡ parcel) }

@@ -40,7 +40,7 @@ pub(crate) enum Post<J: IndexName> {
     Ask(Input, Sender<Answered<J>, Global>),
     /// A write: its own entry is answered first, and how it ended when it has.
     Write(Write, Sender<Answered<J>, Global>, Sender<Ending<J>, Global>),
-    /// A bulk, in the same way.
+    /// A bulk: its own entry is answered first, and how it ended when it has.
     Bulk(Writes, Sender<Answered<J>, Global>, Sender<BulkEnding<J>, Global>),
     /// A message, and how often it was refused for a while.
     Hand(Durable<Msg>, u32),
@@ -48,7 +48,7 @@ pub(crate) enum Post<J: IndexName> {
     Report(u32),
     /// The term of which another copy was made the primary.
     Depose(u64),
-    /// To tell what the copy has of an id.
+    /// To answer what the copy has of an id.
     Get(DocId, Sender<Result<Durable<Got<J>>, NodeFault>, Global>),
     /// A merge that was built, to be put in place; nothing where there was no memory for it.
     Merged(Option<Merged>),

@@ -18,19 +18,19 @@ use std::alloc::Global;
 use std::sync::Wait;
 use translog::{LogDevice, LogFault};
 
-/// How many posts are done at most before what they tell leaves.
+/// How many posts are done at most before what they send leaves.
 pub(crate) const TOGETHER: u32 = 1_024;
 
 /// How often a log is synced that failed to.
 const SYNCS: u32 = 3;
 
-/// What those are told whose entry couldn't be brought to the disk.
+/// The answer to those whose entry couldn't be brought to the disk.
 pub(crate) fn unsynced() -> NodeFault {
     NodeFault::Copy(CopyFault::Log(LogFault::Device))
 }
 
 impl<D: LogDevice, G: Gate, J: IndexName> Worker<D, G, J> {
-    /// Does a post, and those that wait behind it as long as something of it isn't on the disk; then what they tell leaves. Tells whether it goes on.
+    /// Does a post, and those that wait after it as long as something of it isn't on the disk; then what they send leaves. Says whether it goes on.
     /// Where each append is synced, each post leaves by itself.
     pub(crate) fn serve_waiting<R: Wait>(
         &mut self,
@@ -52,7 +52,7 @@ impl<D: LogDevice, G: Gate, J: IndexName> Worker<D, G, J> {
         goes_on
     }
 
-    /// Keeps a parcel until it is on the disk. Without memory for that it leaves at once, behind those that wait; a copy that can do neither is given up.
+    /// Keeps a parcel until it is on the disk. Without memory for that it leaves at once, after those that wait; a copy that can do neither is given up.
     pub(crate) fn keep<R: Wait>(&mut self, rt: &R, parcel: Parcel<J>) {
         let Err(parcel) = self.outbox.push(parcel) else {
             return;
@@ -67,7 +67,7 @@ impl<D: LogDevice, G: Gate, J: IndexName> Worker<D, G, J> {
         }
     }
 
-    /// Syncs the log, and lets all leave that waits for it. Where that fails nobody who asked is told anything but that, and the copy is opened again,
+    /// Syncs the log, and lets all leave that waits for it. Where that fails those who asked hear only that, and the copy is opened again,
     /// which brings to the disk what it has; then the rest leaves. Of a copy that doesn't open nothing leaves.
     pub(crate) fn release<R: Wait>(&mut self, rt: &R) {
         for _ in 0..SYNCS {
@@ -134,8 +134,8 @@ impl<D: LogDevice, G: Gate, J: IndexName> Worker<D, G, J> {
         }
     }
 
-    /// Sends what an entry sends, tells what it acknowledges, and answers it. Who waits for a write is noted before what the entry acknowledges is
-    /// told, since one copy acknowledges its write at once.
+    /// Sends what an entry sends, reports what it acknowledges, and answers it. It notes who waits for a write before it reports what the entry
+    /// acknowledges, since one copy acknowledges its write at once.
     fn tell_durable<R: Wait>(
         &mut self,
         rt: &R,
@@ -175,7 +175,7 @@ impl<D: LogDevice, G: Gate, J: IndexName> Worker<D, G, J> {
         }
     }
 
-    /// The same of the writes of a bulk that are kept.
+    /// Notes who waits for the writes of a bulk that are kept, unless another copy is the primary of a later term.
     fn note_bulk(
         &mut self,
         entry: &Durable<Receipt<J>>,
@@ -209,8 +209,8 @@ impl<D: LogDevice, G: Gate, J: IndexName> Worker<D, G, J> {
         }
     }
 
-    /// A message that didn't arrive: the primary is to report the copy that it is to, or that sent it. What the master didn't take, or can't be
-    /// told, ends all waits.
+    /// A message that didn't arrive: the primary is to report the copy that it is to, or that sent it. What the master didn't take, or nobody
+    /// can report, ends all waits.
     fn miss<R: Wait>(&mut self, rt: &R, to: u32, leads: bool) {
         let id = self.id();
         let told = if to == 0 {
@@ -225,7 +225,7 @@ impl<D: LogDevice, G: Gate, J: IndexName> Worker<D, G, J> {
         }
     }
 
-    /// Tells those whose writes an entry acknowledges.
+    /// Answers those whose writes an entry acknowledges.
     fn tell_acknowledged<R: Wait>(&mut self, rt: &R, entry: &Durable<Receipt<J>>) {
         if let Ok(output) = &entry.what().deed().answer {
             for op in output.acknowledged.as_slice() {
@@ -235,7 +235,7 @@ impl<D: LogDevice, G: Gate, J: IndexName> Worker<D, G, J> {
         }
     }
 
-    /// Tells those who wait where the copy was the primary no more, or of a later term than that of their writes.
+    /// Answers those who wait where the copy was the primary no more, or of a later term than that of their writes.
     fn tell_lost<R: Wait>(&mut self, rt: &R, entry: &Durable<Receipt<J>>, leads: bool, term: u64) {
         let leads = leads && !is_shut(entry.what());
         if !leads || !self.waits.are_of(term) {
@@ -243,7 +243,7 @@ impl<D: LogDevice, G: Gate, J: IndexName> Worker<D, G, J> {
         }
     }
 
-    /// Tells all who asked that the log has failed. What entries send and acknowledge goes on waiting.
+    /// Answers all who asked: the log has failed. What entries send and acknowledge goes on waiting.
     fn refuse_all<R: Wait>(&mut self, rt: &R) {
         for _ in 0..self.outbox.len() {
             let Some(parcel) = self.outbox.next() else {
@@ -281,7 +281,7 @@ impl<D: LogDevice, G: Gate, J: IndexName> Worker<D, G, J> {
         }
     }
 
-    /// Puts a parcel behind the others again; there is room for it.
+    /// Puts a parcel after the others again; there is room for it.
     fn put_back<R: Wait>(&mut self, rt: &R, parcel: Parcel<J>) {
         if let Err(parcel) = self.outbox.push(parcel) {
             self.withdraw(rt, parcel);
@@ -317,7 +317,7 @@ impl<D: LogDevice, G: Gate, J: IndexName> Worker<D, G, J> {
     }
 }
 
-/// Tells who asked for an entry that isn't on the disk that the log has failed; or that the copy is closed or isn't the primary, where that is the entry.
+/// Answers whoever asked for an entry that isn't on the disk: the log has failed; or the copy is closed or isn't the primary, where that is the entry.
 fn refuse<R: Wait, J: IndexName>(rt: &R, receipt: Receipt<J>, asked: Asked<J>) {
     let told = match Durable::idle(receipt) {
         Ok(entry) => Ok(entry),
@@ -343,7 +343,7 @@ fn refuse<R: Wait, J: IndexName>(rt: &R, receipt: Receipt<J>, asked: Asked<J>) {
     }
 }
 
-/// The same of an entry that is kept.
+/// `refuse` of an entry that is kept.
 fn refuse_copied<R: Wait, J: IndexName>(
     alloc: Global,
     rt: &R,
@@ -360,7 +360,7 @@ fn refuse_copied<R: Wait, J: IndexName>(
     }
 }
 
-/// Tells what the copy had of an id.
+/// Answers what the copy had of an id.
 fn tell_got<R: Wait, J: IndexName>(
     rt: &R,
     got: Got<J>,

@@ -42,7 +42,7 @@ pub(crate) fn remove_route<R: Wait, D: LogDevice, J: IndexName>(
     routes.retain(|route| route.copy != copy);
 }
 
-/// Tells all workers to end, behind what waits for them.
+/// Has all workers end, after what waits for them.
 pub(crate) fn stop<R: Wait, D: LogDevice, J: IndexName>(rt: &R, shared: &Shared<D, J>) {
     let mut routes = shared.routes.lock(rt);
     for route in routes.as_slice() {

@@ -40,7 +40,7 @@ fn is_disabled(fault: &MasterFault) -> bool {
 }
 
 impl<D: LogDevice, J: IndexName> Shared<D, J> {
-    /// Hands a post to a copy's worker, and tells whether there is one that takes it.
+    /// Hands a post to a copy's worker, and says whether there is one that takes it.
     pub(crate) fn hand<R: Wait>(&self, rt: &R, copy: u32, post: Post<J>) -> bool {
         let routes = self.routes.lock(rt);
         for route in routes.as_slice() {
@@ -57,7 +57,7 @@ impl<D: LogDevice, J: IndexName> Shared<D, J> {
         master.primary()
     }
 
-    /// The same, and after which entries of the master's journal.
+    /// The primary, and after which entries of the master's journal.
     pub(crate) fn leading<R: Wait>(&self, rt: &R) -> Leading<J>
         ensures { IsLeading result.past result.primary }
     {
@@ -74,7 +74,7 @@ impl<D: LogDevice, J: IndexName> Shared<D, J> {
         Ok(known)
     }
 
-    /// A request of the master, whose message is sent on. Where that isn't possible memory is wanting, and the decision may stand.
+    /// Asks the master, and sends its message on. Where that isn't possible it answers `NoMemory`, and the decision may stand.
     pub(crate) fn ask<R: Wait>(
         &self,
         rt: &R,
@@ -92,7 +92,7 @@ impl<D: LogDevice, J: IndexName> Shared<D, J> {
         }
     }
 
-    /// Sends the message of a decision, and tells whether it is on its way. A primary that is replaced is told first.
+    /// Sends the message of a decision, and says whether it is on its way. A primary that is replaced is deposed first.
     fn send_on<R: Wait>(
         &self,
         rt: &R,
@@ -185,7 +185,7 @@ impl<D: LogDevice, J: IndexName> Shared<D, J> {
         }
     }
 
-    /// Sends a message of a copy on its way, and tells whether it is on it.
+    /// Sends a message of a copy, and says whether it is on its way.
     pub(crate) fn post<R: Wait>(
         &self,
         rt: &R,
@@ -200,7 +200,7 @@ impl<D: LogDevice, J: IndexName> Shared<D, J> {
         self.hand(rt, to, Post::Hand(message, 0))
     }
 
-    /// Has the master decide what a message asks. What it refuses by its table is told too.
+    /// Has the master decide what a message asks. A refusal by its table counts as decided.
     fn tell<R: Wait>(&self, rt: &R, alloc: Global, pass: u64, message: &Msg) -> bool {
         match request_of(message) {
             Some(request) => match self.ask(rt, alloc, pass, request) {

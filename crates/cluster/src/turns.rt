@@ -10,7 +10,7 @@ use std::alloc::Global;
 use std::sync::Wait;
 use translog::LogDevice;
 
-/// Whether a post is a caller's, and waits behind those of callers that came before it. A searcher waits for nobody.
+/// Whether a post is a caller's, and queues after those of callers that came before it. A searcher waits for nobody.
 fn is_of_caller<J: IndexName>(post: &Post<J>) -> bool {
     match post {
         Post::Ask(_, _) | Post::Write(_, _, _) | Post::Bulk(_, _, _) | Post::Get(_, _) => true,
@@ -45,7 +45,7 @@ impl<D: LogDevice, G: Gate, J: IndexName> Worker<D, G, J> {
         None
     }
 
-    /// The same of those that are there.
+    /// The next post to do of those that are there; it waits for none.
     pub(crate) fn next_there<R: Wait>(
         &mut self,
         rt: &R,
@@ -82,7 +82,7 @@ impl<D: LogDevice, G: Gate, J: IndexName> Worker<D, G, J> {
         }
     }
 
-    /// A post that came, where it may be done now; else it is held back. Without memory for that it is let go, and its caller told so.
+    /// A post that came, where it may be done now; else it is held back. Without memory for that it is dropped, and its caller learns so.
     fn admitted(&mut self, post: Post<J>) -> Option<Post<J>> {
         let waits = is_of_caller(&post) && (!self.backlog.is_empty() || self.is_to_wait(&post));
         if !waits {

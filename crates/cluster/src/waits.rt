@@ -31,7 +31,7 @@ struct WaitingBulk<J: IndexName> {
 }
 
 impl<J: IndexName> WaitingBulk<J> {
-    /// Takes note of what an entry acknowledges, and tells whether the bulk goes on waiting. Where there is no memory for that its wait ends.
+    /// Takes note of what an entry acknowledges, and says whether the bulk goes on waiting. Without memory for that its wait ends.
     fn waits_on<R: Wait>(&mut self, rt: &R, alloc: Global, entry: &Durable<Receipt<J>>) -> bool {
         if !self.is_struck(entry) {
             return true;
@@ -47,7 +47,7 @@ impl<J: IndexName> WaitingBulk<J> {
         false
     }
 
-    /// Strikes out the writes that an entry acknowledges, and tells whether there are some.
+    /// Strikes out the writes that an entry acknowledges, and says whether there are some.
     fn is_struck(&mut self, entry: &Durable<Receipt<J>>) -> bool {
         let before = self.left.len();
         if let Ok(output) = &entry.what().deed().answer {
@@ -85,7 +85,7 @@ fn kept(alloc: Global, items: &[Item]) -> Result<Vec<Written>, AllocError> {
     Ok(kept)
 }
 
-/// The writes and the bulks of a copy that wait. One that is let go without being told of its end is unconfirmed: whether it stands is open.
+/// The writes and the bulks of a copy that wait. One that is dropped without an ending is unconfirmed: whether it stands is open.
 #[derive(Drop)]
 pub(crate) struct Waits<J: IndexName> {
     alloc: Global,
@@ -126,14 +126,14 @@ impl<J: IndexName> Waits<J> {
         });
     }
 
-    /// Tells the bulks that wait what an entry acknowledges.
+    /// Reports to the bulks that wait what an entry acknowledges.
     pub(crate) fn acknowledge_bulks<R: Wait>(&mut self, rt: &R, entry: &Durable<Receipt<J>>) {
         let alloc = self.alloc;
         self.bulks
             .retain_mut(|bulk| bulk.waits_on(rt, alloc, entry));
     }
 
-    /// Tells who waits for an operation that an entry acknowledges it.
+    /// Reports to those who wait for an operation that an entry acknowledges it.
     pub(crate) fn acknowledge<R: Wait>(&mut self, rt: &R, op: &Op, entry: &Durable<Receipt<J>>) {
         let Some(place) = self
             .items
@@ -154,7 +154,7 @@ impl<J: IndexName> Waits<J> {
             && self.bulks.iter().all(|bulk| is_of(bulk, term))
     }
 
-    /// Tells all that their copy is the primary of their term no more since this entry.
+    /// Reports to all that their copy is the primary of their term no more since this entry.
     pub(crate) fn lose<R: Wait>(&mut self, rt: &R, entry: &Durable<Receipt<J>>) {
         for waiting in self.items.drain(..) {
             if let Ok(copied) = entry.copy(self.alloc) {

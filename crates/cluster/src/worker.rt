@@ -27,7 +27,7 @@ use translog::LogDevice;
 /// How often a message is handed again that is refused for a while.
 const TRIES: u32 = 100;
 
-/// What a worker has beside its copy: the gate, what all workers share, and who builds its merges.
+/// What a worker has apart from its copy: the gate, what all workers share, and who builds its merges.
 #[derive(Drop)]
 pub(crate) struct Tools<D: LogDevice, G: Gate, J: IndexName> {
     pub(crate) gate: Arc<G, Global>,
@@ -35,7 +35,7 @@ pub(crate) struct Tools<D: LogDevice, G: Gate, J: IndexName> {
     pub(crate) merges: Sender<Merging, Global>,
 }
 
-/// A copy, what it hasn't told yet, who waits for it, which posts are held back, and its merges. It is not `Drop`: end it by `into_left`.
+/// A copy, what hasn't left it yet, who waits for it, which posts are held back, and its merges. It is not `Drop`: end it by `into_left`.
 pub(crate) struct Worker<D: LogDevice, G: Gate, J: IndexName> {
     pub(crate) alloc: Global,
     pub(crate) number: u64,
@@ -90,7 +90,7 @@ impl<D: LogDevice, G: Gate, J: IndexName> Worker<D, G, J> {
         self.copy().id()
     }
 
-    /// Does what a post asks, and tells whether it goes on.
+    /// Does what a post asks, and says whether it goes on.
     pub(crate) fn serve<R: Wait>(&mut self, rt: &R, post: Post<J>) -> bool {
         if let Post::Stop = &post {
             drop(post);
@@ -197,7 +197,7 @@ impl<D: LogDevice, G: Gate, J: IndexName> Worker<D, G, J> {
         self.mend_since(rt, was_open);
     }
 
-    /// The same of a bulk.
+    /// A bulk. A copy that the bulk has closed is mended before its answer.
     fn bulk<R: Wait>(
         &mut self,
         rt: &R,
@@ -235,7 +235,7 @@ impl<D: LogDevice, G: Gate, J: IndexName> Worker<D, G, J> {
         }
     }
 
-    /// Has the copy take a message, and tells what becomes of it.
+    /// Has the copy take a message, and says what becomes of it.
     fn fate<R: Wait>(&mut self, rt: &R, message: Msg) -> Fate {
         let was_open = self.is_open();
         let made = self.made(rt, Input::Take(message));
@@ -251,8 +251,8 @@ impl<D: LogDevice, G: Gate, J: IndexName> Worker<D, G, J> {
         fate
     }
 
-    /// Hands a message again, behind those that wait; at last it is refused, and no write waits for what it would have told. What the master tells a
-    /// copy that is closed isn't handed again: the copy is promoted anew.
+    /// Hands a message again, after those that wait; at last it is refused, and the writes that wait are to wait no longer. A message of the master to a
+    /// copy that is closed isn't handed again: the copy is promoted again.
     fn again<R: Wait>(&mut self, rt: &R, message: Durable<Msg>, tries: u32, cost: u32) {
         let from = message.what().from;
         if from == 0 && !self.is_open() {

@@ -6,6 +6,7 @@ ghost use Rattle.op.specs.Operations.{last_on, next_seq};
 use crate::operation_index::OperationIndex;
 use doc::DocId;
 use op::Op;
+use seed::Seed;
 use std::alloc::{AllocError, Global};
 use std::marker::Model;
 
@@ -33,11 +34,11 @@ impl Model for Ahead {
 
 impl Ahead {
     /// No operations.
-    pub fn new(alloc: Global) -> Ahead
+    pub fn new(alloc: Global, seed: Seed) -> Ahead
         ensures { result ≡ [] }
     {
         Ahead {
-            operations: OperationIndex::new(alloc),
+            operations: OperationIndex::new(alloc, seed),
         }
     }
 

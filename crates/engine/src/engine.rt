@@ -118,7 +118,7 @@ impl Engine {
         ensures { IfOk result (λ e. e ≡ opened_engine mapping records.items) }
     {
         let mapping = Arc::new(alloc, mapping)?;
-        let history = History::opened(alloc, records)?;
+        let history = History::opened(alloc, mapping.seed(), records)?;
         let showing = Showing::of(builder, alloc, &mapping, 0, history.slots())?;
         let point = history.len();
         Ok(Engine {
@@ -222,7 +222,7 @@ impl Engine {
         ensures next { IfOk result (λ s. s.next ≡ next_after self.now.next) }
         ensures live { IfOk result (λ s. AreLive s.live) }
     {
-        let reopened = History::opened(alloc, records)?;
+        let reopened = History::opened(alloc, self.history.seed(), records)?;
         let showing = Showing::of(
             &Segment::build,
             alloc,

@@ -22,6 +22,7 @@ use crate::slot::{LetGo, Slot};
 use chronicle::{Chronicle, Writer};
 use doc::{DocId, Source};
 use op::{Body, Op, Operations, Record, checkpoint};
+use seed::Seed;
 use std::alloc::{AllocError, Global};
 use std::marker::Model;
 use std::mem;
@@ -101,7 +102,11 @@ impl History {
     ghost use Rattle.engine.specs.Applied.{applied_of, records_after, RiseFrom};
 
     /// The history that these records are, which memory has forgotten, as the texts that newer operations replaced. No text is copied.
-    pub(crate) fn opened(alloc: Global, records: Vec<Record>) -> Result<History, AllocError>
+    pub(crate) fn opened(
+        alloc: Global,
+        seed: Seed,
+        records: Vec<Record>,
+    ) -> Result<History, AllocError>
         requires { All IsRecord records.items }
         ensures { IfOk result (λ h. h ≡ record { records = records.items; begin = length records.items }) }
     {
@@ -109,7 +114,7 @@ impl History {
         let mut before = chronicle.writer();
         append_all(&chronicle, &mut before, &records);
         let len = records.len();
-        let mut operations = operations_of(alloc, records)?;
+        let mut operations = operations_of(alloc, seed, records)?;
         operations.let_go();
         Ok(History {
             chronicle,
@@ -123,6 +128,11 @@ impl History {
         })
     }
 
+    /// What its tables hash with.
+    pub(crate) fn seed(&self) -> Seed {
+        self.operations.seed()
+    }
+
     /// Brings back the texts that were let go, from its own records. It changes nothing else.
     pub(crate) fn take_back(
         &mut self,
@@ -133,7 +143,7 @@ impl History {
         requires rules { All IsRecord records.items }
         ensures { self.new ≡ self.old }
     {
-        let operations = operations_of(alloc, records)?;
+        let operations = operations_of(alloc, self.seed(), records)?;
         self.operations = operations;
         Ok(())
     }
@@ -385,12 +395,16 @@ impl History {
 }
 
 /// The operations of records.
-fn operations_of(alloc: Global, records: Vec<Record>) -> Result<OperationIndex, AllocError>
+fn operations_of(
+    alloc: Global,
+    seed: Seed,
+    records: Vec<Record>,
+) -> Result<OperationIndex, AllocError>
     requires { All IsRecord records.items }
     ensures { IfOk result (λ i. IsKept i records.items) }
 {
     let ordered = ordered_of(alloc, records)?;
-    let latest = latest_numbers(alloc, ordered.slots())?;
+    let latest = latest_numbers(alloc, seed, ordered.slots())?;
     Ok(OperationIndex::over(ordered, latest))
 }
 

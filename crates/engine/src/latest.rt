@@ -9,6 +9,7 @@ ghost use Rattle.engine.specs.OperationIndex.{noted, number_at, raised};
 use crate::id_filter::number_of;
 use crate::id_key::IdKey;
 use doc::DocId;
+use seed::Seed;
 use std::alloc::{AllocError, Global};
 use std::collections::HashMap;
 
@@ -19,36 +20,43 @@ const TABLES: usize = 256;
 const MANY: usize = 4096;
 
 /// Each key shares the text of an operation's id.
-type Table = HashMap<IdKey, u64>;
+type Table = HashMap<IdKey, u64, Seed>;
 
 /// The number of the last operation on each id.
 #[derive(Drop)]
 pub(crate) struct Latest {
     /// None until the first id comes.
     pub(crate) tables: Vec<Table>,
+    seed: Seed,
 }
 
 impl Latest {
     /// No numbers.
-    pub(crate) fn new(alloc: Global) -> Latest
+    pub(crate) fn new(alloc: Global, seed: Seed) -> Latest
         ensures { (id : Id) → number_among result.tables.items id ≡ None }
     {
         Latest {
             tables: Vec::new(alloc),
+            seed,
         }
     }
 
     /// No numbers, and room for so many, if they are many.
-    pub(crate) fn with_room(alloc: Global, room: usize) -> Result<Latest, AllocError>
+    pub(crate) fn with_room(alloc: Global, seed: Seed, room: usize) -> Result<Latest, AllocError>
         ensures { IfOk result (λ l. (id : Id) → number_among l.tables.items id ≡ None) }
     {
         if room < MANY {
-            return Ok(Latest::new(alloc));
+            return Ok(Latest::new(alloc, seed));
         }
         // Some tables get more ids than others.
         let each = room / TABLES;
-        let tables = tables_of(alloc, each + each / 8 + 16)?;
-        Ok(Latest { tables })
+        let tables = tables_of(alloc, seed, each + each / 8 + 16)?;
+        Ok(Latest { tables, seed })
+    }
+
+    /// What its tables hash with.
+    pub(crate) fn seed(&self) -> Seed {
+        self.seed
     }
 
     /// The table that an id is in, if it is in any.
@@ -98,7 +106,7 @@ impl Latest {
         ensures same { (id : Id) → number_among self.new.tables.items id ≡ number_among self.old.tables.items id }
     {
         if self.tables.is_empty() {
-            self.tables = tables_of(alloc, 0)?;
+            self.tables = tables_of(alloc, self.seed, 0)?;
         }
         Ok(())
     }
@@ -130,13 +138,13 @@ impl Latest {
 }
 
 /// Tables with room for so many each.
-fn tables_of(alloc: Global, room: usize) -> Result<Vec<Table>, AllocError>
+fn tables_of(alloc: Global, seed: Seed, room: usize) -> Result<Vec<Table>, AllocError>
     ensures some { IfOk result (λ v. 0 < length v.items) }
     ensures none { IfOk result (λ v. (id : Id) → number_among v.items id ≡ None) }
 {
     let mut tables = Vec::with_capacity(alloc, TABLES)?;
     for _ in 0..TABLES {
-        tables.push(HashMap::with_capacity(alloc, room)?)?;
+        tables.push(HashMap::with_capacity_and_hasher(alloc, room, seed)?)?;
     }
     Ok(tables)
 }

@@ -20,6 +20,7 @@ use crate::ordered::Ordered;
 use crate::slot::{LetGo, Slot};
 use doc::DocId;
 use op::{Body, Op, Operations, Record, checkpoint};
+use seed::Seed;
 use std::alloc::{AllocError, Global};
 use std::marker::Model;
 
@@ -65,12 +66,12 @@ impl Model for OperationIndex {
 
 impl OperationIndex {
     /// No operations.
-    pub(crate) fn new(alloc: Global) -> OperationIndex
+    pub(crate) fn new(alloc: Global, seed: Seed) -> OperationIndex
         ensures { result ≡ [] }
     {
         OperationIndex {
             slots: Vec::new(alloc),
-            latest: Latest::new(alloc),
+            latest: Latest::new(alloc, seed),
             local: 0,
             settled: 0,
             has_all: true,
@@ -78,24 +79,33 @@ impl OperationIndex {
     }
 
     /// No operations, and room for so many: no table grows much while they come.
-    pub(crate) fn with_room(alloc: Global, room: usize) -> Result<OperationIndex, AllocError>
+    pub(crate) fn with_room(
+        alloc: Global,
+        seed: Seed,
+        room: usize,
+    ) -> Result<OperationIndex, AllocError>
         ensures { IfOk result (λ i. i ≡ []) }
     {
         Ok(OperationIndex {
             slots: Vec::with_capacity(alloc, room)?,
-            latest: Latest::with_room(alloc, room)?,
+            latest: Latest::with_room(alloc, seed, room)?,
             local: 0,
             settled: 0,
             has_all: true,
         })
     }
 
+    /// What its tables hash with.
+    pub(crate) fn seed(&self) -> Seed {
+        self.latest.seed()
+    }
+
     /// These operations.
-    fn of(alloc: Global, operations: &[Op]) -> Result<OperationIndex, AllocError>
+    fn of(alloc: Global, seed: Seed, operations: &[Op]) -> Result<OperationIndex, AllocError>
         requires { IsAscending operations.now }
         ensures { IfOk result (λ i. i ≡ operations.now) }
     {
-        let mut index = OperationIndex::with_room(alloc, operations.len())?;
+        let mut index = OperationIndex::with_room(alloc, seed, operations.len())?;
         for op in operations {
             index.add(alloc, op.copy(alloc)?)?;
         }
@@ -300,7 +310,7 @@ impl OperationIndex {
             }
             Record::Resync(_, known, tail) => self.resync(alloc, checkpoint::count(known), &tail),
             Record::Recover(_, all) => {
-                *self = OperationIndex::of(alloc, all.as_slice())?;
+                *self = OperationIndex::of(alloc, self.seed(), all.as_slice())?;
                 Ok(false)
             }
         }
@@ -318,7 +328,7 @@ impl OperationIndex {
             return Ok(true);
         }
         let all = operations::resynced(alloc, &self.slots, count, tail)?;
-        *self = OperationIndex::of(alloc, &all)?;
+        *self = OperationIndex::of(alloc, self.seed(), &all)?;
         Ok(false)
     }
 
@@ -479,12 +489,16 @@ fn numbers_of(alloc: Global, slots: &[Slot]) -> Result<Vec<(DocId, u64)>, AllocE
 }
 
 /// The number of the last operation on each id.
-pub(crate) fn latest_numbers(alloc: Global, slots: &[Slot]) -> Result<Latest, AllocError>
+pub(crate) fn latest_numbers(
+    alloc: Global,
+    seed: Seed,
+    slots: &[Slot],
+) -> Result<Latest, AllocError>
     requires ascending { IsAscending (ops slots.now) }
     requires whole { AreWhole slots.now }
     ensures { IfOk result (λ l. HaveLast (ops slots.now) l.tables.items) }
 {
-    let mut latest = Latest::with_room(alloc, slots.len())?;
+    let mut latest = Latest::with_room(alloc, seed, slots.len())?;
     for slot in slots {
         note(alloc, &mut latest, slot)?;
     }

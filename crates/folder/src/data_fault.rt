@@ -14,6 +14,7 @@ pub enum DataFault {
     NoIndex,
     InUse,
     File(&'static str, io::Error),
+    NotPlain(&'static str),
     Missing(&'static str),
     NotJson(serde_json::Error),
     Mapping(doc::DocFault),
@@ -23,6 +24,7 @@ pub enum DataFault {
     CopyFile(u32, io::Error),
     Copy(u32, CopyFault),
     NotLed,
+    Seed(io::Error),
     NoMemory,
 }
 
@@ -41,6 +43,10 @@ impl Display for DataFault {
             DataFault::NoIndex => write!(f, "there is no index in it: it has no mapping.json"),
             DataFault::InUse => write!(f, "another process serves it: end that one first"),
             DataFault::File(name, error) => write!(f, "{name}: {error}"),
+            DataFault::NotPlain(name) => write!(
+                f,
+                "{name} is no plain file, and a link, a FIFO or a device isn't written to"
+            ),
             DataFault::Missing(name) => {
                 write!(
                     f,
@@ -63,6 +69,7 @@ impl Display for DataFault {
                 f,
                 "copy-1.rsx can't be made the primary: it or master.log can't be written, or they don't belong together"
             ),
+            DataFault::Seed(error) => write!(f, "the system gives no random number: {error}"),
             DataFault::NoMemory => write!(f, "out of memory"),
         }
     }

@@ -8,15 +8,18 @@ use crate::mapping_file::MappingFile;
 use doc::{DocFault, Mapping, Source};
 use master::Master;
 use op::Record;
+use private_file::{check_plain, create, create_folder, open_to_append, open_to_write};
 use replica::{Birth, Copy, CopyFault};
+use seed::Seed;
 use segment::Segment;
 use std::alloc::{AllocError, Global};
-use std::fs;
-use std::fs::{File, OpenFile, OpenOptions, TryLockError};
-use std::io::{Read, Write};
+use std::fs::{File, OpenFile, TryLockError};
+use std::io::{ErrorKind, Read, Write};
+use std::random::RandomSource;
 use std::rt::Files;
 use std::sync::Arc;
 use std::thread::Threads;
+use std::{fs, io};
 use translog::{FileDevice, LogFault, MemDevice, Translog};
 
 /// The file that is locked while the folder is served.
@@ -48,7 +51,7 @@ pub struct KeptCopy {
 /// Opens the index of a folder, and begins one where there is none. With no mapping handed in it is the one that is kept, or an empty one. The segment that
 /// searches look through is built by the builder.
 pub fn open_copy<
-    R: Files<File = File> + AllocGlobal + Threads + Sync,
+    R: Files<File = File> + AllocGlobal + RandomSource + Threads + Sync,
     F: Fn(Global, &Arc<Mapping, Global>, Vec<Source>) -> Result<Segment, AllocError>,
 >(rt: &R, builder: &F, path: &str, given: Option<&MappingFile>) -> Result<KeptCopy, DataFault>
     requires { Builds F.Fn builder.now }
@@ -56,7 +59,7 @@ pub fn open_copy<
     let folder = Folder { rt, path };
     folder.make()?;
     let lock = folder.lock()?;
-    let mapping = folder.mapping(given)?;
+    let mapping = seeded(rt, folder.mapping(given)?)?;
     folder.copy(builder, mapping, lock)
 }
 
@@ -68,7 +71,7 @@ pub struct KeptFolder {
 }
 
 /// Locks the folder of an index of several copies, and makes one where there is none; its logs stay as they are.
-pub fn open_folder<R: Files<File = File> + AllocGlobal>(
+pub fn open_folder<R: Files<File = File> + AllocGlobal + RandomSource>(
     rt: &R,
     path: &str,
     given: Option<&MappingFile>,
@@ -76,22 +79,34 @@ pub fn open_folder<R: Files<File = File> + AllocGlobal>(
     let folder = Folder { rt, path };
     folder.make()?;
     let lock = folder.lock()?;
-    let mapping = folder.mapping(given)?;
+    let mapping = seeded(rt, folder.mapping(given)?)?;
     folder.check_master()?;
+    folder.check_unlocked()?;
     folder.sync()?;
     Ok(KeptFolder { mapping, lock })
 }
 
-/// What a folder keeps of an index, as it was read: nothing of it was changed. No other process serves the folder while this is held.
+/// A mapping whose index has hash tables that begin with a seed which nobody knows.
+fn seeded<R: RandomSource>(rt: &R, mapping: Mapping) -> Result<Mapping, DataFault> {
+    match Seed::random(rt) {
+        Ok(seed) => Ok(mapping.seeded(seed)),
+        Err(error) => {
+            drop(mapping);
+            Err(DataFault::Seed(error))
+        }
+    }
+}
+
+/// What a folder keeps of an index, as it was read.
 #[derive(Drop)]
 pub struct KeptRecords {
     pub text: String,
     pub mapping: Mapping,
     pub records: Vec<Record>,
-    pub lock: File,
 }
 
-/// Reads the index of a folder, as the copy has it that led last; a torn end of its log is passed over.
+/// Reads the index of a folder, as the copy has it that led last, and changes nothing. A server may write it meanwhile: a log only grows, so what is whole of
+/// it is a beginning of it, and a torn end is passed over.
 pub fn read_index<R: Files<File = File> + AllocGlobal>(
     rt: &R,
     path: &str,
@@ -102,7 +117,6 @@ pub fn read_index<R: Files<File = File> + AllocGlobal>(
     if !folder.has(MAPPING)? {
         return Err(DataFault::NoIndex);
     }
-    let lock = folder.lock()?;
     let MappingFile { text, value } = folder.mapping_file()?;
     let mapping = Mapping::from_value(rt.alloc(), &value).map_err(refused)?;
     match folder.records() {
@@ -110,7 +124,6 @@ pub fn read_index<R: Files<File = File> + AllocGlobal>(
             text,
             mapping,
             records,
-            lock,
         }),
         Err(fault) => Err(fault),
     }
@@ -146,7 +159,7 @@ impl<'a, R: Files<File = File> + AllocGlobal> Folder<'a, R> {
     fn make(&self) -> Result<(), DataFault> {
         match fs::exists(self.rt, self.path) {
             Ok(true) => Ok(()),
-            Ok(false) => fs::create_dir(self.rt, self.path).map_err(DataFault::Folder),
+            Ok(false) => create_folder(self.rt, self.path).map_err(DataFault::Folder),
             Err(error) => Err(DataFault::Folder(error)),
         }
     }
@@ -154,18 +167,9 @@ impl<'a, R: Files<File = File> + AllocGlobal> Folder<'a, R> {
     /// Locks the folder for this process.
     fn lock(&self) -> Result<File, DataFault> {
         let path = self.path_of(LOCK)?;
-        let file = match OpenOptions::new()
-            .write(true)
-            .create(true)
-            .open(self.rt, path.as_str())
-        {
-            Ok(file) => file,
-            Err(error) => return Err(DataFault::File(LOCK, error)),
-        };
-        match file.try_lock() {
-            Ok(()) => Ok(file),
-            Err(TryLockError::WouldBlock) => Err(DataFault::InUse),
-            Err(TryLockError::Error(error)) => Err(DataFault::File(LOCK, error)),
+        match open_to_write(self.rt, path.as_str()) {
+            Ok(file) => locked(LOCK, file),
+            Err(error) => Err(file_fault(LOCK, error)),
         }
     }
 
@@ -215,6 +219,7 @@ impl<'a, R: Files<File = File> + AllocGlobal> Folder<'a, R> {
 
     fn text(&self, name: &'static str) -> Result<String, DataFault> {
         let path = self.path_of(name)?;
+        self.check_file(name, path.as_str())?;
         let mut text = String::new(self.rt.alloc());
         let read = match fs::open(self.rt, path.as_str()) {
             Ok(mut file) => file.read_to_string(&mut text),
@@ -226,16 +231,26 @@ impl<'a, R: Files<File = File> + AllocGlobal> Folder<'a, R> {
         }
     }
 
+    /// Refuses to read what isn't a file: a FIFO keeps its reader waiting.
+    fn check_file(&self, name: &'static str, path: &str) -> Result<(), DataFault> {
+        match fs::metadata(self.rt, path) {
+            Ok(found) => if found.is_file() {
+                Ok(())
+            } else {
+                Err(DataFault::NotPlain(name))
+            },
+            Err(error) => Err(DataFault::File(name, error)),
+        }
+    }
+
     /// Writes the mapping of a new index so that it is there whole or not at all.
     fn keep_mapping(&self, text: &str) -> Result<(), DataFault> {
         let written = self.path_of(MAPPING_WRITTEN)?;
         let path = self.path_of(MAPPING)?;
-        let kept = write_synced(self.rt, written.as_str(), text).and_then(|()| fs::rename(
-            self.rt,
-            written.as_str(),
-            path.as_str(),
-        ));
-        match kept {
+        if let Err(error) = write_synced(self.rt, written.as_str(), text) {
+            return Err(file_fault(MAPPING_WRITTEN, error));
+        }
+        match fs::rename(self.rt, written.as_str(), path.as_str()) {
             Ok(()) => self.sync(),
             Err(error) => Err(DataFault::File(MAPPING, error)),
         }
@@ -303,6 +318,7 @@ impl<'a, R: Files<File = File> + AllocGlobal> Folder<'a, R> {
             return Ok(Vec::new(alloc));
         }
         let path = self.path_of(MASTER)?;
+        self.check_file(MASTER, path.as_str())?;
         let mut bytes = Vec::new(alloc);
         let read = match fs::open(self.rt, path.as_str()) {
             Ok(mut file) => file.read_to_end(&mut bytes),
@@ -318,7 +334,11 @@ impl<'a, R: Files<File = File> + AllocGlobal> Folder<'a, R> {
     fn kept_device(&self, copy: u32) -> Result<MemDevice, DataFault> {
         let path = self.copy_path(copy)?;
         let mut bytes = Vec::new(self.rt.alloc());
-        let read = match fs::open(self.rt, path.as_str()) {
+        let opened = check_plain(self.rt, path.as_str()).and_then(|()| fs::open(
+            self.rt,
+            path.as_str(),
+        ));
+        let read = match opened {
             Ok(file) => {
                 let mut file = file;
                 file.read_to_end(&mut bytes)
@@ -334,18 +354,28 @@ impl<'a, R: Files<File = File> + AllocGlobal> Folder<'a, R> {
     /// The device of a log, which is made where it is missing.
     fn device(&self, name: &'static str) -> Result<FileDevice<File>, DataFault> {
         let path = self.path_of(name)?;
-        let opened = match OpenOptions::new()
-            .read(true)
-            .append(true)
-            .create(true)
-            .open(self.rt, path.as_str())
-        {
-            Ok(file) => FileDevice::open(self.rt.alloc(), file),
-            Err(error) => Err(error),
+        let file = match open_to_append(self.rt, path.as_str()) {
+            Ok(file) => locked(name, file)?,
+            Err(error) => return Err(file_fault(name, error)),
         };
-        match opened {
+        match FileDevice::open(self.rt.alloc(), file) {
             Ok(device) => Ok(device),
             Err(error) => Err(DataFault::File(name, error)),
+        }
+    }
+
+    /// Whether nobody else has the master's log, where there is one. Its file is missed where it is removed, as the file `lock` isn't.
+    fn check_unlocked(&self) -> Result<(), DataFault> {
+        if !self.has(MASTER)? {
+            return Ok(());
+        }
+        let path = self.path_of(MASTER)?;
+        match open_to_append(self.rt, path.as_str()) {
+            Ok(file) => {
+                drop(locked(MASTER, file)?);
+                Ok(())
+            }
+            Err(error) => Err(file_fault(MASTER, error)),
         }
     }
 
@@ -456,10 +486,27 @@ fn opened<
     }
 }
 
-fn write_synced<R: Files<File = File>>(rt: &R, path: &str, text: &str) -> std::io::Result<()> {
-    let mut file = fs::create(rt, path)?;
+fn write_synced<R: Files<File = File>>(rt: &R, path: &str, text: &str) -> io::Result<()> {
+    let mut file = create(rt, path)?;
     file.write_all(text.as_bytes())?;
     file.sync_all()
+}
+
+/// A file that this process alone has from now on, until it is closed.
+fn locked(name: &'static str, file: File) -> Result<File, DataFault> {
+    match file.try_lock() {
+        Ok(()) => Ok(file),
+        Err(TryLockError::WouldBlock) => Err(DataFault::InUse),
+        Err(TryLockError::Error(error)) => Err(DataFault::File(name, error)),
+    }
+}
+
+fn file_fault(name: &'static str, error: io::Error) -> DataFault {
+    if error.kind() == ErrorKind::InvalidInput {
+        DataFault::NotPlain(name)
+    } else {
+        DataFault::File(name, error)
+    }
 }
 
 fn refused(fault: DocFault) -> DataFault {

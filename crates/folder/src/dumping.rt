@@ -78,8 +78,9 @@ impl From<DataFault> for DumpFault {
     }
 }
 
-/// Writes the mapping of a folder's index, or its documents as the lines of a bulk, in the order in which they were last written. The folder stays as it is.
-/// A document that a part hasn't room for is told on `errors`.
+/// Writes the mapping of a folder's index, or its documents as the lines of a bulk, in the order in which they were last written. The folder stays as it is,
+/// and a server may have it.
+/// `errors` names each document that is larger than a part.
 pub fn dump<R: Files<File = File> + AllocGlobal + Clone + Drop, O: Write, E: Write>(
     rt: &R,
     dumped: Dumped<'_>,
@@ -90,7 +91,6 @@ pub fn dump<R: Files<File = File> + AllocGlobal + Clone + Drop, O: Write, E: Wri
         text,
         mapping,
         records,
-        lock,
     } = read_index(rt, dumped.data)?;
     if dumped.mapping {
         write_line(output, text.as_str())?;
@@ -102,7 +102,6 @@ pub fn dump<R: Files<File = File> + AllocGlobal + Clone + Drop, O: Write, E: Wri
         }
     }
     output.flush()?;
-    drop(lock);
     Ok(())
 }
 

@@ -1,5 +1,6 @@
 //! Telling what the log of a copy holds.
 
+use reasons::escaped;
 use std::alloc::{AllocError, Global};
 use std::fmt::Display;
 use std::io::Write;
@@ -7,7 +8,7 @@ use std::rt::Files;
 use std::{fmt, fs, io};
 use translog::{LogFault, MemDevice, Torn, Translog};
 
-/// Why it isn't told of each file what it holds, or not each is a log.
+/// Why not each file could be read, or not each is a log.
 #[derive(Debug, Drop)]
 pub enum InspectFault {
     /// A file, and why it can't be read.
@@ -51,7 +52,13 @@ pub fn inspect<R: Files + AllocGlobal, O: Write>(
 ) -> Result<(), InspectFault> {
     let mut others: usize = 0;
     for file in files {
-        let bytes = bytes_of(rt, file.as_str())?;
+        let bytes = match bytes_of(rt, file.as_str()) {
+            Ok(bytes) => bytes,
+            Err(fault) => {
+                let _ = output.flush();
+                return Err(fault);
+            }
+        };
         if !tell(rt.alloc(), bytes, output)? {
             others = others.saturating_add(1);
         }
@@ -66,11 +73,11 @@ pub fn inspect<R: Files + AllocGlobal, O: Write>(
 fn bytes_of<R: Files + AllocGlobal>(rt: &R, file: &str) -> Result<Vec<u8>, InspectFault> {
     match fs::read(rt, file) {
         Ok(bytes) => Ok(bytes),
-        Err(error) => Err(InspectFault::Read(String::from_str(rt.alloc(), file)?, error)),
+        Err(error) => Err(InspectFault::Read(escaped(rt.alloc(), file)?, error)),
     }
 }
 
-/// Writes what a log of these bytes holds, and tells whether they are one.
+/// Writes what a log of these bytes holds, and reports whether they are one.
 fn tell<O: Write>(alloc: Global, bytes: Vec<u8>, output: &mut O) -> Result<bool, InspectFault> {
     let mut log = Translog::over(MemDevice::new(bytes));
     match log.read(alloc) {

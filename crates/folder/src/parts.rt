@@ -98,7 +98,7 @@ where
     }
 }
 
-/// Writes a part, and tells where it is one document that has more bytes than a part.
+/// Writes a part, and says so where it is one document that has more bytes than a part.
 fn write_part<R, E>(
     rt: &R,
     parts: Parts<'_>,

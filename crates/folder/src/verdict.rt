@@ -111,7 +111,7 @@ pub fn judge<O: Write, E: Write>(
     Err(verdict_of(fault, journals.len() as u64))
 }
 
-/// Why so many journals don't pass. Behind them stands the first that is missing.
+/// Why this many journals don't pass, and the first that is missing.
 fn verdict_of(fault: AuditFault, journals: u64) -> VerdictFault {
     match fault {
         AuditFault::Differs(node, 0) if node == journals => VerdictFault::Missing(node),

@@ -10,7 +10,8 @@ use Rattle.front.specs.Command.{Command}
 use Rattle.front.specs.Reply.{Reply}
 use Rattle.front.specs.Serving.{Answered, Begun}
 use Rattle.front.specs.Work.{Work, commands}
-use Rattle.front.specs.Greeting.{turned, turned_query, before_empty}
+use Rattle.front.specs.Greeting.{turned, turned_query}
+use Rattle.front.specs.Page.{before_empty}
 
 join_more : (c : ℕ) (part : List ℕ) (parts : List (List ℕ)) → 0 < length parts → join_with_byte c (map turned (part ∷ parts)) ≡ turned part ++ (c ∷ join_with_byte c (map turned parts))
 join_more c part [] h = absurd (omega arith)

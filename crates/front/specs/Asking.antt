@@ -49,7 +49,7 @@ abbrev pub is_true : Option Bool → Bool
 is_true None = false
 is_true (Some b) = b
 
--- whether these parameters may come with a method at a path
+-- whether these parameters may come with this method at this endpoint
 abbrev pub fits : Endpoint → Method → Parameters → Bool
 fits Document Get p = has_none p
 fits Document Delete p = is_none p.create && has_both p
@@ -80,7 +80,7 @@ abbrev pub text_value : Option (List ℕ) → Result Data Fault
 text_value None = Err (of_query parsing)
 text_value (Some text) = read_or_parsing (read text)
 
--- the value of a body, which stands for an empty object where it is empty
+-- the value of a body; an empty body stands for an empty object
 abbrev pub value_of : List ℕ → Result Data Fault
 value_of body = if length body == 0 then text_value (Some (codes "{}")) else text_value (text_of body)
 
@@ -119,7 +119,7 @@ count_of mapping body = do
   q ← in_query (counted_of mapping d)
   Ok (count q)
 
--- a promotion of the copy that a number is, from 1 up, of 32 bits at most
+-- the promotion of the copy with this number, which is at least 1 and has 32 bits at most
 abbrev pub promoting : Option ℕ → Result Command Fault
 promoting None = Err bad_parameter
 promoting (Some n) = if nat_lt 0 n && nat_lt n (2 ^ 32) then Ok (promote n) else Err bad_parameter
@@ -140,7 +140,7 @@ command_of mapping Refresh m id p body = Ok refresh
 command_of mapping Promote m id p body = promote_of id
 command_of mapping Bulk m id p body = Err bad_bulk
 
--- the index that items without one have
+-- the index of items that name none, if the path names it
 abbrev pub items_index : List ℕ → Option (List ℕ) → Option (List ℕ)
 items_index served None = None
 items_index served (Some named) = Some served
@@ -162,7 +162,7 @@ asked_of mapping Count m id p body named = one_of (command_of mapping Count m id
 asked_of mapping Refresh m id p body named = one_of (command_of mapping Refresh m id p body)
 asked_of mapping Promote m id p body named = one_of (command_of mapping Promote m id p body)
 
--- what a request asks, or its first fault: of the route, the index, the method, the parameters, the id, the body
+-- what a request asks, or its first fault, in the order of the route, the index, the method, the parameters, the id, the body
 unfoldable pub ask : List ℕ → MappingData → Request → Result Asked Fault
 ask index mapping r = do
   route ← route_of (cut_at 63 (origin_of r.target)).0

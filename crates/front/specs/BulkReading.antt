@@ -29,7 +29,7 @@ members_of (string s) = Err bad_bulk
 members_of (array ds) = Err bad_bulk
 members_of (object ms) = Ok ms
 
--- the one member of an object
+-- the only member of an object
 abbrev pub only : Members → Result (List ℕ × Data) Fault
 only no_members = Err bad_bulk
 only (member k d no_members) = Ok (k, d)
@@ -44,13 +44,13 @@ text_in (Some (string s)) = Ok s
 text_in (Some (array ds)) = Err bad_bulk
 text_in (Some (object ms)) = Err bad_bulk
 
--- the text of a member, or where there is none that of the path
+-- the text of a member; if the member is missing, the index of the path
 abbrev pub text_or : Option (List ℕ) → Option Data → Result (List ℕ) Fault
 text_or None d = text_in d
 text_or (Some path) None = Ok path
 text_or (Some path) (Some d) = text_in (Some d)
 
--- a number of at most 9,223,372,036,854,775,807, where there is one
+-- a number of at most 9,223,372,036,854,775,807, if there is one
 abbrev pub number_in : Option Data → Result (Option ℕ) Fault
 number_in None = Ok None
 number_in (Some null) = Err bad_bulk
@@ -62,7 +62,7 @@ number_in (Some (string s)) = Err bad_bulk
 number_in (Some (array ds)) = Err bad_bulk
 number_in (Some (object ms)) = Err bad_bulk
 
--- both numbers of a condition or none; and none where a document is to be created
+-- both numbers of a condition or neither, and neither if the action creates a document
 abbrev pub condition_in : Action → Option ℕ → Option ℕ → Result (Option Condition) Fault
 condition_in a None None = Ok None
 condition_in a None (Some term) = Err bad_bulk
@@ -116,16 +116,16 @@ abbrev pub begun_or_whole : Line → Bool → Option Line × List Item
 begun_or_whole l true = (Some l, [])
 begun_or_whole l false = (None, item_of l [] ∷ [])
 
--- one line more
+-- takes one more line
 abbrev pub took : Option (List ℕ) → Option Line → List ℕ → Result (Option Line × List Item) Fault
 took path (Some l) source = Ok (None, item_of l source ∷ [])
 took path None line = line_of path line >>= λ l. Ok (begun_or_whole l (takes_source l.action))
 
--- the same, with the items before
+-- takes one more line, with the items before it in front
 abbrev pub took_more : Option (List ℕ) → Option Line → List ℕ → List Item → Result (Option Line × List Item) Fault
 took_more path s line front = took path s line >>= λ t. Ok (t.0, front ++ t.1)
 
--- behind the last newline nothing stands, and no line waits for its source
+-- nothing follows the last newline, and no line waits for its source
 abbrev pub ended : Option Line → List ℕ → Result (List Item) Fault
 ended (Some l) rest = Err bad_bulk
 ended None rest = if length rest == 0 then Ok [] else Err bad_bulk
@@ -136,13 +136,13 @@ items_from path s [] = Err bad_bulk
 items_from path s (last ∷ []) = ended s last
 items_from path s (line ∷ p ∷ ps) = took path s line >>= λ t. items_from path t.0 (p ∷ ps) >>= λ items. Ok (t.1 ++ items)
 
--- the same, with the items before
+-- the items of the parts between newlines, with the items before them in front
 abbrev pub items_more : Option (List ℕ) → Option Line → List (List ℕ) → List Item → Result (List Item) Fault
 items_more path s parts front = items_from path s parts >>= λ items. Ok (front ++ items)
 
 abbrev pub ended_more : Option Line → List ℕ → List Item → Result (List Item) Fault
 ended_more s rest front = ended s rest >>= λ items. Ok (front ++ items)
 
--- the items of a body, which isn't empty
+-- the items of a body, which must not be empty
 unfoldable pub items_in : Option (List ℕ) → List ℕ → Result (List Item) Fault
 items_in path body = if length body == 0 then Err bad_bulk else items_from path None (slice_split (λ b. b == 10) body)

@@ -1,27 +1,47 @@
--- Requests as the client libraries of Elasticsearch ask them, and the pages of these.
-use Rattle.std.specs.Prelude.{◌≡◌, ℕ, ◌==◌, ◌&&◌, ◌||◌, not, Bool, true, false, bytes_eq, codes, length, map, take, List, [], ◌∷◌, ◌++◌, Option, Some, None, Result, Ok, Err, if◌then◌else◌}
+-- Requests as the client libraries of Elasticsearch send them, and the pages of these.
+use Rattle.std.specs.Prelude.{ℕ, ◌==◌, ◌&&◌, ◌||◌, not, Bool, true, false, bytes_eq, codes, length, map, List, [], ◌∷◌, ◌++◌, Option, Some, None, Result, Ok, Err, ⊤, if◌then◌else◌}
 use Rattle.std.specs.List.{slice_split, join_with_byte}
 use Rattle.percent_encoding.specs.Percent.{percent_decode}
 use Rattle.doc.specs.Mapping.{MappingData}
 use Rattle.doc.specs.Outcome.{◌>>=◌}
 use Rattle.wire.specs.Framing.{Request}
 use Rattle.wire.specs.Pieces.{cut_at}
-use Rattle.wire.specs.Requests.{Standing, bad, good}
 use Rattle.front.specs.declared.greeting.Welcome.{Welcome}
 use Rattle.front.specs.declared.greeting.Welcome.TheVariants.{Nothing, Greeting, Presence}
 use Rattle.front.specs.declared.page.Status.TheVariants as status
-use Rattle.front.specs.Asking.{or_nothing, has_none}
-use Rattle.front.specs.Command.{Command}
-use Rattle.front.specs.Fault.{Fault, no_index, bad_parameter}
-use Rattle.front.specs.Page.{response, fault_page}
-use Rattle.front.specs.Reply.{Reply}
-use Rattle.front.specs.Serving.{Answered}
-use Rattle.front.specs.Target.{check, origin_of, parameters_of}
-use Rattle.front.specs.Work.{work_of}
+use Rattle.front.specs.declared.target.Endpoint.{Endpoint}
+use Rattle.front.specs.declared.target.Endpoint.TheVariants.{Document}
+use Rattle.front.specs.Asking.{ask, or_nothing, has_none}
+use Rattle.front.specs.Fault.{Fault, no_route, no_index, bad_parameter, type_in_path, no_handler}
+use Rattle.front.specs.Page.{response, fault_page, before_empty}
+use Rattle.front.specs.Target.{Route, check, origin_of, route_of, parameters_of}
+use Rattle.front.specs.Work.{Work, refused, worked}
 
--- a parameter: a refresh that is waited for is one that is done
+-- parameters that client libraries send by default, and that could change no answer here: how long to wait, and where to look first
+abbrev pub names_time : List ℕ → Bool
+names_time name = bytes_eq name (codes "master_timeout") || bytes_eq name (codes "preference") || bytes_eq name (codes "request_cache") || bytes_eq name (codes "timeout")
+
+-- what to do about other indices
+abbrev pub names_indices : List ℕ → Bool
+names_indices name = bytes_eq name (codes "allow_no_indices") || bytes_eq name (codes "expand_wildcards") || bytes_eq name (codes "ignore_throttled") || bytes_eq name (codes "ignore_unavailable")
+
+-- how to ask several shards
+abbrev pub names_shards : List ℕ → Bool
+names_shards name = bytes_eq name (codes "allow_partial_search_results") || bytes_eq name (codes "batched_reduce_size") || bytes_eq name (codes "ccs_minimize_roundtrips") || bytes_eq name (codes "max_concurrent_shard_requests") || bytes_eq name (codes "pre_filter_shard_size")
+
+-- how to score, and how to spell what pages here don't have
+abbrev pub names_form : List ℕ → Bool
+names_form name = bytes_eq name (codes "error_trace") || bytes_eq name (codes "human") || bytes_eq name (codes "search_type") || bytes_eq name (codes "typed_keys")
+
+abbrev pub is_idle_name : List ℕ → Bool
+is_idle_name name = names_time name || names_indices name || names_shards name || names_form name
+
+unfoldable pub is_idle : List ℕ → Bool
+is_idle parameter = is_idle_name (cut_at 61 parameter).0
+
+-- a parameter as it is done: `refresh=wait_for` becomes `refresh=true`, and one that could change no answer becomes empty, so that it counts for none
 abbrev pub turned : List ℕ → List ℕ
-turned parameter = if bytes_eq parameter (codes "refresh=wait_for") then codes "refresh=true" else parameter
+turned parameter = if bytes_eq parameter (codes "refresh=wait_for") then codes "refresh=true" else (if is_idle parameter then [] else parameter)
 
 abbrev pub turned_query : List ℕ → List ℕ
 turned_query query = join_with_byte 38 (map turned (slice_split (λ b. b == 38) query))
@@ -36,19 +56,44 @@ turned_target target = with_query (cut_at 63 target).0 (cut_at 63 target).1
 abbrev pub is_head : Request → Bool
 is_head r = bytes_eq r.method (codes "HEAD")
 
--- what is done for a request is what is done for this one: a GET where only the head of its page is wanted
+-- the request that is done in place of this one: a HEAD becomes a GET, and `refresh=wait_for` becomes `refresh=true`
 abbrev pub turned_request : Request → Request
-turned_request r = record { method = if is_head r then codes "GET" else r.method; target = turned_target r.target; body = r.body }
+turned_request r = record { method = if is_head r then codes "GET" else r.method; target = turned_target r.target; body = r.body; sender = r.sender }
 
-abbrev pub greeted : Standing → Standing
-greeted (bad f) = bad f
-greeted (good r) = good (turned_request r)
+-- endpoints that older client libraries write after a type, in the place where this server reads an id
+abbrev pub is_typed_id : List ℕ → Bool
+is_typed_id id = bytes_eq id (codes "_search") || bytes_eq id (codes "_count") || bytes_eq id (codes "_bulk") || bytes_eq id (codes "_mget")
+
+abbrev pub is_document : Endpoint → Bool
+is_document Document = true
+is_document e = false
+
+-- client libraries take 404 for a document that isn't there, so a path without an endpoint has another page than that
+abbrev pub handled_route : Result Route Fault → Result ⊤ Fault
+handled_route (Err no_route) = Err no_handler
+handled_route (Err f) = Ok tt
+handled_route (Ok route) = check (not (is_document route.endpoint && is_typed_id route.id)) type_in_path
+
+-- whether an endpoint has the path, and has it where no type is, or the first fault
+unfoldable pub handled : Request → Result ⊤ Fault
+handled r = handled_route (route_of (cut_at 63 (origin_of r.target)).0)
+
+abbrev pub handled_work : Result ⊤ Fault → Work → Work
+handled_work (Err f) work = refused f
+handled_work (Ok u) work = work
+
+unfoldable pub turned_work : List ℕ → MappingData → Request → Work
+turned_work index mapping r = worked index mapping (ask index mapping (turned_request r))
+
+-- what is done for a request
+abbrev pub greeted_work : List ℕ → MappingData → Request → Work
+greeted_work index mapping r = handled_work (handled r) (turned_work index mapping r)
 
 abbrev pub part_alone : List ℕ × Option (List ℕ) → Option (List ℕ)
 part_alone (part, None) = Some (percent_decode part)
 part_alone (part, Some others) = None
 
--- the decoded part of a path that has no other
+-- the decoded part of a path that has only one
 abbrev pub only_part : List ℕ → Option (List ℕ)
 only_part [] = None
 only_part (b ∷ bs) = if b == 47 then part_alone (cut_at 47 bs) else None
@@ -56,38 +101,33 @@ only_part (b ∷ bs) = if b == 47 then part_alone (cut_at 47 bs) else None
 abbrev pub greeting_for : Request → Welcome
 greeting_for r = if is_head r || bytes_eq r.method (codes "GET") then Greeting else Nothing
 
--- `GET /` and `HEAD /` ask for the greeting, and HEAD of an index whether it is served
+-- `GET /` and `HEAD /` ask for the greeting, and HEAD of an index asks whether it is served
 abbrev pub welcome_at : List ℕ → Request → Option (List ℕ) → Result Welcome Fault
 welcome_at index r None = Ok Nothing
 welcome_at index r (Some part) =
     if length part == 0 then Ok (greeting_for r)
     else (if is_head r && not (bytes_eq part (codes "_bulk")) then (if bytes_eq part index then Ok Presence else Err no_index) else Ok Nothing)
 
--- these have the parameters of a GET of a document
+-- these requests may have the parameters that a GET of a document may have
 abbrev pub fitting : List ℕ → Welcome → Result Welcome Fault
 fitting query Nothing = Ok Nothing
 fitting query w = parameters_of query >>= λ p. check (has_none p) bad_parameter >>= λ fit. Ok w
 
--- what a request asks that no command answers, or its first fault
+-- what a request asks for that no command answers, or its first fault
 unfoldable pub welcome_of : List ℕ → Request → Result Welcome Fault
 welcome_of index r = welcome_at index r (only_part (cut_at 63 (origin_of r.target)).0) >>= fitting (or_nothing (cut_at 63 (origin_of r.target)).1)
 
 abbrev pub greeting : List ℕ
 greeting = codes "{\"cluster_name\":\"indexd\",\"cluster_uuid\":\"_na_\",\"name\":\"indexd\",\"tagline\":\"You Know, for Search\",\"version\":{\"build_flavor\":\"default\",\"build_snapshot\":false,\"minimum_index_compatibility_version\":\"6.0.0-beta1\",\"minimum_wire_compatibility_version\":\"6.8.0\",\"number\":\"7.10.2\"}}"
 
--- the page of a request, given that of its commands
+-- the page of a request, made from the page of its commands
 abbrev pub welcome_page : Result Welcome Fault → List ℕ → List ℕ
 welcome_page (Err f) page = fault_page f
 welcome_page (Ok Nothing) page = page
 welcome_page (Ok Greeting) page = response status.Good [] greeting
 welcome_page (Ok Presence) page = response status.Good [] []
 
--- what stands in front of the first empty line
-abbrev pub before_empty : List ℕ → List ℕ
-before_empty [] = []
-before_empty (b ∷ bs) = if bytes_eq (take 4 (b ∷ bs)) (codes "\r\n\r\n") then [] else b ∷ before_empty bs
-
--- the head of a page after which the stream ends
+-- the head of a page, with a field that says that the stream ends after it
 unfoldable pub head_alone : List ℕ → List ℕ
 head_alone page = before_empty page ++ codes "\r\nconnection: close\r\n\r\n"
 
@@ -95,12 +135,5 @@ abbrev pub headed : Bool → List ℕ → List ℕ
 headed true page = head_alone page
 headed false page = page
 
-abbrev pub greeted_page : List ℕ → Standing → List ℕ → List ℕ
-greeted_page index (bad f) page = page
-greeted_page index (good r) page = headed (is_head r) (welcome_page (welcome_of index r) page)
-
--- the service was called with just the commands of what the request is turned into, and this is the page that is made of its page
-pub record Greeted {S : Type 0} (answers : S → Command → Reply → S → Type 0) (index : List ℕ) (mapping : MappingData) (q : Standing) (s : S) (out : List ℕ) (t : S) : Type 0 where
-  pub page : List ℕ
-  pub answered : Answered answers index (work_of index mapping (greeted q)) s page t
-  pub is_page : out ≡ greeted_page index q page
+abbrev pub greeted_page : List ℕ → Request → List ℕ → List ℕ
+greeted_page index r page = headed (is_head r) (welcome_page (welcome_of index r) page)

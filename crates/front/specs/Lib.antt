@@ -18,3 +18,6 @@ pub mod BulkView
 pub mod Work
 pub mod Serving
 pub mod Greeting
+pub mod Admission
+pub mod RuleView
+pub mod Rule

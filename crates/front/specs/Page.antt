@@ -1,5 +1,5 @@
 -- The pages that are written.
-use Rattle.std.specs.Prelude.{ℕ, List, [], ◌∷◌, ◌++◌, length, codes, decimal, Option, Some, None}
+use Rattle.std.specs.Prelude.{ℕ, List, [], ◌∷◌, ◌++◌, length, take, drop, bytes_eq, codes, decimal, Option, Some, None, if◌then◌else◌}
 use Rattle.json.specs.Print.{quoted}
 use Rattle.doc.specs.Fault as doc
 use Rattle.query.specs.Fault as query
@@ -16,17 +16,19 @@ use Rattle.front.specs.declared.target.Endpoint.{Endpoint}
 use Rattle.front.specs.declared.target.Endpoint.TheVariants.{Document, Create, Search, Count, Refresh, Bulk, Promote}
 use Rattle.front.specs.Command.{Command, write, bulk, get, search, count, refresh, promote}
 use Rattle.wire.specs.Fault.{bad_head, transfer_coding, body_too_large}
-use Rattle.front.specs.Fault.{Fault, of_head, no_route, no_index, bad_method, bad_parameter, bad_bulk, of_document, of_query}
+use Rattle.front.specs.Fault.{Fault, of_head, no_route, no_index, bad_method, bad_parameter, bad_bulk, foreign_origin, foreign_host, type_in_path, no_handler, of_document, of_query}
 use Rattle.front.specs.Reply.{Reply, wrote, got, hits, counted, refreshed, promoted, refused}
 
 abbrev pub number_of : Status → List ℕ
 number_of status.Good = codes "200"
 number_of status.Created = codes "201"
 number_of status.BadRequest = codes "400"
+number_of status.Forbidden = codes "403"
 number_of status.NotFound = codes "404"
 number_of status.BadMethod = codes "405"
 number_of status.Conflict = codes "409"
 number_of status.TooLarge = codes "413"
+number_of status.Misdirected = codes "421"
 number_of status.TooMany = codes "429"
 number_of status.NotImplemented = codes "501"
 number_of status.Unavailable = codes "503"
@@ -35,10 +37,12 @@ abbrev pub reason_of : Status → List ℕ
 reason_of status.Good = codes "OK"
 reason_of status.Created = codes "Created"
 reason_of status.BadRequest = codes "Bad Request"
+reason_of status.Forbidden = codes "Forbidden"
 reason_of status.NotFound = codes "Not Found"
 reason_of status.BadMethod = codes "Method Not Allowed"
 reason_of status.Conflict = codes "Conflict"
 reason_of status.TooLarge = codes "Content Too Large"
+reason_of status.Misdirected = codes "Misdirected Request"
 reason_of status.TooMany = codes "Too Many Requests"
 reason_of status.NotImplemented = codes "Not Implemented"
 reason_of status.Unavailable = codes "Service Unavailable"
@@ -47,6 +51,15 @@ reason_of status.Unavailable = codes "Service Unavailable"
 unfoldable pub response : Status → List ℕ → List ℕ → List ℕ
 response s allow body =
     codes "HTTP/1.1 " ++ (number_of s ++ (codes " " ++ (reason_of s ++ (codes "\r\ncontent-type: application/json\r\ncontent-length: " ++ (decimal (length body) ++ (codes "\r\n" ++ (allow ++ (codes "\r\n" ++ body))))))))
+
+-- what stands before the first empty line
+abbrev pub before_empty : List ℕ → List ℕ
+before_empty [] = []
+before_empty (b ∷ bs) = if bytes_eq (take 4 (b ∷ bs)) (codes "\r\n\r\n") then [] else b ∷ before_empty bs
+
+-- a page with more fields after its own
+unfoldable pub with_fields : List ℕ → List ℕ → List ℕ
+with_fields fields page = before_empty page ++ (fields ++ drop (length (before_empty page)) page)
 
 abbrev pub methods_of : Endpoint → List ℕ
 methods_of Document = codes "DELETE, GET, POST, PUT"
@@ -68,6 +81,10 @@ kind_of (of_query f) = (status.BadRequest, codes "query_fault")
 kind_of (of_head bad_head) = (status.BadRequest, codes "request_fault")
 kind_of bad_parameter = (status.BadRequest, codes "request_fault")
 kind_of bad_bulk = (status.BadRequest, codes "request_fault")
+kind_of type_in_path = (status.BadRequest, codes "request_fault")
+kind_of no_handler = (status.BadRequest, codes "no_route")
+kind_of foreign_origin = (status.Forbidden, codes "sender_fault")
+kind_of foreign_host = (status.Misdirected, codes "sender_fault")
 kind_of no_index = (status.NotFound, codes "index_not_found_exception")
 kind_of no_route = (status.NotFound, codes "no_route")
 kind_of (bad_method k) = (status.BadMethod, codes "method_fault")
@@ -80,6 +97,10 @@ name_of (of_query f) = query.name_of f
 name_of (of_head bad_head) = codes "BadHead"
 name_of bad_parameter = codes "BadParameter"
 name_of bad_bulk = codes "BadBulk"
+name_of type_in_path = codes "TypeInPath"
+name_of no_handler = codes "NoHandler"
+name_of foreign_origin = codes "ForeignOrigin"
+name_of foreign_host = codes "ForeignHost"
 name_of no_index = codes "NoIndex"
 name_of no_route = codes "NoRoute"
 name_of (bad_method k) = codes "BadMethod"
@@ -111,7 +132,7 @@ refusal_kind VersionConflict = (status.Conflict, codes "version_conflict_engine_
 refusal_kind WindowFull = (status.TooMany, codes "window_full")
 refusal_kind r = (status.Unavailable, codes "unavailable")
 
--- the object that tells a refusal
+-- the object that names a fault or a refusal
 unfoldable pub error : List ℕ → List ℕ → List ℕ
 error name kind = codes "{\"reason\":\"" ++ (name ++ (codes "\",\"type\":\"" ++ (kind ++ codes "\"}")))
 
@@ -139,7 +160,7 @@ outcome_status Updated = status.Good
 outcome_status Deleted = status.Good
 outcome_status NotFound = status.NotFound
 
--- what stands first in the object of a document
+-- the first fields in the object of a document: its id and its index
 unfoldable pub place : List ℕ → List ℕ → List ℕ
 place id index = codes "\"_id\":" ++ (quoted id ++ (codes ",\"_index\":" ++ quoted index))
 
@@ -174,7 +195,7 @@ hit_middle index = codes ",\"_index\":" ++ (quoted index ++ codes ",\"_score\":n
 unfoldable pub hit_text : List ℕ → Hit → List ℕ
 hit_text middle h = codes "{\"_id\":" ++ (quoted h.id ++ (middle ++ (h.source ++ codes "}")))
 
--- the hits, with a comma between two
+-- the hits, with a comma before each
 abbrev pub more_hits : List ℕ → List Hit → List ℕ
 more_hits middle [] = []
 more_hits middle (h ∷ hs) = codes "," ++ (hit_text middle h ++ more_hits middle hs)
@@ -216,7 +237,7 @@ subject_of (count q) = counting
 subject_of refresh = refreshing
 subject_of (promote copy) = promoting
 
--- the page of a reply; a reply of another kind than the command's is told as a refusal
+-- the page of a reply; for a reply of another kind than the command's, the page of the refusal `Mismatch`
 abbrev pub reply_page : List ℕ → Subject → Reply → List ℕ
 reply_page index s (refused r) = refusal_page r
 reply_page index (written id) (wrote w) = wrote_page index id w

@@ -1,4 +1,4 @@
--- A route as it is kept.
+-- A route as the program keeps it.
 use Rattle.std.specs.Prelude.{option_map}
 use Rattle.front.specs.declared.target.Route as kept
 use Rattle.front.specs.Target.{Route}

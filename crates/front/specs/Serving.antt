@@ -11,7 +11,7 @@ use Rattle.wire.specs.Requests.{Standing, requests}
 use Rattle.front.specs.Calls.{Calls}
 use Rattle.front.specs.Work.{Work, work_of, commands, page}
 
--- the service was called with just the commands of this work, and this is the page of its replies
+-- the service was called with exactly the commands of this work, and this is the page of its replies
 pub record Answered {S : Type 0} (answers : S → Command → Reply → S → Type 0) (index : List ℕ) (w : Work) (s : S) (out : List ℕ) (t : S) : Type 0 where
   pub replies : List Reply
   pub called : Calls answers s (commands w) replies t
@@ -31,7 +31,7 @@ Serves {S} answers index mapping s [] out t = (t ≡ s) × (out ≡ [])
 Serves {S} answers index mapping s (q ∷ qs) out t =
     (m : S) × (one : List ℕ) × (rest : List ℕ) × Answered answers index (work_of index mapping q) s one m × Serves answers index mapping m qs rest t × (out ≡ one ++ rest)
 
--- of the first of these requests some commands were done, and nothing was written
+-- some commands of the first of these requests were done, and nothing was written
 abbrev pub HasBegun : {S : Type 0} → (S → Command → Reply → S → Type 0) → List ℕ → MappingData → S → List Standing → List ℕ → S → Type 0
 HasBegun answers index mapping s [] part t = (t ≡ s) × (part ≡ [])
 HasBegun answers index mapping s (q ∷ qs) part t = Begun answers (work_of index mapping q) s t × (part ≡ [])
@@ -41,13 +41,14 @@ abbrev pub HasPage : {S : Type 0} → (S → Command → Reply → S → Type 0)
 HasPage answers index mapping s [] part t = ⊥
 HasPage answers index mapping s (q ∷ qs) part t = (one : List ℕ) × Answered answers index (work_of index mapping q) s one t × IsFront part one
 
--- what was done for the requests behind those that were answered: nothing where they couldn't be read, all but a part of a page where that couldn't be written
+-- what was done for the requests after those that were answered. If reading failed, nothing. If writing failed, all commands of the first one, and a beginning
+-- of its page was written. If memory ran out, some commands of the first one
 abbrev pub Partly : {S : Type 0} → (S → Command → Reply → S → Type 0) → List ℕ → MappingData → StreamFault → S → List Standing → List ℕ → S → Type 0
 Partly answers index mapping Read s qs part t = (t ≡ s) × (part ≡ [])
 Partly answers index mapping Write s qs part t = HasPage answers index mapping s qs part t
 Partly answers index mapping NoMemory s qs part t = HasBegun answers index mapping s qs part t
 
--- the first of these requests were answered, and those after them in part, by the fault that ended the stream
+-- the first of these requests were answered, and those after them in part, depending on the fault that ended the stream
 pub record CutShort {S : Type 0} (answers : S → Command → Reply → S → Type 0) (index : List ℕ) (mapping : MappingData) (fault : StreamFault) (s : S) (qs : List Standing) (out : List ℕ) (t : S) : Type 0 where
   pub done : List Standing
   pub left : List Standing
@@ -59,20 +60,20 @@ pub record CutShort {S : Type 0} (answers : S → Command → Reply → S → Ty
   pub partly : Partly answers index mapping fault middle left part t
   pub written : out ≡ whole ++ part
 
--- the requests of the bytes were answered, so many, and their pages were written
+-- the requests of the bytes were answered, this is how many they are, and their pages were written
 pub record Served {S : Type 0} (answers : S → Command → Reply → S → Type 0) (index : List ℕ) (mapping : MappingData) (s t : S) (old new : Option (List ℕ)) (count : ℕ) (bytes : List ℕ) : Type 0 where
   pub out : List ℕ
   pub serves : Serves answers index mapping s (requests bytes) out t
   pub written : Appends old new out
   pub counted : count ≡ length (requests bytes)
 
--- the first requests of the bytes were answered, those after them in part, by the fault, and what was written is a beginning of their pages
+-- the first requests of the bytes were answered, those after them in part, depending on the fault, and what was written is a beginning of their pages
 pub record Stopped {S : Type 0} (answers : S → Command → Reply → S → Type 0) (index : List ℕ) (mapping : MappingData) (s t : S) (old new : Option (List ℕ)) (fault : StreamFault) (bytes : List ℕ) : Type 0 where
   pub out : List ℕ
   pub cut : CutShort answers index mapping fault s (requests bytes) out t
   pub written : Appends old new out
 
--- the first requests were answered, and what is left are the others
+-- the first requests of the bytes were answered, and the bytes that are left have the others
 pub record Going {S : Type 0} (answers : S → Command → Reply → S → Type 0) (index : List ℕ) (mapping : MappingData) (s t : S) (old new left : Option (List ℕ)) (count : ℕ) (bytes : List ℕ) : Type 0 where
   pub rest : List ℕ
   pub is_left : left ≡ Some rest

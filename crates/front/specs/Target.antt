@@ -14,18 +14,18 @@ use Rattle.wire.specs.Framing.{is_named}
 use Rattle.wire.specs.Number.{number_of}
 use Rattle.front.specs.Fault.{Fault, no_route, bad_parameter}
 
--- whether a target has the absolute form, whose scheme no case tells apart
+-- whether a target has the absolute form; its scheme may be in any case
 abbrev pub is_absolute : List ℕ → Bool
 is_absolute target = nat_le 7 (length target) && is_named (take 7 target) (codes "http://")
 
 abbrev pub from_path : List ℕ → List ℕ
 from_path bytes = drop (position_or_len (λ b. b == 47 || b == 63) bytes) bytes
 
--- a target's origin form: of an absolute one, what stands from the first `/` or `?` behind its scheme on
+-- a target's origin form; for an absolute target, all from the first `/` or `?` after its scheme
 abbrev pub origin_of : List ℕ → List ℕ
 origin_of target = if is_absolute target then from_path (drop 7 target) else target
 
--- what a path names: the index, where it names one, and an id
+-- what a path names: an endpoint, the index, if it names one, and an id
 pub record Route : Type 0 where
   pub endpoint : Endpoint
   pub index : Option (List ℕ)
@@ -56,7 +56,7 @@ route_of_parts (a ∷ b ∷ []) = routed (endpoint_of_two b) (Some a) []
 route_of_parts (a ∷ b ∷ c ∷ []) = routed (endpoint_of_three b) (Some a) c
 route_of_parts (a ∷ b ∷ c ∷ d ∷ rest) = Err no_route
 
--- a path is split at `/`, and each part decoded
+-- the route of a path; the path is split at `/`, and each part is decoded
 abbrev pub route_of : List ℕ → Result Route Fault
 route_of [] = Err no_route
 route_of (x ∷ xs) = if x == 47 then route_of_parts (map percent_decode (slice_split (λ b. b == 47) xs)) else Err no_route
@@ -65,7 +65,7 @@ abbrev pub check : Bool → Fault → Result ⊤ Fault
 check true f = Ok tt
 check false f = Err f
 
--- the path names no other index
+-- whether the path names no other index than the one that is served
 abbrev pub is_served : List ℕ → Option (List ℕ) → Bool
 is_served served None = true
 is_served served (Some index) = bytes_eq index served
@@ -104,7 +104,7 @@ refresh_of value = if length value == 0 || bytes_eq value (codes "true") then So
 abbrev pub create_of : List ℕ → Option Bool
 create_of value = if bytes_eq value (codes "create") then Some true else (if bytes_eq value (codes "index") then Some false else None)
 
--- a value that is read, for a parameter that hasn't come yet
+-- the value of a parameter that hasn't come yet, if the value could be read
 abbrev pub once : {A : Type 0} → Option A → Option A → Result (Option A) Fault
 once (Some old) new = Err bad_parameter
 once None None = Err bad_parameter

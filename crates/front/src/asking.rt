@@ -24,14 +24,14 @@ use serde_json::Value;
 use std::alloc::Global;
 use wire::{Request, cut_at, number_of, text_of};
 
-/// What a request asks: one command, or many writes, with a refresh behind them or not.
+/// What a request asks: one command, or many writes and whether a refresh follows them.
 #[derive(Drop)]
 pub(crate) enum Asked<'b> {
     One(Command),
     Many(bool, Vec<Item<'b>>),
 }
 
-/// What a request asks, or its first fault, looked for in the order `NoRoute`, `NoIndex`, `BadMethod`, `BadParameter`, the id, the body.
+/// What a request asks, or its first fault. Faults are looked for in the order `NoRoute`, `NoIndex`, `BadMethod`, `BadParameter`, the id, the body.
 #[tactic(auto, unfolding(crate::specs::Asking::ask))]
 pub(crate) fn ask<'b>(
     alloc: Global,
@@ -62,7 +62,7 @@ pub(crate) fn ask<'b>(
     )
 }
 
-/// The index that items without one have.
+/// The index of items that name none, if the path names it.
 fn items_index<'a>(index: &'a str, named: &Option<Vec<u8>>) -> Option<&'a str>
     ensures { option_copied result ≡ spec.items_index index.now (option_map (λ i. i.items) named.now) }
 {
@@ -169,7 +169,7 @@ fn is_true(flag: Option<bool>) -> bool
     }
 }
 
-/// Whether these parameters may come with a method at a path.
+/// Whether these parameters may come with this method at this endpoint.
 fn fits(endpoint: Endpoint, method: Method, parameters: Parameters) -> bool
     ensures { result ≡ spec.fits endpoint method parameters }
 {
@@ -321,7 +321,7 @@ fn count_of(alloc: Global, mapping: &Mapping, body: &[u8]) -> Result<Command, Re
     Ok(Command::Count(body.query))
 }
 
-/// The copy of a path is a number from 1 up, of 32 bits at most.
+/// The promotion of the copy that the path names by its number, which is at least 1 and has 32 bits at most.
 fn promote_of(id: &str) -> Result<Command, RequestFault>
     ensures { Gives fault_of command_view result (spec.promote_of id.now) }
 {

@@ -24,7 +24,7 @@ pub(crate) enum Action {
     Delete,
 }
 
-/// What an action line says, and the source line behind it.
+/// What an action line says, and the source line that follows it.
 #[derive(Drop)]
 pub(crate) struct Item<'b> {
     pub(crate) action: Action,
@@ -34,14 +34,14 @@ pub(crate) struct Item<'b> {
     pub(crate) source: &'b [u8],
 }
 
-/// The text of an item that was done, and whether it has an error.
+/// What the page says of an item that was done, and whether that is an error.
 #[derive(Drop)]
 pub(crate) struct ItemText {
     pub(crate) failed: bool,
     pub(crate) text: String,
 }
 
-/// What a bulk did: the texts of its items, and why the refresh behind them was refused, if it was.
+/// What a bulk did: the texts of its items, and why the refresh after them was refused, if it was.
 #[derive(Drop)]
 pub(crate) struct Done {
     pub(crate) texts: Vec<ItemText>,
@@ -55,24 +55,24 @@ struct Written {
     is_any: bool,
 }
 
-/// An item of a part: what is told of it, or that the reply to its write is to come, which has this place among the writes of the part.
+/// An item of a part. Either its text is known, or it waits for the reply to its write, which has this place among the writes of the part.
 #[derive(Drop)]
 pub(crate) enum Step<'i, 'b> {
     Told(ItemText),
     Waits(&'i Item<'b>, usize),
 }
 
-/// The items of a part, before the service has them: the writes, and a step for each item.
+/// The items of a part before the service is called: the writes, and a step for each item.
 #[derive(Drop)]
 struct Part<'i, 'b> {
     writes: Vec<Write>,
     steps: Vec<Step<'i, 'b>>,
 }
 
-/// How many writes are handed over in one command.
+/// The most writes in one command.
 const MOST_WRITES: usize = 1024;
 
-/// Does the items of a bulk in order, and then one refresh, where that is wanted and any of them was a write.
+/// Does the items of a bulk in order, and then one refresh, if that is wanted and any item was a write.
 pub(crate) fn do_items<'b, S: Service>(
     alloc: Global,
     service: &mut S,
@@ -91,7 +91,7 @@ pub(crate) fn do_items<'b, S: Service>(
     Ok(Done { texts, refusal })
 }
 
-/// Does the writes of items in order, each 1,024 of them with one command. A refusal of one doesn't stop the others.
+/// Does the writes of items in order, with one command for each 1,024 of them and one for the rest. A refusal of one doesn't stop the others.
 fn do_writes<'b, S: Service>(
     alloc: Global,
     service: &mut S,
@@ -117,7 +117,7 @@ fn do_writes<'b, S: Service>(
     Ok(Written { texts, is_any })
 }
 
-/// Refreshes, where that is wanted, and tells why that was refused.
+/// Refreshes, if that is wanted, and returns why the refresh was refused, if it was.
 fn do_refresh<S: Service>(service: &mut S, wanted: bool) -> Option<Refusal>
     ensures done { spec.RefreshDone S.answers wanted service.old result service.new }
     ensures name { S.name service.new ≡ S.name service.old }
@@ -132,7 +132,7 @@ fn do_refresh<S: Service>(service: &mut S, wanted: bool) -> Option<Refusal>
     refusal
 }
 
-/// Why a refresh was refused.
+/// Why a refresh was refused, if it was.
 fn refusal_in(reply: &Reply) -> Option<Refusal>
     ensures { result ≡ spec.refusal_in (reply_view reply.now) }
 {
@@ -143,7 +143,7 @@ fn refusal_in(reply: &Reply) -> Option<Refusal>
     }
 }
 
-/// Does the first part of items, those up to the 1,024th write, with one command for its writes.
+/// Does the first part of the items, up to the 1,024th write, with one command for all its writes.
 fn do_part<'b, S: Service>(
     alloc: Global,
     service: &mut S,
@@ -188,7 +188,7 @@ fn read_part<'i, 'b>(
     Ok(Part { writes, steps })
 }
 
-/// Reads an item's source, and puts its write behind those that are there, or has the text of its fault.
+/// Reads an item's source. Appends its write to `writes`, or, if the item has a fault, returns the text of the fault.
 fn read_item<'i, 'b>(
     alloc: Global,
     served: &str,
@@ -213,7 +213,7 @@ fn read_item<'i, 'b>(
     }
 }
 
-/// What the service says to the writes of a part. Where there are none it isn't called.
+/// What the service replies to the writes of a part. If there are none, the service isn't called.
 fn hand_over<S: Service>(alloc: Global, service: &mut S, writes: Vec<Write>) -> Reply
     ensures called { Calls S.answers service.old (spec.batch writes.items) (spec.said writes.items (reply_view result)) service.new }
     ensures name { S.name service.new ≡ S.name service.old }
@@ -226,7 +226,7 @@ fn hand_over<S: Service>(alloc: Global, service: &mut S, writes: Vec<Write>) -> 
     service.call(Command::Bulk(writes))
 }
 
-/// The texts of a part's items, by the reply to their writes.
+/// The texts of a part's items, made from the reply to their writes.
 fn texts_of<'i, 'b>(
     alloc: Global,
     steps: Vec<Step<'i, 'b>>,
@@ -254,7 +254,7 @@ fn step_text<'i, 'b>(
     }
 }
 
-/// What the reply to many writes says of the one in a place.
+/// What the reply to many writes says of the write in this place.
 fn item_reply(reply: &Reply, place: usize) -> ItemReply
     ensures { result ≡ spec.item_reply (reply_view reply.now) place }
 {
@@ -268,7 +268,7 @@ fn item_reply(reply: &Reply, place: usize) -> ItemReply
     }
 }
 
-/// The write of an item, without a refresh, or its fault.
+/// The write of an item, without a refresh, or the fault of the item.
 #[tactic(auto, unfolding(crate::specs::Bulk::item_write))]
 pub(crate) fn item_write<'b>(
     alloc: Global,
@@ -448,7 +448,7 @@ fn truth(b: bool) -> &'static str
     if b { "true" } else { "false" }
 }
 
-/// The field that tells why the refresh was refused.
+/// The field that says why the refresh was refused, if it was.
 fn refresh_field(alloc: Global, refusal: Option<Refusal>) -> Result<String, AllocError>
     ensures { IfOk result (λ t. string_bytes t ≡ spec.refresh_field refusal) }
 {
@@ -476,7 +476,7 @@ fn bulk_body(
     format!(in alloc; "{{\"errors\":{errors},\"items\":[{items}]{refresh},\"took\":0}}")
 }
 
-/// The page of what a bulk did.
+/// The page that says what a bulk did.
 pub(crate) fn bulk_page(
     alloc: Global,
     texts: &[ItemText],

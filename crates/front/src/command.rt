@@ -1,4 +1,4 @@
-//! What a service is asked.
+//! What a request asks of a service.
 
 use doc::{Doc, DocId};
 use query::{Query, SearchBody};
@@ -6,9 +6,9 @@ use query::{Query, SearchBody};
 /// What a write does to its document.
 #[derive(Drop)]
 pub enum Change {
-    /// Sets it, whether or not there is one.
+    /// Sets it, whether or not there is one already.
     Index(Doc),
-    /// Sets it, where there is none (`_create`, or `op_type=create`).
+    /// Sets it, if there is none yet (`_create`, or `op_type=create`).
     Create(Doc),
     Delete,
 }
@@ -20,7 +20,7 @@ pub struct Condition {
     pub term: u64,
 }
 
-/// A write, and whether the index is to be refreshed after it and before the reply (`refresh=true`).
+/// A write, and whether the index is refreshed after it and before the reply (`refresh=true`).
 #[derive(Drop)]
 pub struct Write {
     pub id: DocId,
@@ -29,17 +29,17 @@ pub struct Write {
     pub refresh: bool,
 }
 
-/// What a service is asked.
+/// What a request asks of a service.
 #[derive(Drop)]
 pub enum Command {
     Write(Write),
-    /// Writes of one request, 1 to 1,024 and none of them with a refresh, in their order.
+    /// 1 to 1,024 writes of one request, in their order. None of them has a refresh.
     Bulk(Vec<Write>),
     Get(DocId),
     Search(SearchBody),
-    /// How many documents a query means.
+    /// How many documents match a query.
     Count(Query),
     Refresh,
-    /// This copy is to be the primary.
+    /// Makes this copy the primary.
     Promote(u32),
 }

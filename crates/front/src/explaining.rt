@@ -1,20 +1,23 @@
 //! Why a request was refused, in words for whoever wrote it.
 
+use crate::admission::admit;
 use crate::asking::{Asked, ask};
 use crate::bulk::{Action, Item, item_write};
-use crate::greeting::{Welcome, turned_request, welcome_of};
+use crate::greeting::{Welcome, check_handled, turned_request, welcome_of};
 use crate::request_fault::RequestFault;
-use doc::Mapping;
+use crate::rule::Rule;
+use doc::{DocFault, Mapping};
 use query::QueryFault;
 use reasons::document_reason;
 use serde_json::Value;
 use std::alloc::{AllocError, Global};
 use wire::{HeadFault, Request, Whole, text_of};
 
-/// Why what was asked is refused before the service is called: a text for each fault, and for the items of a bulk with the line of the body that it stands in,
-/// counted from 1. None where nothing is: what a service refuses its page tells.
+/// Why a request is refused before the service is called, with one text for each fault. The text of a bulk's item names the line of the body with the fault,
+/// counted from 1. If nothing is refused, there is no text. What a service refuses isn't explained here: its page says it.
 pub fn reasons_of(
     alloc: Global,
+    rule: &Rule,
     index: &str,
     mapping: &Mapping,
     whole: &Whole,
@@ -25,26 +28,52 @@ pub fn reasons_of(
             reasons.push(String::from_str(alloc, head_reason(*fault))?)?;
             Ok(reasons)
         }
-        Whole::Asked(request) => reasons_in(alloc, index, mapping, request),
+        Whole::Asked(request) => match admit(&rule.admission, &request.sender) {
+            Ok(()) => admitted_reasons(alloc, rule.greets, index, mapping, request),
+            Err(fault) => one_reason(alloc, index, mapping, &fault, &request.body),
+        },
     }
 }
 
-/// The same where the server greets: of what the request is turned into, and of what no command answers.
-pub fn greeted_reasons_of(
+fn admitted_reasons(
+    alloc: Global,
+    greets: bool,
+    index: &str,
+    mapping: &Mapping,
+    request: &Request,
+) -> Result<Vec<String>, AllocError> {
+    if greets {
+        greeted_reasons(alloc, index, mapping, request)
+    } else {
+        reasons_in(alloc, index, mapping, request)
+    }
+}
+
+/// Why a server that greets refuses a request: the path has a type, no command answers the request and it has a fault, or the turned request has one.
+fn greeted_reasons(
     alloc: Global,
     index: &str,
     mapping: &Mapping,
-    whole: &Whole,
+    request: &Request,
 ) -> Result<Vec<String>, AllocError> {
-    let Whole::Asked(request) = whole else {
-        return reasons_of(alloc, index, mapping, whole);
-    };
     match welcome_of(alloc, index, request) {
-        Ok(Welcome::Nothing) => {
+        Ok(Welcome::Nothing) => handled_reasons(alloc, index, mapping, request),
+        Ok(_) => Ok(Vec::new(alloc)),
+        Err(fault) => one_reason(alloc, index, mapping, &fault, &request.body),
+    }
+}
+
+fn handled_reasons(
+    alloc: Global,
+    index: &str,
+    mapping: &Mapping,
+    request: &Request,
+) -> Result<Vec<String>, AllocError> {
+    match check_handled(alloc, request) {
+        Ok(()) => {
             let turned = turned_request(alloc, request)?;
             reasons_in(alloc, index, mapping, &turned)
         }
-        Ok(_) => Ok(Vec::new(alloc)),
         Err(fault) => one_reason(alloc, index, mapping, &fault, &request.body),
     }
 }
@@ -77,7 +106,7 @@ fn one_reason(
     Ok(reasons)
 }
 
-/// Why items are refused. Each has a line, and one that indexes or creates another one for its source.
+/// Why items are refused. Each item has one line, and one more for its source if it indexes or creates.
 fn item_reasons<'b>(
     alloc: Global,
     index: &str,
@@ -122,9 +151,10 @@ fn item_reason<'b>(
     }
 }
 
-/// A document stands in the line behind that of its action.
+/// How many lines the fault is below the action line. The action line has the id, and the next line has the document.
 fn lines_above(fault: &RequestFault) -> u64 {
     match fault {
+        RequestFault::Document(DocFault::IdEmpty | DocFault::IdTooLong) => 0,
         RequestFault::Document(_) => 1,
         _ => 0,
     }
@@ -166,7 +196,7 @@ fn query_reason(alloc: Global, fault: &QueryFault, body: &str) -> Result<String,
 fn words_for(fault: &RequestFault) -> &'static str {
     match fault {
         RequestFault::Head(fault) => head_reason(*fault),
-        RequestFault::NoRoute => {
+        RequestFault::NoRoute | RequestFault::NoHandler => {
             "there is no such path; there are /INDEX/_doc/ID, /INDEX/_create/ID, /INDEX/_search, /INDEX/_count, /INDEX/_refresh, /INDEX/_bulk, /INDEX/_promote/COPY and /_bulk"
         }
         RequestFault::BadMethod(_) => "the path doesn't take this method",
@@ -175,6 +205,15 @@ fn words_for(fault: &RequestFault) -> &'static str {
         }
         RequestFault::BadBulk => {
             "the body is no bulk: a line of JSON for each action, behind index and create one with the document, and a line feed behind each line"
+        }
+        RequestFault::ForeignOrigin => {
+            "the request comes from a web page of another origin; --cors ORIGIN lets its pages ask"
+        }
+        RequestFault::ForeignHost => {
+            "the server isn't known under the name in the field host; --host-name NAME gives it this name"
+        }
+        RequestFault::TypeInPath => {
+            "an endpoint stands behind a type in the path; leave out the type, as in /INDEX/_search"
         }
         RequestFault::NoMemory => "out of memory",
         RequestFault::NoIndex | RequestFault::Document(_) | RequestFault::Query(_) => "refused",

@@ -1,28 +1,28 @@
-//! Requests as the client libraries of Elasticsearch ask them: they greet a server, ask for heads alone, and wait for refreshes.
-ghost use Rattle.std.specs.Prelude.{◌≡◌, IfOk, OnErr, string_bytes, option_map};
+//! Requests as the client libraries of Elasticsearch send them: they greet a server, ask for the head of a page without its body, and wait for refreshes.
+ghost use Rattle.std.specs.Prelude.{◌≡◌, IfOk, IfErr, OnErr, string_bytes, option_map};
 ghost use Rattle.wire.specs.Reading as read;
-ghost use Rattle.wire.specs.Requests.{Standing, good};
+ghost use Rattle.wire.specs.declared.fault.StreamFault.TheVariants.{NoMemory};
 ghost use Rattle.doc.specs.Outcome.{Gives};
 ghost use Rattle.front.specs.Fault.{fault_of};
 ghost use Rattle.front.specs.Greeting as spec;
-ghost use Rattle.front.specs.Serving.{Begun};
-ghost use Rattle.front.specs.Work.{work_of};
+ghost use Rattle.front.specs.Rule.{Turned};
+ghost use Rattle.front.specs.Serving.{Answered, Begun};
 
 use crate::asking::{has_none, or_nothing};
-use crate::page::{Status, fault_page, response};
+use crate::page::{Status, at_empty, fault_page, response};
 use crate::parameters::parameters_of;
 use crate::request_fault::RequestFault;
 use crate::service::Service;
-use crate::serving::{answer, answer_request};
-use crate::target::{decoded, origin_of};
+use crate::serving::answer_request;
+use crate::target::{Endpoint, decoded, origin_of, route_of};
 use std::alloc::{AllocError, Global};
-use wire::{Request, StreamFault, Whole, cut_at};
+use wire::{Request, StreamFault, cut_at};
 
-/// What `GET /` tells: the fields by which client libraries know whom they speak to.
+/// The body of the answer to `GET /`: the fields by which client libraries know which server they speak to.
 const GREETING: &str =
     "{\"cluster_name\":\"indexd\",\"cluster_uuid\":\"_na_\",\"name\":\"indexd\",\"tagline\":\"You Know, for Search\",\"version\":{\"build_flavor\":\"default\",\"build_snapshot\":false,\"minimum_index_compatibility_version\":\"6.0.0-beta1\",\"minimum_wire_compatibility_version\":\"6.8.0\",\"number\":\"7.10.2\"}}";
 
-/// What a request asks that no command answers.
+/// What a request asks for that no command answers.
 #[derive(Clone, Copy, Debug, PartialEq, Eq)]
 pub(crate) enum Welcome {
     Nothing,
@@ -30,44 +30,97 @@ pub(crate) enum Welcome {
     Presence,
 }
 
-/// Does what a request asks as `answer` does, for client libraries of Elasticsearch: `GET /` is greeted, a HEAD gets the head of the page of its GET,
-/// and a refresh that is waited for is done.
-pub fn greet<S: Service>(
-    alloc: Global,
-    service: &mut S,
-    whole: &Whole,
-) -> Result<String, StreamFault>
-    ensures ok { IfOk result (λ page. (q : Standing) → read.IsStanding whole.now q → spec.Greeted S.answers (S.name service.old) (S.fields service.old) q
-        service.old (string_bytes page) service.new) }
-    ensures err { OnErr result ((q : Standing) → read.IsStanding whole.now q → Begun S.answers
-        (work_of (S.name service.old) (S.fields service.old) (spec.greeted q)) service.old service.new) }
-    ensures name { S.name service.new ≡ S.name service.old }
-    ensures fields { S.fields service.new ≡ S.fields service.old }
-{
-    match whole {
-        Whole::Broken(_) => answer(alloc, service, whole),
-        Whole::Asked(request) => greet_request(alloc, service, request),
-    }
-}
-
-fn greet_request<S: Service>(
+/// Does what a request asks, as the client libraries of Elasticsearch expect: `GET /` gets a greeting, a HEAD gets the head of the page of its GET, and
+/// `refresh=wait_for` is done like `refresh=true`. A path without an endpoint, or with one after a type, is refused as a bad request.
+pub(crate) fn greet_request<S: Service>(
     alloc: Global,
     service: &mut S,
     request: &Request,
 ) -> Result<String, StreamFault>
-    ensures ok { IfOk result (λ page. spec.Greeted S.answers (S.name service.old) (S.fields service.old) (good (read.request_view request.now))
+    ensures ok { IfOk result (λ page. Turned S.answers (S.name service.old) (spec.greeted_work (S.name service.old) (S.fields service.old) (read.request_view request.now))
+        (λ out. spec.greeted_page (S.name service.old) (read.request_view request.now) out) service.old (string_bytes page) service.new) }
+    ensures err { OnErr result (Begun S.answers
+        (spec.greeted_work (S.name service.old) (S.fields service.old) (read.request_view request.now)) service.old service.new) }
+    ensures cause { IfErr result (λ e. e ≡ NoMemory) }
+    ensures name { S.name service.new ≡ S.name service.old }
+    ensures fields { S.fields service.new ≡ S.fields service.old }
+{
+    let page = turned_answer(alloc, service, request)?;
+    greeted_page(alloc, service.index(), request, page)
+}
+
+fn turned_answer<S: Service>(
+    alloc: Global,
+    service: &mut S,
+    request: &Request,
+) -> Result<String, StreamFault>
+    ensures ok { IfOk result (λ page. Answered S.answers (S.name service.old) (spec.greeted_work (S.name service.old) (S.fields service.old) (read.request_view request.now))
         service.old (string_bytes page) service.new) }
     ensures err { OnErr result (Begun S.answers
-        (work_of (S.name service.old) (S.fields service.old) (good (spec.turned_request (read.request_view request.now)))) service.old service.new) }
+        (spec.greeted_work (S.name service.old) (S.fields service.old) (read.request_view request.now)) service.old service.new) }
+    ensures cause { IfErr result (λ e. e ≡ NoMemory) }
+    ensures name { S.name service.new ≡ S.name service.old }
+    ensures fields { S.fields service.new ≡ S.fields service.old }
+{
+    match check_handled(alloc, request) {
+        Ok(()) => answer_turned(alloc, service, request),
+        Err(fault) => if fault.is_memory() {
+            Err(StreamFault::NoMemory)
+        } else {
+            Ok(fault_page(alloc, &fault)?)
+        },
+    }
+}
+
+#[tactic(auto, unfolding(crate::specs::Greeting::turned_work))]
+fn answer_turned<S: Service>(
+    alloc: Global,
+    service: &mut S,
+    request: &Request,
+) -> Result<String, StreamFault>
+    ensures ok { IfOk result (λ page. Answered S.answers (S.name service.old) (spec.turned_work (S.name service.old) (S.fields service.old) (read.request_view request.now))
+        service.old (string_bytes page) service.new) }
+    ensures err { OnErr result (Begun S.answers
+        (spec.turned_work (S.name service.old) (S.fields service.old) (read.request_view request.now)) service.old service.new) }
+    ensures cause { IfErr result (λ e. e ≡ NoMemory) }
     ensures name { S.name service.new ≡ S.name service.old }
     ensures fields { S.fields service.new ≡ S.fields service.old }
 {
     let turned = turned_request(alloc, request)?;
-    let page = answer_request(alloc, service, &turned)?;
-    greeted_page(alloc, service.index(), request, page)
+    answer_request(alloc, service, &turned)
 }
 
-/// The request that is done for one: a GET where only the head of its page is wanted.
+/// Whether an endpoint has the path, and has it where no type is, or the first fault.
+#[tactic(auto, unfolding(crate::specs::Greeting::handled))]
+pub(crate) fn check_handled(alloc: Global, request: &Request) -> Result<(), RequestFault>
+    ensures { Gives fault_of (λ u. u) result (spec.handled (read.request_view request.now)) }
+{
+    let (path, _) = cut_at(origin_of(&request.target), b'?');
+    match route_of(alloc, path) {
+        Ok(route) => if route.endpoint == Endpoint::Document && is_typed_id(&route.id) {
+            Err(RequestFault::TypeInPath)
+        } else {
+            Ok(())
+        },
+        Err(RequestFault::NoRoute) => Err(RequestFault::NoHandler),
+        Err(fault) => if fault.is_memory() {
+            Err(RequestFault::NoMemory)
+        } else {
+            Ok(())
+        },
+    }
+}
+
+fn is_typed_id(id: &[u8]) -> bool
+    ensures { result ≡ spec.is_typed_id id.now }
+{
+    id == b"_search".as_slice()
+        || id == b"_count".as_slice()
+        || id == b"_bulk".as_slice()
+        || id == b"_mget".as_slice()
+}
+
+/// The request that is done in place of this one: a HEAD becomes a GET, and `refresh=wait_for` becomes `refresh=true`.
 pub(crate) fn turned_request(alloc: Global, request: &Request) -> Result<Request, AllocError>
     ensures { IfOk result (λ r. read.request_view r ≡ spec.turned_request (read.request_view request.now)) }
 {
@@ -81,6 +134,7 @@ pub(crate) fn turned_request(alloc: Global, request: &Request) -> Result<Request
         target: turned_target(alloc, &request.target)?,
         body: request.body.to_vec(alloc)?,
         closes: request.closes,
+        sender: request.sender.copy(alloc)?,
     })
 }
 
@@ -103,7 +157,7 @@ fn turned_target(alloc: Global, target: &[u8]) -> Result<Vec<u8>, AllocError>
     Ok(out)
 }
 
-/// The parameters of a query string, each turned.
+/// A query string with each of its parameters turned.
 fn turned_query(alloc: Global, query: &[u8]) -> Result<Vec<u8>, AllocError>
     ensures { IfOk result (λ q. q.items ≡ spec.turned_query query.now) }
 {
@@ -125,12 +179,60 @@ fn turned(parameter: &[u8]) -> &[u8]
 {
     if parameter == b"refresh=wait_for".as_slice() {
         b"refresh=true"
+    } else if is_idle(parameter) {
+        b""
     } else {
         parameter
     }
 }
 
-/// What a request asks that no command answers, or its first fault.
+/// Whether a parameter could change no answer of this server.
+#[tactic(auto, unfolding(crate::specs::Greeting::is_idle))]
+fn is_idle(parameter: &[u8]) -> bool
+    ensures { result ≡ spec.is_idle parameter.now }
+{
+    let (name, _) = cut_at(parameter, b'=');
+    names_time(name) || names_indices(name) || names_shards(name) || names_form(name)
+}
+
+fn names_time(name: &[u8]) -> bool
+    ensures { result ≡ spec.names_time name.now }
+{
+    name == b"master_timeout".as_slice()
+        || name == b"preference".as_slice()
+        || name == b"request_cache".as_slice()
+        || name == b"timeout".as_slice()
+}
+
+fn names_indices(name: &[u8]) -> bool
+    ensures { result ≡ spec.names_indices name.now }
+{
+    name == b"allow_no_indices".as_slice()
+        || name == b"expand_wildcards".as_slice()
+        || name == b"ignore_throttled".as_slice()
+        || name == b"ignore_unavailable".as_slice()
+}
+
+fn names_shards(name: &[u8]) -> bool
+    ensures { result ≡ spec.names_shards name.now }
+{
+    name == b"allow_partial_search_results".as_slice()
+        || name == b"batched_reduce_size".as_slice()
+        || name == b"ccs_minimize_roundtrips".as_slice()
+        || name == b"max_concurrent_shard_requests".as_slice()
+        || name == b"pre_filter_shard_size".as_slice()
+}
+
+fn names_form(name: &[u8]) -> bool
+    ensures { result ≡ spec.names_form name.now }
+{
+    name == b"error_trace".as_slice()
+        || name == b"human".as_slice()
+        || name == b"search_type".as_slice()
+        || name == b"typed_keys".as_slice()
+}
+
+/// What a request asks for that no command answers, or its first fault.
 #[tactic(auto, unfolding(crate::specs::Greeting::welcome_of))]
 pub(crate) fn welcome_of(
     alloc: Global,
@@ -145,7 +247,7 @@ pub(crate) fn welcome_of(
     fitting(alloc, or_nothing(query), welcome)
 }
 
-/// The decoded part of a path that has no other.
+/// The decoded part of a path that has only one.
 fn only_part(alloc: Global, path: &[u8]) -> Result<Option<Vec<u8>>, AllocError>
     ensures { IfOk result (λ p. option_map (λ part. part.items) p ≡ spec.only_part path.now) }
 {
@@ -208,14 +310,15 @@ fn fitting(alloc: Global, query: &[u8], welcome: Welcome) -> Result<Welcome, Req
     }
 }
 
-/// The page of a request, given that of its commands.
+/// The page of a request, made from the page of its commands.
 fn greeted_page(
     alloc: Global,
     index: &str,
     request: &Request,
     page: String,
 ) -> Result<String, StreamFault>
-    ensures { IfOk result (λ p. string_bytes p ≡ spec.greeted_page index.now (good (read.request_view request.now)) (string_bytes page)) }
+    ensures page { IfOk result (λ p. string_bytes p ≡ spec.greeted_page index.now (read.request_view request.now) (string_bytes page)) }
+    ensures cause { IfErr result (λ e. e ≡ NoMemory) }
 {
     let page = match welcome_of(alloc, index, request) {
         Ok(welcome) => welcome_page(alloc, welcome, page)?,
@@ -243,21 +346,11 @@ fn welcome_page(alloc: Global, welcome: Welcome, page: String) -> Result<String,
     }
 }
 
-/// The head of a page after which the stream ends.
+/// The head of a page, with a field that says that the stream ends after it.
 #[tactic(auto, unfolding(crate::specs::Greeting::head_alone))]
 fn head_alone(alloc: Global, page: &str) -> Result<String, AllocError>
     ensures { IfOk result (λ p. string_bytes p ≡ spec.head_alone page.now) }
 {
-    let head = before_empty(page);
+    let (head, _) = at_empty(page);
     format!(in alloc; "{head}\r\nconnection: close\r\n\r\n")
-}
-
-/// What stands in front of the first empty line.
-fn before_empty(page: &str) -> &str
-    ensures { result.now ≡ spec.before_empty page.now }
-{
-    match page.split_once("\r\n\r\n") {
-        Some((head, _)) => head,
-        None => page,
-    }
 }

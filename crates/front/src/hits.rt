@@ -30,7 +30,7 @@ pub(crate) fn hits_body(
     Ok(body)
 }
 
-/// What stands between a hit's id and its source, and is the same in each hit.
+/// What stands between a hit's id and its source. All hits of a page share this text.
 #[tactic(auto, unfolding(crate::specs::Page::hit_middle))]
 fn hit_middle(alloc: Global, index: &str) -> Result<String, AllocError>
     ensures { IfOk result (λ t. string_bytes t ≡ spec.hit_middle index.now) }
@@ -43,7 +43,7 @@ fn hit_middle(alloc: Global, index: &str) -> Result<String, AllocError>
     Ok(middle)
 }
 
-/// Room for the body of a page, unless an id is escaped.
+/// Enough room for the body of a page, unless an id is escaped.
 fn room_of(middle: &str, hits: &[Hit]) -> usize {
     let mut room: usize = 256;
     for hit in hits {

@@ -1,4 +1,4 @@
-//! The JSON of a text.
+//! Reading a text as JSON, and spelling a text in JSON.
 ghost use Rattle.std.specs.Prelude.{◌≡◌, ◌↔◌, [], ◌∷◌, ◌++◌, IsTrue, option_map, IfOk, OnOk, string_bytes};
 ghost use Rattle.json.specs.Print as json;
 ghost use Rattle.serde_json.specs.Read.{read};
@@ -7,7 +7,7 @@ ghost use Rattle.serde_json.specs.View.{view};
 use serde_json::Value;
 use std::alloc::{AllocError, Global};
 
-/// The value of a text; none where the text is no JSON.
+/// The value of a text, or none if the text isn't JSON.
 pub(crate) fn value_in(alloc: Global, text: &str) -> Result<Option<Value>, AllocError>
     ensures { IfOk result (λ v. option_map view v ≡ read text.now) }
 {
@@ -21,7 +21,7 @@ pub(crate) fn value_in(alloc: Global, text: &str) -> Result<Option<Value>, Alloc
     }
 }
 
-/// Appends a text as JSON spells it.
+/// Appends a text as a JSON string.
 pub(crate) fn push_quoted(alloc: Global, page: &mut String, text: &str) -> Result<(), AllocError>
     ensures { OnOk result (string_bytes page.new ≡ string_bytes page.old ++ json.quoted text.now) }
 {
@@ -35,7 +35,7 @@ pub(crate) fn push_quoted(alloc: Global, page: &mut String, text: &str) -> Resul
     }
 }
 
-/// Whether JSON spells a text as it is, between quotes.
+/// Whether JSON spells a text unchanged between quotes.
 fn is_plain(text: &str) -> bool
     ensures { IsTrue result ↔ (json.escape text.now ≡ text.now) }
 {

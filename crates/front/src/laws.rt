@@ -5,7 +5,7 @@ ghost use Rattle.doc.specs.Mapping.{MappingData};
 ghost use Rattle.front.specs.Bulk.{AreFull, write_commands};
 ghost use Rattle.front.specs.Item.{Item};
 
-/// The last command for a bulk's writes has 1 to 1,024 of them, each of the others 1,024.
+/// The last command for a bulk's writes has 1 to 1,024 writes. Each other command has 1,024.
 pub fn commands_of_a_bulk_are_full()
     ensures { (served : List ℕ) (mapping : MappingData) (items : List Item) → AreFull (write_commands served mapping items) }
 {}

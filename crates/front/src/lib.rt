@@ -1,6 +1,7 @@
-//! HTTP before a service of one index: what a request asks, and the page of its reply.
+//! The HTTP front of a service of one index: what a request asks, and the page of its reply.
 #![tactic(auto)]
 
+pub mod admission;
 mod asking;
 mod bulk;
 pub mod command;
@@ -14,14 +15,16 @@ mod page;
 mod parameters;
 pub mod reply;
 mod request_fault;
+pub mod rule;
 pub mod service;
 mod serving;
 mod target;
 
+pub use admission::Admission;
 pub use command::Command;
-pub use explaining::{greeted_reasons_of, reasons_of};
-pub use greeting::greet;
+pub use explaining::reasons_of;
 pub use reply::Reply;
+pub use rule::{Rule, answer_by};
 pub use service::{Resumable, Service};
 pub use serving::{answer, serve_stream};
 pub use wire::StreamFault;

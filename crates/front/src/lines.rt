@@ -1,4 +1,4 @@
-//! The lines of a bulk: action lines, and the source lines behind those of `index` and `create`.
+//! The lines of a bulk: action lines, and a source line after each `index` or `create`.
 ghost use Rattle.std.specs.Prelude.{◌≡◌, map, string_bytes, option_map, option_copied, None, Ok};
 ghost use Rattle.serde_json.specs.Read.{read};
 ghost use Rattle.serde_json.specs.View.{view, members_view};
@@ -59,7 +59,7 @@ impl Action {
     }
 }
 
-/// What an action line says. Where it names no index, that of the path stands.
+/// What an action line says. If it names no index, the index of the path is taken.
 #[tactic(auto, unfolding(crate::specs::BulkReading::line_of))]
 fn line_of(alloc: Global, path: Option<&str>, line: &[u8]) -> Result<Line, RequestFault>
     ensures { Gives fault_of line_view result (spec.line_of (option_copied path.entry) line.now) }
@@ -163,7 +163,7 @@ fn text_in(alloc: Global, value: Option<&Value>) -> Result<String, RequestFault>
     }
 }
 
-/// The text of a member, or where there is none that of the path.
+/// The text of a member. If the member is missing, the index of the path.
 fn text_or(alloc: Global, path: Option<&str>, value: Option<&Value>) -> Result<String, RequestFault>
     ensures { Gives fault_of string_bytes result (spec.text_or (option_copied path.entry) (option_map (λ v. view v.now) value.entry)) }
 {
@@ -206,7 +206,7 @@ fn condition_in(
     }
 }
 
-/// Takes one line more: the line that waits for its source then.
+/// Takes one more line, and returns the action line that waits for its source then, if any.
 fn take_line<'b>(
     alloc: Global,
     path: Option<&str>,

@@ -1,4 +1,4 @@
-//! The pages that are written: bodies without spaces and with keys in byte order, as the Elasticsearch reference names them.
+//! The pages that are written. Their bodies have no spaces, and have their keys in byte order, by the names of the Elasticsearch reference.
 ghost use Rattle.std.specs.Prelude.{◌≡◌, ◌++◌, codes, IfOk, IfSome, string_bytes};
 ghost use Rattle.front.specs.CommandView.{command_view};
 ghost use Rattle.front.specs.Fault.{fault_of};
@@ -22,10 +22,12 @@ pub(crate) enum Status {
     Good,
     Created,
     BadRequest,
+    Forbidden,
     NotFound,
     BadMethod,
     Conflict,
     TooLarge,
+    Misdirected,
     TooMany,
     NotImplemented,
     Unavailable,
@@ -39,10 +41,12 @@ impl Status {
             Status::Good => "200",
             Status::Created => "201",
             Status::BadRequest => "400",
+            Status::Forbidden => "403",
             Status::NotFound => "404",
             Status::BadMethod => "405",
             Status::Conflict => "409",
             Status::TooLarge => "413",
+            Status::Misdirected => "421",
             Status::TooMany => "429",
             Status::NotImplemented => "501",
             Status::Unavailable => "503",
@@ -56,10 +60,12 @@ impl Status {
             Status::Good => "OK",
             Status::Created => "Created",
             Status::BadRequest => "Bad Request",
+            Status::Forbidden => "Forbidden",
             Status::NotFound => "Not Found",
             Status::BadMethod => "Method Not Allowed",
             Status::Conflict => "Conflict",
             Status::TooLarge => "Content Too Large",
+            Status::Misdirected => "Misdirected Request",
             Status::TooMany => "Too Many Requests",
             Status::NotImplemented => "Not Implemented",
             Status::Unavailable => "Service Unavailable",
@@ -96,7 +102,7 @@ impl Subject {
     }
 }
 
-/// Room for the head of a page without `allow`, of which the longest has 106 bytes.
+/// Room for the head of a page without `allow`. The longest of these heads has 106 bytes.
 const HEAD_ROOM: usize = 128;
 
 /// A whole page: the status line, the fields, an empty line, the body (RFC 9112, section 2.1).
@@ -120,6 +126,26 @@ pub(crate) fn response(
     )?;
     page.push_str(body)?;
     Ok(page)
+}
+
+/// A page with more fields after its own.
+#[tactic(auto, unfolding(crate::specs::Page::with_fields))]
+pub(crate) fn with_fields(alloc: Global, fields: &str, page: &str) -> Result<String, AllocError>
+    ensures { IfOk result (λ p. string_bytes p ≡ spec.with_fields fields.now page.now) }
+{
+    let (head, rest) = at_empty(page);
+    format!(in alloc; "{head}{fields}{rest}")
+}
+
+/// What stands before the first empty line, and the rest.
+pub(crate) fn at_empty(page: &str) -> (&str, &str)
+    ensures head { result.0.now ≡ spec.before_empty page.now }
+    ensures rest { page.now ≡ result.0.now ++ result.1.now }
+{
+    match page.find("\r\n\r\n") {
+        Some(at) => page.split_at(at),
+        None => (page, ""),
+    }
 }
 
 fn methods_of(endpoint: Endpoint) -> &'static str
@@ -153,7 +179,11 @@ pub(crate) fn kind_of(fault: &RequestFault) -> (Status, &'static str)
         RequestFault::Query(_) => (Status::BadRequest, "query_fault"),
         RequestFault::Head(HeadFault::BadHead)
         | RequestFault::BadParameter
-        | RequestFault::BadBulk => { (Status::BadRequest, "request_fault") }
+        | RequestFault::BadBulk
+        | RequestFault::TypeInPath => { (Status::BadRequest, "request_fault") }
+        RequestFault::NoHandler => (Status::BadRequest, "no_route"),
+        RequestFault::ForeignOrigin => (Status::Forbidden, "sender_fault"),
+        RequestFault::ForeignHost => (Status::Misdirected, "sender_fault"),
         RequestFault::NoIndex => (Status::NotFound, "index_not_found_exception"),
         RequestFault::NoRoute => (Status::NotFound, "no_route"),
         RequestFault::BadMethod(_) => (Status::BadMethod, "method_fault"),
@@ -178,6 +208,10 @@ pub(crate) fn name_of(fault: &RequestFault) -> &'static str
         RequestFault::Head(HeadFault::BadHead) => "BadHead",
         RequestFault::BadParameter => "BadParameter",
         RequestFault::BadBulk => "BadBulk",
+        RequestFault::TypeInPath => "TypeInPath",
+        RequestFault::NoHandler => "NoHandler",
+        RequestFault::ForeignOrigin => "ForeignOrigin",
+        RequestFault::ForeignHost => "ForeignHost",
         RequestFault::NoIndex => "NoIndex",
         RequestFault::NoRoute => "NoRoute",
         RequestFault::BadMethod(_) => "BadMethod",
@@ -287,10 +321,10 @@ pub(crate) fn outcome_status(outcome: Outcome) -> Status
     }
 }
 
-/// Room for the object of a document beside its texts, unless numbers are long.
+/// Room for all that the object of a document has apart from its texts, unless its numbers are long.
 const OBJECT_ROOM: usize = 192;
 
-/// What stands first in the object of a document.
+/// The first fields in the object of a document: its id and its index.
 #[tactic(auto, unfolding(crate::specs::Page::place))]
 pub(crate) fn place(alloc: Global, id: &str, index: &str) -> Result<String, AllocError>
     ensures { IfOk result (λ t. string_bytes t ≡ spec.place id.now index.now) }

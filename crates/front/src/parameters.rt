@@ -91,7 +91,7 @@ fn with_parameter(
     }
 }
 
-/// The parameters of a query string. An unknown one, a doubled one and a bad value are `BadParameter`.
+/// The parameters of a query string. An unknown parameter, one that comes twice and a bad value are `BadParameter`.
 pub(crate) fn parameters_of(alloc: Global, text: &[u8]) -> Result<Parameters, RequestFault>
     ensures { Gives fault_of (λ p. p) result (spec.parameters_of text.now) }
 {

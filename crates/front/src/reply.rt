@@ -11,7 +11,7 @@ pub enum Outcome {
     NotFound,
 }
 
-/// A write that is kept: its number, the term, the version that it gives, what it made of the document, and how many copies have it.
+/// A write that is kept: its number, its term, the version that it gives the document, what it did to the document, and how many copies have it.
 #[derive(Clone, Copy, Debug, PartialEq, Eq)]
 pub struct Wrote {
     pub seq: u64,
@@ -30,15 +30,15 @@ pub struct Found {
     pub source: Source,
 }
 
-/// A document that a search found; its source is the text that was handed in.
+/// A document that a search found. Its source is the text that was handed in.
 #[derive(Drop)]
 pub struct Hit {
     pub id: DocId,
     pub source: Source,
 }
 
-/// Why a service refuses a command, by the names of a copy's refusals, of the master's and of an index's. `WindowFull` is told as 429, `VersionConflict` as 409, and each
-/// other as 503, for a client that may try again.
+/// Why a service refuses a command. The names are those by which a copy, the master and an index refuse. The page of `WindowFull` has the status 429, that of
+/// `VersionConflict` 409. Each other one has 503, since the client may try again.
 #[derive(Clone, Copy, Debug, PartialEq, Eq)]
 pub enum Refusal {
     NotPrimary,
@@ -80,7 +80,7 @@ pub enum Reply {
     Counted(u64),
     /// How many copies were refreshed.
     Refreshed(u64),
-    /// The copy that is the primary from now on, and of which term.
+    /// The copy that is the primary from now on, and its term.
     Promoted(u32, u64),
     Refused(Refusal),
 }

@@ -1,4 +1,4 @@
-//! Why a request is refused before the service is asked.
+//! Why a request is refused before the service is called.
 ghost use Rattle.std.specs.Prelude.{◌≡◌, is_none};
 ghost use Rattle.front.specs.Fault.{fault_of};
 
@@ -8,7 +8,7 @@ use query::QueryFault;
 use std::alloc::{AllocError, AllocFailed};
 use wire::HeadFault;
 
-/// A fault of a request. Its page tells it by name; after those of a head the stream ends.
+/// A fault of a request. Its page names it. After a fault of the head the stream ends.
 #[derive(Debug, Drop)]
 pub(crate) enum RequestFault {
     Head(HeadFault),
@@ -17,13 +17,17 @@ pub(crate) enum RequestFault {
     BadMethod(Endpoint),
     BadParameter,
     BadBulk,
+    ForeignOrigin,
+    ForeignHost,
+    TypeInPath,
+    NoHandler,
     Document(DocFault),
     Query(QueryFault),
     NoMemory,
 }
 
 impl RequestFault {
-    /// Whether memory is wanting.
+    /// Whether memory ran out.
     pub(crate) fn is_memory(&self) -> bool
         ensures { result ≡ is_none (fault_of self.now) }
     {

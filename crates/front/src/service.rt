@@ -1,4 +1,4 @@
-//! What stands behind the requests of one index.
+//! What answers the requests of one index.
 ghost use Rattle.std.specs.Prelude.{◌≡◌, List, ℕ, IfSome};
 ghost use Rattle.doc.specs.Mapping.{MappingData};
 ghost use Rattle.front.specs.Command as asked;
@@ -10,7 +10,7 @@ use crate::command::Command;
 use crate::reply::Reply;
 use doc::Mapping;
 
-/// A service of one index. It says by its relation `answers` which replies a command may have; the pages are proved of any such service.
+/// A service of one index. Its relation `answers` says which replies a command may have. The pages are proved for every service.
 pub trait Service {
     /// The name of the index.
     ghost name: { Self → List ℕ };
@@ -18,7 +18,7 @@ pub trait Service {
     /// Its mapping.
     ghost fields: { Self → MappingData };
 
-    /// Which replies a command may have, and what the service is after each.
+    /// Which replies a command may have, and the state of the service after each.
     ghost answers: { Self → asked.Command → given.Reply → Self → Type 0 };
 
     /// The name of the index.
@@ -29,28 +29,28 @@ pub trait Service {
     fn mapping(&self) -> &Mapping
         ensures { result.now ≡ fields self.now };
 
-    /// Does what is asked. A reply of another kind than its command is told as the refusal `Mismatch`; so is each of many writes of which a reply says nothing,
-    /// and a refusal of all of them is told of each.
+    /// Does a command. A page reports a reply of another kind than its command as the refusal `Mismatch`. It also reports `Mismatch` for each of many writes of
+    /// which the reply says nothing. If the reply refuses all writes, the page reports that refusal for each.
     fn call(&mut self, command: Command) -> Reply
         ensures answers { answers self.old (command_view command) (reply_view result) self.new }
         ensures name { name self.new ≡ name self.old }
         ensures fields { fields self.new ≡ fields self.old };
 }
 
-/// A service that many clients ask in turn, by any of several threads. What one of them knows of it goes with that client, and whoever answers it next goes
-/// on from there.
+/// A service that many clients call in turn, through any of several threads. What a client knows of the service stays with that client, and the thread that
+/// answers it next goes on from there.
 pub trait Resumable: Service {
     /// What a client knows of the service.
     type Known: Drop;
 
-    /// What the client knows that is served now.
+    /// What the client that is served now knows.
     ghost knows: { Self → Self.Known };
 
-    /// What the client knows that is served now.
+    /// What the client that is served now knows.
     fn known(&self) -> Self::Known
         ensures { result ≡ knows self.now };
 
-    /// Serves from now on a client who knows this; one who was told nothing yet, where nothing is given.
+    /// From now on serves a client that knows this. With `None` the client has got no reply yet.
     fn resume(&mut self, known: &Option<Self::Known>)
         ensures knows { IfSome known.now (λ k. knows self.new ≡ k) }
         ensures name { Self.name self.new ≡ Self.name self.old }

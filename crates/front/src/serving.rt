@@ -19,19 +19,20 @@ use std::alloc::Global;
 use std::io::{Read, Write};
 use wire::{Request, StreamFault, Whole, read_request, write_flushed};
 
-/// Answers the requests that stand whole, in order, up to the first after which the stream ends, and tells how many they were. Each page is
-/// written whole and flushed before the next request is read. The reader is asked for single bytes, so it wants a buffer.
+/// Answers the requests that came whole, in order, up to the first after which the stream ends, and returns how many they were. It writes and flushes each page
+/// whole before it reads the next request. It reads single bytes, so the reader needs a buffer.
 pub fn serve_stream<R: Read, W: Write, S: Service>(
     alloc: Global,
     reader: &mut R,
     writer: &mut W,
     service: &mut S,
 ) -> Result<u64, StreamFault>
-    // The service was called with just the commands of the requests, in order, and the pages of its replies were written.
+    // The service was called with exactly the commands of the requests, in order, and the pages of its replies were written.
     ensures ok { IfOk result (λ n. IfSome (R.remaining reader.old) (spec.Served S.answers (S.name service.old) (S.fields service.old)
         service.old service.new (W.contents writer.old) (W.contents writer.new) n)) }
-    // A beginning of those calls was made and of the pages was written: at `Read` those of whole requests alone, at `Write` all calls of the one whose
-    // page isn't known to be written whole, and for want of memory some calls of one, and nothing of its page.
+    // The first of those calls were made, and a beginning of the pages was written. At `Read` the calls and the pages are those of whole requests. At `Write`
+    // all calls of the next request were made, but its page isn't known to be written whole. At `NoMemory` some calls of the next request were made, and
+    // nothing of its page was written.
     ensures err { IfErr result (λ e. IfSome (R.remaining reader.old) (spec.Stopped S.answers (S.name service.old) (S.fields service.old)
         service.old service.new (W.contents writer.old) (W.contents writer.new) e)) }
 {
@@ -48,7 +49,7 @@ pub fn serve_stream<R: Read, W: Write, S: Service>(
     Err(StreamFault::Read)
 }
 
-/// Does what a request asks, and spells the page of the replies.
+/// Does what a request asks, and returns the page of the replies.
 pub fn answer<S: Service>(
     alloc: Global,
     service: &mut S,
@@ -92,7 +93,7 @@ pub(crate) fn answer_request<S: Service>(
     }
 }
 
-/// Calls the service once, and spells the page of its reply.
+/// Calls the service once, and returns the page of its reply.
 fn do_command<S: Service>(
     alloc: Global,
     service: &mut S,
@@ -115,7 +116,7 @@ fn do_command<S: Service>(
     Ok(page?)
 }
 
-/// Does the items of a bulk and the refresh behind them, and spells their page.
+/// Does the items of a bulk and the refresh after them, and returns their page.
 fn do_bulk<'b, S: Service>(
     alloc: Global,
     service: &mut S,

@@ -12,8 +12,7 @@ use percent_encoding::percent_decode;
 use std::alloc::{AllocError, Global};
 use wire::cut_at;
 
-/// What a path asks for, by the names of the Elasticsearch reference: `_doc`, `_create`, `_search`, `_count`, `_refresh`, `_bulk`; and
-/// `_promote`, which is this project's.
+/// What a path asks for. `_doc`, `_create`, `_search`, `_count`, `_refresh` and `_bulk` are names of the Elasticsearch reference, `_promote` is this project's.
 #[derive(Clone, Copy, Debug, PartialEq, Eq)]
 pub(crate) enum Endpoint {
     Document,
@@ -25,7 +24,7 @@ pub(crate) enum Endpoint {
     Promote,
 }
 
-/// A method, told apart by case (RFC 9110, section 9.1).
+/// A method. Its name is case-sensitive (RFC 9110, section 9.1).
 #[derive(Clone, Copy, Debug, PartialEq, Eq)]
 pub(crate) enum Method {
     Delete,
@@ -35,7 +34,7 @@ pub(crate) enum Method {
     Other,
 }
 
-/// What a path names. The index and the id (or the number of a copy) are bytes: whether they are text is judged in its place in the order of faults.
+/// What a path names. The index and the id (or the number of a copy) are bytes: whether they are text is checked later, in its turn in the order of faults.
 #[derive(Drop)]
 pub(crate) struct Route {
     pub(crate) endpoint: Endpoint,
@@ -43,7 +42,7 @@ pub(crate) struct Route {
     pub(crate) id: Vec<u8>,
 }
 
-/// The parameters that came, each once at most.
+/// The parameters that came. Each comes once at most.
 #[derive(Clone, Copy)]
 pub(crate) struct Parameters {
     pub(crate) pretty: Option<bool>,
@@ -72,7 +71,7 @@ impl Method {
 }
 
 impl Endpoint {
-    /// Whether the method is one of those of the path.
+    /// Whether the endpoint takes this method.
     pub(crate) fn allows(self, method: Method) -> bool
         ensures { result ≡ spec.is_allowed self method }
     {
@@ -149,7 +148,7 @@ fn routed(
     }
 }
 
-/// The origin form of a target (RFC 9112, section 3.2.1): of one in absolute form (section 3.2.2) what stands behind the authority.
+/// The origin form of a target (RFC 9112, section 3.2.1). For a target in absolute form (section 3.2.2) this is what follows the authority.
 pub(crate) fn origin_of(target: &[u8]) -> &[u8]
     ensures { result.now ≡ spec.origin_of target.now }
 {
@@ -170,7 +169,7 @@ fn from_path(bytes: &[u8]) -> &[u8]
     }
 }
 
-/// The route of a path: its parts between `/`, each percent-decoded.
+/// The route of a path. The path is split at `/`, and each part is percent-decoded.
 pub(crate) fn route_of(alloc: Global, path: &[u8]) -> Result<Route, RequestFault>
     ensures { Gives fault_of route_view result (spec.route_of path.now) }
 {

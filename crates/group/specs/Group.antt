@@ -1,4 +1,4 @@
--- What an index of several copies answers a command.
+-- How an index of several copies answers a command.
 use Rattle.std.specs.Prelude.{◌≡◌, ◌⊎◌, ℕ, Bool, true, false, List, [], ◌∷◌, map, Option, Some, None, option_map, Result, Ok, Err, slice_get, unwrap_or, All, IfSome}
 use Rattle.doc.specs.Id.{Id}
 use Rattle.doc.specs.Mapping.{MappingData}
@@ -38,17 +38,18 @@ abbrev pub counted_in : Result Output CopyFault → ℕ
 counted_in (Ok output) = output.members
 counted_in (Err fault) = 0
 
--- the reply that tells what a copy answered, of so many copies
+-- the reply that reports what a copy answered, and this number of copies
 unfoldable pub told_by : Result Output CopyFault → ℕ → Reply
 told_by (Ok output) copies = reply_of copies output.answer
 told_by (Err fault) copies = refused (refusal_of fault)
 
--- behind a write that was to be refreshed at once copies were refreshed, and behind another one none was
+-- if a refresh was wanted after the write, copies were refreshed; if not, none was
 pub record IsRefreshedAs (wanted : Bool) (before after : KnownData) : Type 0 where
   pub refreshed : wanted ≡ true → (copies : ℕ) × HasRefreshed before copies after
   pub unrefreshed : wanted ≡ false → (after.seen ≡ before.seen) × (after.past ≡ before.past)
 
--- the write has an entry of its copy and one that acknowledges it; the reply tells the first, and the copies that the second counts
+-- the write has an entry in its copy's journal, and an entry there acknowledges it; the reply reports the first, and the number of copies that the second
+-- counts
 pub record IsWritten (J : Type 0) (before : KnownData) (w : Write) (r : Reply) (after : KnownData) : Type 0 where
   pub confirmed : Confirmed J
   pub later : IfSome before.heard (λ h. IsAheadOf h confirmed.write)
@@ -61,29 +62,29 @@ pub record IsWritten (J : Type 0) (before : KnownData) (w : Write) (r : Reply) (
 abbrev pub counted_at : List Receipt → ℕ → ℕ
 counted_at entries place = unwrap_or (option_map (λ r. counted_in r.deed.answer) (slice_get entries place)) 0
 
--- the same of a place that may be wanting
+-- how many copies the entry at a place counts; 0 if no place is given
 abbrev pub count_by : List Receipt → Option ℕ → ℕ
 count_by entries None = 0
 count_by entries (Some place) = counted_at entries place
 
--- what is told of each write of a bulk, of the copies that the entry at its place counts
+-- what the reply says of each write of a bulk, with the number of copies that the entry at its place counts
 abbrev pub replies_at : List Receipt → List Item → List ℕ → List ItemReply
 replies_at entries [] places = []
 replies_at entries (item ∷ items) [] = item_reply_of 0 item ∷ replies_at entries items []
 replies_at entries (item ∷ items) (place ∷ places) = item_reply_of (counted_at entries place) item ∷ replies_at entries items places
 
--- the reply tells what became of each write of a bulk, and for one that was kept the copies that its acknowledgement counts
+-- the reply says what became of each write of a bulk, and for a write that was kept how many copies its acknowledgement counts
 pub record IsBulkTold {J : Type 0} (confirmed : ConfirmedBulk J) (r : Reply) : Type 0 where
   pub items : List Item
   pub kept : items_in confirmed.bulk.deed.answer ≡ Some items
   pub told : r ≡ bulked (replies_at confirmed.acknowledgements.items items confirmed.places.items)
 
--- the bulk's entry is among these of a journal, and so is each that acknowledges one of its writes
+-- the bulk's entry is among these entries of a journal, and so is each entry that acknowledges one of its writes
 pub record HasBulk {J : Type 0} (confirmed : ConfirmedBulk J) (known : PrefixData Deed) : Type 0 where
   pub bulk : HasEntry known confirmed.bulk
   pub each : All (HasEntry known) confirmed.acknowledgements.items
 
--- the bulk has an entry of its copy, and for each write that was kept one that acknowledges it, and the reply tells them
+-- the bulk has an entry in its copy's journal, each of its writes that was kept has an entry that acknowledges it, and the reply reports them
 pub record IsBulkWritten (J : Type 0) (before : KnownData) (ws : List Write) (r : Reply) (after : KnownData) : Type 0 where
   pub confirmed : ConfirmedBulk J
   pub later : IfSome before.heard (λ h. IsAheadOf h confirmed.bulk)
@@ -93,7 +94,7 @@ pub record IsBulkWritten (J : Type 0) (before : KnownData) (ws : List Write) (r 
   pub acknowledged : IsBulkConfirmed (map write_of ws) confirmed
   pub told : IsBulkTold confirmed r
 
--- the reply tells what the primary has of the id, after a journal that isn't shorter than what was known of it
+-- the reply says what the primary has for the id, after a journal that isn't shorter than what the client knew of it
 pub record IsGot (before : KnownData) (id : Id) (r : Reply) (after : KnownData) : Type 0 where
   pub got : GotData
   pub is_got : IsRead got
@@ -103,7 +104,7 @@ pub record IsGot (before : KnownData) (id : Id) (r : Reply) (after : KnownData) 
   pub led : IsLedBehind before.past got.node after.past
   pub now : after ≡ known (heard_by before.heard got.node got.deeds) before.seen after.past
 
--- the master has decided last that the copy is the primary, and the reply tells the term in which it is
+-- the master's last decision makes the copy the primary, and the reply names the term in which the copy is the primary
 pub record IsMadePrimary (copy : ℕ) (r : Reply) (past : List MasterEntry) : Type 0 where
   pub decision : Decision
   pub decided : IsDecided (Promote copy) decision past
@@ -111,13 +112,13 @@ pub record IsMadePrimary (copy : ℕ) (r : Reply) (past : List MasterEntry) : Ty
   pub sent : decision.sent ≡ Some message
   pub told : r ≡ promoted copy message.term
 
--- so it has, in a past that goes on from what was known of it
+-- the master's last decision makes the copy the primary, in a past that goes on from what the client knew of it
 pub record IsPromoted (before : KnownData) (copy : ℕ) (r : Reply) (after : KnownData) : Type 0 where
   pub made : IsMadePrimary copy r after.past
   pub later : IsPrefix before.past after.past
   pub now : after ≡ known before.heard before.seen after.past
 
--- the refusal that tells the master's by its name
+-- the refusal that names the master's fault
 abbrev pub master_refusal : MasterFault → Refusal
 master_refusal master.OldTerm = OldTerm
 master_refusal master.NotInSync = NotInSync
@@ -127,7 +128,7 @@ master_refusal (master.Log f) = Log
 master_refusal master.NoMemory = NoMemory
 master_refusal master.Full = Full
 
--- what is asked was done
+-- the command was carried out
 abbrev pub IsDone : Type 0 → MappingData → KnownData → Command → Reply → KnownData → Type 0
 IsDone J m before (write w) r after = IsWritten J before w r after
 IsDone J m before (bulk ws) r after = IsBulkWritten J before ws r after
@@ -137,11 +138,11 @@ IsDone J m before (count q) r after = IsCounted m before q r after
 IsDone J m before refresh r after = IsRefreshed before r after
 IsDone J m before (promote copy) r after = IsPromoted before copy r after
 
--- what is asked was refused
+-- the command was refused
 pub record IsRefused (r : Reply) : Type 0 where
   pub refusal : Refusal
   pub told : r ≡ refused refusal
 
--- a reply of copies whose journals are those of one registry, and which are under one mapping, and what the client knows then
+-- a reply of copies with one mapping, whose journals are those of one registry; and what the client knows then
 abbrev pub IsTold : Type 0 → MappingData → KnownData → Command → Reply → KnownData → Type 0
 IsTold J m before c r after = IsDone J m before c r after ⊎ (IsRefused r × (after ≡ before))

@@ -10,11 +10,12 @@ use Rattle.ruled.specs.declared.entry.MasterEntry.{MasterEntry}
 use Rattle.ruled.specs.Entries.{IsLeading}
 use mathlib.Core.List.{IsPrefix}
 
--- the first entries of the journal of a copy, of which it was told; nothing at first
+-- the first entries of a copy's journal, which a client knows from replies; none at first
 abbrev pub Heard : Type 0
 Heard = Option (PrefixData Deed)
 
--- those of the copy that it heard of last, those of which it saw last what they leave the copy, by a refresh or a search, and those of the master's journal
+-- the entries of the copy that the client heard of last; the entries after which it saw a copy last, by a refresh or a search; and the entries of the master's
+-- journal
 pub record KnownData : Type 0 where
   pub heard : Heard
   pub seen : Heard
@@ -23,21 +24,21 @@ pub record KnownData : Type 0 where
 abbrev pub known : Heard → Heard → List MasterEntry → KnownData
 known heard seen past = record { heard = heard; seen = seen; past = past }
 
--- none where nothing was told of the master
+-- the entries of the master's journal; none if the client knows nothing of the master
 abbrev pub past_in : Option (List MasterEntry) → List MasterEntry
 past_in None = []
 past_in (Some past) = past
 
--- what is known of a copy once these entries of its journal were told; none tell nothing
+-- what a client knows of a copy after it has heard of these entries of its journal; if there are none, it knows what it knew before
 abbrev pub heard_by : Heard → ℕ → List Deed → Heard
 heard_by before node [] = before
 heard_by before node (d ∷ ds) = Some (prefix node (d ∷ ds))
 
--- what is known once a search saw what a copy has at a place of its journal, and the master had this past
+-- what a client knows after a search saw what a copy has at a place of its journal, when the master had this past
 abbrev pub seen_at : KnownData → PointData → List MasterEntry → KnownData
 seen_at k p past = known k.heard (heard_by k.seen p.node p.deeds) past
 
--- the copy is the primary after a past of the master that goes on from this
+-- the copy is the primary after a past of the master that goes on from the one before
 pub record IsLedBehind (before : List MasterEntry) (copy : ℕ) (past : List MasterEntry) : Type 0 where
   pub later : IsPrefix before past
   pub leads : IsLeading past copy
@@ -47,20 +48,20 @@ pub record IsAmong (entries : List Receipt) (r : Receipt) : Type 0 where
   pub place : ℕ
   pub there : slice_get entries place ≡ Some r
 
--- the entry, which stands behind all that was heard and seen of its copy, was seen
+-- the client saw this entry, which stands after all that it had heard and seen of the entry's copy
 pub record IsSeenBy (heard before : Heard) (r : Receipt) (after : Heard) : Type 0 where
   pub unheard : IfSome heard (λ h. IsAheadOf h r)
   pub unseen : IfSome before (λ h. IsAheadOf h r)
   pub seen : after ≡ Some (prefix r.node r.deeds)
 
--- so was one of these, by which the primary was refreshed
+-- the client saw one of these entries, by which the primary was refreshed
 pub record IsSeenAmong (heard before : Heard) (primary : ℕ) (entries : List Receipt) (after : Heard) : Type 0 where
   pub entry : Receipt
   pub among : IsAmong entries entry
   pub leads : entry.node ≡ primary
   pub seen : IsSeenBy heard before entry after
 
--- so many copies in sync were refreshed, one at least, each by an entry of its own; that of the primary was seen, unless it isn't one of them
+-- this many copies in sync were refreshed, at least one, each by an entry of its own; the client saw the primary's entry, unless it isn't among them
 pub record HasRefreshed (before : KnownData) (copies : ℕ) (after : KnownData) : Type 0 where
   pub entries : List Receipt
   pub primary : ℕ

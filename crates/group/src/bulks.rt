@@ -1,4 +1,4 @@
-//! What a bulk is replied that is confirmed.
+//! Replies to bulks that are confirmed.
 ghost use Rattle.std.specs.Prelude.{◌≡◌, All, IfOk, IfSome, IsTrue, Some, slice_get};
 ghost use Rattle.cluster.specs.Bulks as cluster;
 ghost use Rattle.front.specs.ReplyView.{reply_view};
@@ -14,8 +14,8 @@ use replica::{Answer, CopyFault, Items, Output};
 use shard::answering::item_reply_of;
 use std::alloc::{AllocError, Global};
 
-/// What a client knows behind a bulk: the entries of its journal up to the last that acknowledges a write of it. Nothing where its receipts aren't of
-/// one journal, as those of a cluster are.
+/// What a client knows after a bulk: the entries of its journal up to the last entry that acknowledges a write of it. `None` if its receipts aren't of one
+/// journal; those of a cluster are.
 pub(crate) fn heard_behind<J: IndexName>(confirmed: &ConfirmedBulk<J>) -> Option<Heard<J>>
     ensures { IfSome result (HasBulk confirmed.now) }
 {
@@ -28,7 +28,7 @@ pub(crate) fn heard_behind<J: IndexName>(confirmed: &ConfirmedBulk<J>) -> Option
     }
 }
 
-/// What the last of some entries tells.
+/// What the last of some entries says.
 fn last_heard<J: IndexName>(first: &Receipt<J>, others: &[Receipt<J>]) -> Heard<J> {
     let mut heard = Heard::by(first);
     for other in others {
@@ -51,7 +51,7 @@ fn has_all<J: IndexName>(heard: &Heard<J>, entries: &[Receipt<J>]) -> bool
     true
 }
 
-/// The reply that tells a bulk that is confirmed.
+/// The reply that reports a confirmed bulk.
 pub(crate) fn told_bulk<J: IndexName>(
     alloc: Global,
     confirmed: ConfirmedBulk<J>,
@@ -95,7 +95,7 @@ fn items_by(answer: Answer) -> Option<Items>
     }
 }
 
-/// What became of each write of a bulk, with the copies that the entry at its place counts.
+/// What became of each write of a bulk, with the number of copies that the entry at its place counts.
 #[tactic(auto, using(crate::proofs::Replying::replies_more, crate::proofs::Replying::as_many))]
 fn replies_at<J: IndexName>(
     alloc: Global,
@@ -113,7 +113,7 @@ fn replies_at<J: IndexName>(
     Ok(replies)
 }
 
-/// How many copies the entry counts whose place comes at some place; 0 where none comes there.
+/// How many copies an entry counts: the one whose place stands at this position of the places; 0 if there is none.
 fn count_by<J: IndexName>(entries: &[Receipt<J>], places: &[usize], at: usize) -> u64
     ensures { result ≡ count_by entries.now (slice_get places.now at) }
 {

@@ -28,8 +28,8 @@ use std::alloc::Global;
 use std::sync::Wait;
 use translog::LogDevice;
 
-/// An index of several copies, as one thread has it. Writes and gets are the primary's; searches are of what the primary has published, by a
-/// searcher that waits for no copy; a refresh is of each copy.
+/// An index of several copies, as one thread has it. The primary answers writes and gets. A search looks at what the primary has published, by a searcher that
+/// waits for no copy. A refresh refreshes each copy.
 #[derive(Drop)]
 pub struct Group<'a, R: Wait, D: LogDevice, J: IndexName> {
     pub rt: &'a R,
@@ -38,7 +38,7 @@ pub struct Group<'a, R: Wait, D: LogDevice, J: IndexName> {
     pub client: &'a Client<D, J>,
     /// Where the searcher of the last search is kept.
     pub chair: &'a Chair<J>,
-    /// What the client knows that is served.
+    /// What the client that is served knows.
     pub known: Known<J>,
 }
 
@@ -88,7 +88,7 @@ impl<'a, R: Wait, D: LogDevice, J: IndexName> Resumable for Group<'a, R, D, J> {
 }
 
 impl<'a, R: Wait, D: LogDevice, J: IndexName> Group<'a, R, D, J> {
-    /// Has the copies do a command; and what the client knows then.
+    /// Has the copies carry out a command. Returns the reply, and what the client knows then.
     fn answer(&self, command: Command) -> Result<(Reply, Known<J>), WriteFault<J>>
         ensures { IfOk result (λ r. IsDone J J.index.mapping self.now.known (command_view command) (reply_view r.0) r.1) }
     {
@@ -103,7 +103,7 @@ impl<'a, R: Wait, D: LogDevice, J: IndexName> Group<'a, R, D, J> {
         }
     }
 
-    /// Has the primary do a write, and waits until each member has it; then come the refreshes that are wanted.
+    /// Has the primary do a write, and waits until each member has it. Then refreshes the copies, if the write asks for that.
     fn write(&self, write: Write) -> Result<(Reply, Known<J>), WriteFault<J>>
         ensures { IfOk result (λ r. IsWritten J self.now.known write (reply_view r.0) r.1) }
     {
@@ -122,7 +122,7 @@ impl<'a, R: Wait, D: LogDevice, J: IndexName> Group<'a, R, D, J> {
         }
     }
 
-    /// Has the primary do the writes of a bulk with one step, and waits until each member has those that were kept.
+    /// Has the primary do the writes of a bulk in one step, and waits until each member has those that were kept.
     fn bulk(&self, writes: Vec<Write>) -> Result<(Reply, Known<J>), WriteFault<J>>
         ensures { IfOk result (λ r. IsBulkWritten J self.now.known writes.items (reply_view r.0) r.1) }
     {
@@ -163,7 +163,7 @@ impl<'a, R: Wait, D: LogDevice, J: IndexName> Group<'a, R, D, J> {
         Ok((reply_with(self.alloc, hits)?, known))
     }
 
-    /// How many documents a query means.
+    /// How many documents match a query.
     #[tactic(auto, using(crate::proofs::Found::counted_seen))]
     fn count(&self, query: &Query) -> Result<(Reply, Known<J>), ClusterFault>
         ensures { IfOk result (λ r. IsCounted J.index.mapping self.now.known (query_view query.now) (reply_view r.0) r.1) }
@@ -189,7 +189,7 @@ impl<'a, R: Wait, D: LogDevice, J: IndexName> Group<'a, R, D, J> {
         Ok((reply, self.known.follows(past)))
     }
 
-    /// The primary, after a past of the master that goes on from what is known of it, as each does.
+    /// The primary after a past of the master that goes on from what the client knows of it, as each past does.
     fn leader(&self) -> Result<Leading<J>, ClusterFault>
         ensures { IfOk result (λ l. IsLedBehind self.now.known.past l.primary l.past) }
     {
@@ -201,7 +201,7 @@ impl<'a, R: Wait, D: LogDevice, J: IndexName> Group<'a, R, D, J> {
         }
     }
 
-    /// What a search at the primary finds, of no place of the journal before the one that was seen last, as none does.
+    /// What a search at the primary finds. Its place in the journal isn't before the one that the client saw last; none ever is.
     fn look(&self, query: &Query, page: Page) -> Result<Looked<J>, ClusterFault>
         ensures found { IfOk result (λ l. IsFoundAt J.index.mapping (query_view query.now) page (hits_view l.found.hits) l.found.point) }
         ensures led { IfOk result (λ l. IsLedBehind self.now.known.past l.found.point.node l.past) }
@@ -219,28 +219,28 @@ impl<'a, R: Wait, D: LogDevice, J: IndexName> Group<'a, R, D, J> {
     }
 }
 
-/// What a search found at the primary, which it is after this past.
+/// What a search found at a copy, and the past of the master after which this copy is the primary.
 #[derive(Drop)]
 struct Looked<J: IndexName> {
     found: FoundAt<J>,
     past: Past<J>,
 }
 
-/// The fault of a write whose entry stands before what the client knows, as none does.
+/// The fault of a write whose entry doesn't stand after all that the client knows. That never happens.
 fn stray<J: IndexName>(confirmed: Confirmed<J>) -> WriteFault<J> {
     let place = confirmed.write.place();
     drop(confirmed);
     WriteFault::Cluster(ClusterFault::Stray(place))
 }
 
-/// The same of a bulk's entry, or of one that acknowledges it.
+/// The fault of a bulk whose entry doesn't stand after all that the client knows, or whose acknowledgements aren't of its journal. That never happens.
 fn stray_bulk<J: IndexName>(confirmed: ConfirmedBulk<J>) -> WriteFault<J> {
     let place = confirmed.bulk.place();
     drop(confirmed);
     WriteFault::Cluster(ClusterFault::Stray(place))
 }
 
-/// The reply that tells a write that is confirmed.
+/// The reply that reports a confirmed write.
 fn told<J: IndexName>(confirmed: Confirmed<J>) -> Reply
     ensures { reply_view result ≡ told_by confirmed.write.deed.answer (counted_in confirmed.acknowledgement.deed.answer) }
 {
@@ -263,14 +263,14 @@ pub(crate) fn counted_in<J: IndexName>(receipt: &Receipt<J>) -> u64
     }
 }
 
-/// The reply that tells an entry, of so many copies.
+/// The reply that reports an entry, and this number of copies.
 fn told_in<J: IndexName>(receipt: Receipt<J>, copies: u64) -> Reply
     ensures { reply_view result ≡ told_by receipt.deed.answer copies }
 {
     reply_to(receipt.into_deed().answer, copies)
 }
 
-/// The reply that tells what a copy answered, of so many copies.
+/// The reply that reports what a copy answered, and this number of copies.
 #[tactic(auto, unfolding(crate::specs::Group::told_by))]
 fn reply_to(answer: Result<Output, CopyFault>, copies: u64) -> Reply
     ensures { reply_view result ≡ told_by answer copies }
@@ -281,7 +281,7 @@ fn reply_to(answer: Result<Output, CopyFault>, copies: u64) -> Reply
     }
 }
 
-/// The refusal that tells why a write isn't confirmed. One that nobody acknowledges may be kept.
+/// The refusal that says why a write isn't confirmed. A write that nobody acknowledges may still be kept.
 pub(crate) fn refusal_of_write<J: IndexName>(promotes: bool, fault: &WriteFault<J>) -> Refusal {
     match fault {
         WriteFault::NoPrimary(_) | WriteFault::Lost(_, _) | WriteFault::Unconfirmed(_) => {
@@ -291,7 +291,7 @@ pub(crate) fn refusal_of_write<J: IndexName>(promotes: bool, fault: &WriteFault<
     }
 }
 
-/// The refusal that tells why copies give no answer.
+/// The refusal that says why copies give no answer.
 pub(crate) fn refusal_by(fault: &ClusterFault) -> Refusal {
     match fault {
         ClusterFault::Master(_) => Refusal::NotPrimary,

@@ -10,8 +10,8 @@ use node::{Got, Heard, Receipt};
 use ruled::Past;
 use std::marker::Model;
 
-/// What a client knows: entries of the journal of the copy that it heard of last, of the one that it saw last, by a refresh or a search, and of the
-/// master's. Contracts see all.
+/// What a client knows: the first entries of the journal of the copy that it heard of last, of the journal of the copy that it saw last by a refresh or a
+/// search, and of the master's journal. Contracts see all three.
 pub struct Known<J: IndexName> {
     heard: Option<Heard<J>>,
     seen: Option<Heard<J>>,
@@ -37,7 +37,7 @@ impl<J: IndexName> Model for Known<J> {
 }
 
 impl<J: IndexName> Known<J> {
-    /// What a client knows that was told nothing yet.
+    /// What a client knows before its first reply.
     pub fn nothing() -> Known<J>
         ensures { result ≡ known None None [] }
     {
@@ -48,7 +48,7 @@ impl<J: IndexName> Known<J> {
         }
     }
 
-    /// The same once more.
+    /// A duplicate.
     pub(crate) fn again(&self) -> Known<J>
         ensures { result ≡ self.now }
     {
@@ -59,21 +59,21 @@ impl<J: IndexName> Known<J> {
         }
     }
 
-    /// What it heard of a copy.
+    /// What the client heard of a copy.
     pub(crate) fn heard(&self) -> &Option<Heard<J>>
         ensures { result.now ≡ self.now.heard }
     {
         &self.heard
     }
 
-    /// What it saw of a copy.
+    /// What the client saw of a copy.
     pub(crate) fn seen(&self) -> &Option<Heard<J>>
         ensures { result.now ≡ self.now.seen }
     {
         &self.seen
     }
 
-    /// The same, once this was heard.
+    /// What the client knows after it has also heard this.
     pub(crate) fn hears(&self, heard: Heard<J>) -> Known<J>
         ensures { result ≡ known (Some heard) self.now.seen self.now.past }
     {
@@ -84,7 +84,7 @@ impl<J: IndexName> Known<J> {
         }
     }
 
-    /// The same, once this was read of a copy, whose journal had these entries then.
+    /// What the client knows after it has also read this from a copy, whose journal had these entries then.
     pub(crate) fn gets(&self, got: &Got<J>) -> Known<J>
         ensures { result ≡ known (heard_by self.now.heard got.now.node got.now.deeds) self.now.seen self.now.past }
     {
@@ -94,7 +94,7 @@ impl<J: IndexName> Known<J> {
         }
     }
 
-    /// The same, once what a copy shows was seen behind these entries, and the master had this past.
+    /// What the client knows after it has seen what a copy shows after these entries, when the master had this past.
     pub(crate) fn shows(&self, seen: Option<Heard<J>>, past: Past<J>) -> Known<J>
         ensures { result ≡ known self.now.heard seen past }
     {
@@ -105,7 +105,7 @@ impl<J: IndexName> Known<J> {
         }
     }
 
-    /// The same, once a search saw what a copy has at a place of its journal, and the master had this past.
+    /// What the client knows after a search saw what a copy has at a place of its journal, when the master had this past.
     pub(crate) fn sees(&self, point: &JournalPoint<J>, past: Past<J>) -> Known<J>
         ensures { result ≡ seen_at self.now point.now past }
     {
@@ -115,14 +115,14 @@ impl<J: IndexName> Known<J> {
         }
     }
 
-    /// The same, once the master had this past.
+    /// What the client knows after it has learned this past of the master.
     pub(crate) fn follows(&self, past: Past<J>) -> Known<J>
         ensures { result ≡ known self.now.heard self.now.seen past }
     {
         self.shows(again(&self.seen), past)
     }
 
-    /// Whether a past of the master goes on from what is known of it.
+    /// Whether a past of the master goes on from what the client knows of it.
     pub(crate) fn is_followed_by(&self, past: &Past<J>) -> bool
         ensures behind { IsTrue result → IsPrefix self.now.past past.now }
         ensures fewer { IsFalse result → length past.now < length self.now.past }
@@ -133,7 +133,7 @@ impl<J: IndexName> Known<J> {
         }
     }
 
-    /// Whether what was read is of another copy, or its journal had all by then that was heard.
+    /// Whether what was read is of another copy, or the copy's journal then had all entries that the client heard of.
     pub(crate) fn is_in(&self, got: &Got<J>) -> bool
         ensures later { IsTrue result → IfSome self.now.heard (λ h. IsNotBefore h got.now) }
         ensures earlier { IsFalse result → IsSomeAnd self.now.heard (λ h. IsEarlier h got.now.node got.now.deeds) }
@@ -144,7 +144,7 @@ impl<J: IndexName> Known<J> {
         }
     }
 
-    /// Whether a place is of another copy's journal, or behind all that was seen.
+    /// Whether a place is in another copy's journal, or after all that the client saw.
     pub(crate) fn is_shown_by(&self, point: &JournalPoint<J>) -> bool
         ensures behind { IsTrue result → IfSome self.now.seen (λ h. IsShownBehind h point.now) }
         ensures earlier { IsFalse result → IsSomeAnd self.now.seen (λ h. IsEarlier h point.now.node point.now.deeds) }
@@ -156,7 +156,7 @@ impl<J: IndexName> Known<J> {
     }
 }
 
-/// Entries that were told, once more.
+/// A duplicate of entries that the client knows.
 pub(crate) fn again<J: IndexName>(told: &Option<Heard<J>>) -> Option<Heard<J>>
     ensures { result ≡ told.now }
 {
@@ -166,7 +166,7 @@ pub(crate) fn again<J: IndexName>(told: &Option<Heard<J>>) -> Option<Heard<J>>
     }
 }
 
-/// A past of the master, once more.
+/// A duplicate of a past of the master.
 fn past_again<J: IndexName>(past: &Option<Past<J>>) -> Option<Past<J>>
     ensures { result ≡ past.now }
 {
@@ -176,7 +176,7 @@ fn past_again<J: IndexName>(past: &Option<Past<J>>) -> Option<Past<J>>
     }
 }
 
-/// Whether an entry is of another copy, or stands behind all that was told.
+/// Whether an entry is of another copy, or stands after all that the client knows.
 pub(crate) fn is_ahead<J: IndexName>(told: &Option<Heard<J>>, receipt: &Receipt<J>) -> bool
     ensures ahead { IsTrue result → IfSome told.now (λ h. IsAheadOf h receipt.now) }
     ensures among { IsFalse result → IsSomeAnd told.now (λ h. HasEntry h receipt.now) }

@@ -1,4 +1,4 @@
-//! An index of several copies as a service that answers the requests of HTTP: each copy is on a thread of its own.
+//! An index of several copies, as a service that answers HTTP requests. Each copy has a thread of its own.
 #![tactic(auto)]
 
 mod bulks;

@@ -13,14 +13,14 @@ use ruled::{Decided, Past};
 use std::sync::Wait;
 use translog::LogDevice;
 
-/// The reply that tells a promotion, which is the last of this past.
+/// The reply that reports a promotion, which is the last entry of this past.
 #[derive(Drop)]
 pub(crate) struct Promotion<J: IndexName> {
     pub(crate) reply: Reply,
     pub(crate) past: Past<J>,
 }
 
-/// Has the master make a copy the primary. Each promotion has a message, by which the copy is told its term.
+/// Has the master make a copy the primary. Each promotion has a message, from which the copy learns its term.
 pub(crate) fn promoted<R: Wait, D: LogDevice, J: IndexName>(
     rt: &R,
     client: &Client<D, J>,
@@ -43,7 +43,7 @@ pub(crate) fn is_promotion(command: &Command) -> bool {
     matches!(command, Command::Promote(_))
 }
 
-/// The refusal that tells why a command has no answer. Where the master was asked, its refusals have their own names.
+/// The refusal that says why a command has no answer. If the command is a promotion, the master's refusals have their own names.
 pub(crate) fn refusal_to(promotes: bool, fault: &ClusterFault) -> Refusal {
     match fault {
         ClusterFault::Master(named) => if promotes {

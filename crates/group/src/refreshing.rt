@@ -24,7 +24,7 @@ impl<'a, R: Wait, D: LogDevice, J: IndexName> Group<'a, R, D, J> {
         Ok((Reply::Refreshed(copies), known))
     }
 
-    /// Refreshes the copies behind a write where that is wanted, by a client that knows this, and gives what it knows then.
+    /// Refreshes the copies after a write if that is wanted, for a client that knows this, and returns what the client knows then.
     #[tactic(auto, using(crate::proofs::Seeing::is_wanted, crate::proofs::Seeing::is_unwanted))]
     pub(crate) fn refresh_where(
         &self,
@@ -42,7 +42,8 @@ impl<'a, R: Wait, D: LogDevice, J: IndexName> Group<'a, R, D, J> {
     }
 }
 
-/// Refreshes the copies for a client, and tells how many are, and what it knows then. Where each was passed over, nothing was refreshed, and that is refused.
+/// Refreshes the copies for a client, and returns how many were refreshed, and what the client knows then. If each copy was passed over, nothing was refreshed,
+/// and the result is an error.
 #[tactic(auto, using(crate::proofs::Seeing::has_refreshed))]
 fn refresh_copies<R: Wait, D: LogDevice, J: IndexName>(
     rt: &R,
@@ -68,7 +69,7 @@ fn refresh_copies<R: Wait, D: LogDevice, J: IndexName>(
     Ok((copies, known.shows(seen, past)))
 }
 
-/// What a client sees of a copy once these were refreshed: that of the primary, where it is one of them.
+/// What a client has seen of a copy after these refreshes: the primary's, if it is among them; else what it saw before.
 #[tactic(auto, using(crate::proofs::Seeing::seen_among, crate::proofs::Seeing::none_seen))]
 fn seen_among<J: IndexName>(
     known: &Known<J>,
@@ -83,7 +84,7 @@ fn seen_among<J: IndexName>(
     }
 }
 
-/// What a client sees of a copy by its refresh, which stands behind all that it knows of the copy, as it was asked since.
+/// What a client sees of a copy by the copy's refresh. The refresh stands after all that the client knows of the copy, since it came later.
 fn seen_by<J: IndexName>(known: &Known<J>, entry: &Receipt<J>) -> Result<Heard<J>, ClusterFault>
     ensures { IfOk result (λ h. IsSeenBy known.now.heard known.now.seen entry.now (Some h)) }
 {
@@ -93,7 +94,7 @@ fn seen_by<J: IndexName>(known: &Known<J>, entry: &Receipt<J>) -> Result<Heard<J
     Ok(Heard::by(entry))
 }
 
-/// The entry of a copy, where it is one of these.
+/// The entry of a copy, if it is among these.
 fn entry_of<J: IndexName>(entries: &[Receipt<J>], copy: u32) -> Option<&Receipt<J>>
     ensures among { IfSome result (λ r. IsAmong entries.now r.now) }
     ensures copy { IfSome result (λ r. r.now.node ≡ copy) }

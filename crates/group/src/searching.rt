@@ -17,8 +17,8 @@ use std::alloc::{AllocError, Global};
 use std::sync::{Mutex, Wait};
 use translog::LogDevice;
 
-/// A place for a searcher. A copy has eight seats, so where there are more threads some share a place, and one of them waits for the search of another
-/// there, and for no write.
+/// A place for a searcher. A copy has eight seats. If there are more threads, some share a place: there one thread waits for another's search, but for no
+/// write.
 pub struct Chair<J: IndexName> {
     seat: Mutex<Option<CopySearcher<J>>>,
 }
@@ -30,14 +30,14 @@ impl<J: IndexName> Drop for Chair<J> {
 }
 
 impl<J: IndexName> Chair<J> {
-    /// A place with a searcher of the primary where that can be had; else the first search there asks for it.
+    /// A place with a searcher of the primary, if the primary gives one now; else the first search at this place asks for one.
     pub fn new<R: Wait, D: LogDevice>(rt: &R, client: &Client<D, J>) -> Chair<J> {
         Chair {
             seat: Mutex::new(client.searcher(rt, client.primary(rt).primary).ok()),
         }
     }
 
-    /// What a search by a searcher of a copy finds.
+    /// What a search of a copy finds, by the searcher at this place.
     pub(crate) fn search<R: Wait, D: LogDevice>(
         &self,
         rt: &R,
@@ -60,7 +60,7 @@ impl<J: IndexName> Chair<J> {
     }
 }
 
-/// A searcher of a copy: the one of before, or where that was of another copy a new one.
+/// A searcher of a copy: the one from before if it is of this copy, else a new one.
 fn seated<R: Wait, D: LogDevice, J: IndexName>(
     rt: &R,
     client: &Client<D, J>,
@@ -94,7 +94,7 @@ fn found_by<J: IndexName>(
     }
 }
 
-/// Why a search has no hits. A searcher is let in no more once its copy has ended.
+/// Why a search has no hits. Once its copy has ended, a searcher finds nothing any more.
 fn unsearched(fault: CopySearchFault) -> ClusterFault {
     match fault {
         CopySearchFault::NoMemory => ClusterFault::NoMemory,
@@ -103,7 +103,7 @@ fn unsearched(fault: CopySearchFault) -> ClusterFault {
     }
 }
 
-/// The reply that tells the hits.
+/// The reply with the hits.
 #[tactic(auto, using(crate::proofs::Found::each_in_turn))]
 pub(crate) fn reply_with(alloc: Global, found: Hits) -> Result<Reply, AllocError>
     ensures { IfOk result (λ r. reply_view r ≡ spec.hits_of (hits_view found)) }

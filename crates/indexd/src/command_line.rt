@@ -2,8 +2,8 @@
 
 use clap::ArgMatches;
 use folder::{Dumped, Parts};
-use server::{Settings, Syncing};
-use std::alloc::Global;
+use server::{Admission, Rule, Settings, Syncing};
+use std::alloc::{AllocError, Global};
 use usage::command;
 
 /// How many bytes a megabyte of `--request-mb` has.
@@ -17,17 +17,17 @@ pub(crate) struct Played<'a> {
 }
 
 /// What the command line asks for.
-#[derive(Clone, Copy)]
+#[derive(Drop)]
 pub(crate) enum Task<'a> {
     /// To play a script.
     Replay(Played<'a>),
-    /// To serve an index.
-    Serve(Settings<'a>),
+    /// To serve an index by a rule.
+    Serve(Settings<'a>, Rule),
     /// To write what a folder keeps.
     Dump(Dumped<'a>),
     /// To judge the journals of a folder.
     Audit(&'a str),
-    /// To tell what logs hold.
+    /// To say what logs hold.
     Inspect(&'a [String]),
 }
 
@@ -35,7 +35,9 @@ pub(crate) enum Task<'a> {
 pub(crate) fn task_of<'a>(alloc: Global, words: &'a [String]) -> Result<Task<'a>, clap::Error> {
     let matches = command(alloc)?.try_get_matches_from(words)?;
     match matches.subcommand() {
-        Some(("serve", options)) => Ok(Task::Serve(settings_of(options))),
+        Some(("serve", options)) => {
+            Ok(Task::Serve(settings_of(options), rule_of(alloc, options)?))
+        }
         Some(("dump", options)) => Ok(Task::Dump(dumped_of(options))),
         Some(("audit", options)) => Ok(Task::Audit(options.get_str("DIR").unwrap_or("."))),
         Some(("inspect", _)) => Ok(Task::Inspect(inspected_of(words))),
@@ -91,10 +93,32 @@ fn settings_of<'a>(options: &ArgMatches<'a>) -> Settings<'a> {
             .unwrap_or(64)
             .saturating_mul(MEGABYTE),
         explains: options.get_flag("explain"),
-        greets: options.get_flag("greet"),
         connections: options.get_one::<u64>("connections"),
         at_terminal: false,
     }
+}
+
+/// How requests are answered, and of whom.
+fn rule_of(alloc: Global, options: &ArgMatches<'_>) -> Result<Rule, AllocError> {
+    let origins = texts_of(alloc, options, "cors")?;
+    let names = texts_of(alloc, options, "host-name")?;
+    Ok(Rule {
+        greets: options.get_flag("greet"),
+        admission: Admission { origins, names },
+    })
+}
+
+/// The texts that an option was given.
+fn texts_of(
+    alloc: Global,
+    options: &ArgMatches<'_>,
+    name: &str,
+) -> Result<Vec<String>, AllocError> {
+    let mut texts = Vec::new(alloc);
+    for text in options.get_strs(name).unwrap_or(&[]) {
+        texts.push(String::from_str(alloc, text)?)?;
+    }
+    Ok(texts)
 }
 
 fn dumped_of<'a>(options: &ArgMatches<'a>) -> Dumped<'a> {
@@ -113,7 +137,7 @@ fn parts_of<'a>(options: &ArgMatches<'a>) -> Option<Parts<'a>> {
     })
 }
 
-/// The files that `inspect` names: it has no options, so they are all the words behind it.
+/// The files that `inspect` names: it has no options, so they are all the words after it.
 fn inspected_of(words: &[String]) -> &[String] {
     match words.get(2..) {
         Some(files) => files,

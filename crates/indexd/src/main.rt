@@ -5,12 +5,34 @@ mod command_line;
 mod program;
 
 pub use program::{Terminals, program};
+use std::fs::{File, OpenOptions};
 use std::io::{BufReader, BufWriter, ErrorKind, IsTerminal};
 use std::process::ExitCode;
-use std::{env, io};
+use std::{env, fs, io};
 
 fn words_of(rt: &HostRuntime) -> io::Result<Vec<String>> {
     Ok(env::args(rt)?.collect(rt.alloc())?)
+}
+
+/// Opens /dev/null for each standard stream that is closed: the system gives a new file the least number that is free, and what is written to a stream
+/// would go into that file.
+fn stand_ins(rt: &HostRuntime) -> io::Result<[Option<File>; 3]> {
+    Ok([
+        stand_in(rt, "/proc/self/fd/0")?,
+        stand_in(rt, "/proc/self/fd/1")?,
+        stand_in(rt, "/proc/self/fd/2")?,
+    ])
+}
+
+fn stand_in(rt: &HostRuntime, stream: &str) -> io::Result<Option<File>> {
+    if fs::exists(rt, stream)? {
+        return Ok(None);
+    }
+    let null = OpenOptions::new()
+        .read(true)
+        .write(true)
+        .open(rt, "/dev/null")?;
+    Ok(Some(null))
 }
 
 fn terminals_of(rt: &HostRuntime) -> Terminals {
@@ -32,6 +54,9 @@ fn failed(rt: &HostRuntime, error: &io::Error) -> ExitCode {
 }
 
 fn main(rt: HostRuntime) -> ExitCode {
+    let Ok(_stand_ins) = stand_ins(&rt) else {
+        return ExitCode::FAILURE;
+    };
     let alloc = rt.alloc();
     let words = match words_of(&rt) {
         Ok(words) => words,

@@ -6,12 +6,14 @@ ghost use Rattle.scripts.specs.Output.{lines};
 use crate::command_line::{Played, Task, task_of};
 use clap::error::ErrorKind;
 use folder::{Dumped, dump, inspect, judge_folder};
+use reasons::escaped;
 use scripts::{Flushing, Listener, ReplayFault, Teller, Wanted, replay_telling, shown};
-use server::{Settings, serve};
+use server::{Rule, Settings, serve};
 use std::alloc::Global;
 use std::fs::File;
 use std::io::{BufRead, BufReader, Write};
 use std::net::{Net, TcpListener, TcpStream};
+use std::random::RandomSource;
 use std::rt::Files;
 use std::sync::Wait;
 use std::thread::Threads;
@@ -51,6 +53,7 @@ where
     R: Files<File = File>
         + Clock
         + AllocGlobal
+        + RandomSource
         + Net<Listener = TcpListener, Stream = TcpStream>
         + Threads
         + Wait
@@ -63,18 +66,20 @@ where
 {
     match task_of(rt.alloc(), words) {
         Ok(Task::Replay(played)) => run(rt, played, terminals, input, output, errors),
-        Ok(Task::Serve(settings)) => {
+        Ok(Task::Serve(settings, rule)) => {
             let settings = Settings {
                 at_terminal: terminals.errors,
                 explains: settings.explains || terminals.errors,
                 ..settings
             };
-            run_server(rt, settings, output, errors)
+            let status = run_server(rt, settings, &rule, output, errors);
+            drop(rule);
+            status
         }
         Ok(Task::Dump(dumped)) => run_dump(rt, dumped, output, errors),
         Ok(Task::Audit(folder)) => run_audit(rt, folder, terminals.errors, output, errors),
         Ok(Task::Inspect(files)) => run_inspect(rt, files, output, errors),
-        Err(error) => explain(&error, output, errors),
+        Err(error) => explain(rt.alloc(), &error, output, errors),
     }
 }
 
@@ -82,6 +87,7 @@ where
 fn run_server<R, O: Write, E: Write + Send>(
     rt: &R,
     settings: Settings<'_>,
+    rule: &Rule,
     output: &mut O,
     errors: &mut E,
 ) -> u8
@@ -89,6 +95,7 @@ where
     R: Files<File = File>
         + Clock
         + AllocGlobal
+        + RandomSource
         + Net<Listener = TcpListener, Stream = TcpStream>
         + Threads
         + Wait
@@ -99,7 +106,7 @@ where
         + 'static,
     ensures { result < 2 }
 {
-    match serve(rt, settings, output, errors) {
+    match serve(rt, settings, rule, output, errors) {
         Ok(()) => 0,
         Err(fault) => {
             let _ = writeln!(errors, "indexd: {fault}");
@@ -126,7 +133,7 @@ fn run_dump<R: Files<File = File> + AllocGlobal + Clone + Drop, O: Write, E: Wri
     }
 }
 
-/// Tells what logs hold, and answers the exit status: 0, or 1 with one line on `errors`.
+/// Says what logs have, and answers the exit status: 0, or 1 with one line on `errors`.
 fn run_inspect<R: Files + AllocGlobal, O: Write, E: Write>(
     rt: &R,
     files: &[String],
@@ -202,7 +209,12 @@ fn report<E: Write>(errors: &mut E, file: &str, fault: &ProgramFault) {
 }
 
 /// Prints what the command line asked for, or what is wrong with it.
-fn explain<O: Write, E: Write>(error: &clap::Error, output: &mut O, errors: &mut E) -> u8
+fn explain<O: Write, E: Write>(
+    alloc: Global,
+    error: &clap::Error,
+    output: &mut O,
+    errors: &mut E,
+) -> u8
     ensures { result < 3 }
 {
     match error.kind() {
@@ -216,13 +228,23 @@ fn explain<O: Write, E: Write>(error: &clap::Error, output: &mut O, errors: &mut
             1
         }
         _ => {
-            let _ = write!(errors, "{error}");
+            let _ = write_escaped(alloc, error, errors);
             2
         }
     }
 }
 
-/// Plays a script, and tells on `errors` what is wanted of its lines; `name` is the file's there.
+/// Prints what is wrong with the command line, with what a terminal would act on escaped.
+fn write_escaped<E: Write>(alloc: Global, error: &clap::Error, errors: &mut E) -> io::Result<()> {
+    let text = format!(in alloc; "{error}")?;
+    for line in text.lines() {
+        let line = escaped(alloc, line)?;
+        writeln!(errors, "{line}")?;
+    }
+    Ok(())
+}
+
+/// Plays a script, and says on `errors` what is wanted of its lines; `name` is the file's there.
 fn play_telling<R: Files + Clock + AllocGlobal, I: BufRead, O: Write, E: Write>(
     rt: &R,
     file: &str,
@@ -286,7 +308,7 @@ fn path_of(file: &str) -> &str {
     if file == "-" { STANDARD_INPUT } else { file }
 }
 
-/// Whether a path is that of a regular file. Where that can't be told it counts as none.
+/// Whether a path is that of a regular file. Where nobody can say, it counts as none.
 fn is_regular<R: Files>(rt: &R, path: &str) -> bool {
     match fs::metadata(rt, path) {
         Ok(found) => found.is_file(),

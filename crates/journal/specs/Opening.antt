@@ -6,7 +6,7 @@ use Rattle.replica.specs.Copy.{Copy, begun, opened}
 use Rattle.journal.specs.declared.opening.Beginning.{Beginning}
 use Rattle.journal.specs.declared.opening.Beginning.TheVariants.{New, Kept}
 
--- as one of so many copies of a new index, or with records
+-- as one of n copies of a new index, or with records
 abbrev pub begins : Beginning → Copy
 begins (New id copies mapping) = begun id copies mapping
 begins (Kept id birth mapping records) = opened id birth mapping records.items

@@ -9,7 +9,7 @@ use op::Record;
 use replica::Birth;
 use std::marker::Model;
 
-/// How a copy begins: as one of so many of a new index, or with the records that its log keeps.
+/// How a copy begins: as one of the copies that a new index begins with, or with the records that its log keeps.
 #[derive(Drop)]
 pub enum Beginning {
     New(u32, u32, Mapping),
@@ -39,7 +39,7 @@ impl Model for Opening {
 }
 
 impl Opening {
-    /// That of a copy of a new index, which begins with so many.
+    /// That of a copy of a new index, which begins with `copies` copies.
     pub fn begun(id: u32, copies: u32, mapping: Mapping) -> Opening
         ensures { result ≡ begun id copies mapping }
     {
@@ -67,7 +67,7 @@ impl Opening {
         }
     }
 
-    /// Whether the copy begins as node does in an index of so many copies under this mapping.
+    /// Whether the copy begins as node does in an index of `copies` copies under this mapping.
     #[tactic(auto, using(crate::proofs::Begun::born_mapping))]
     pub fn is_node(&self, mapping: &Mapping, copies: u32, node: u32) -> bool
         ensures { IsTrue result ↔ (self.now ≡ born mapping.now copies node) }
@@ -75,7 +75,7 @@ impl Opening {
         self.mapping().is(mapping) && self.is_born(copies, node)
     }
 
-    /// Whether it is that of the copy with this id of a new index of so many copies, or of one that the id was given to later.
+    /// Whether it is that of the copy with this id of a new index of `copies` copies, or of one that the id was given to later.
     pub fn is_born(&self, copies: u32, node: u32) -> bool
         ensures { IsTrue result ↔ (self.now ≡ born self.now.mapping copies node) }
     {

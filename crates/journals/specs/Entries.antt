@@ -81,13 +81,13 @@ TellsEntry d (OfCopy c deeds) place = IfSome (slice_get deeds place) (TellsDeed 
 
 -- ---- texts
 
--- a line is the JSON of something that this is told of
+-- a line is the JSON of a value that tells this
 pub record IsLineOf {A : Type 0} (Tells : Data → A → Type 0) (line : List ℕ) (a : A) : Type 0 where
   pub value : Data
   pub reads : read line ≡ Some value
   pub tells : Tells value a
 
--- the parts between newlines are lines of these, in order; nothing stands behind the last newline
+-- the parts between newlines are lines of these, in order; nothing stands after the last newline
 abbrev pub AreLinesOf : {A : Type 0} → (Data → A → Type 0) → List (List ℕ) → List A → Type 0
 AreLinesOf Tells [] xs = ⊥
 AreLinesOf Tells (last ∷ []) [] = last ≡ []
@@ -110,7 +110,7 @@ pub record TellsHead (copies node : ℕ) (mapping : MappingData) (d : Data) : Ty
 abbrev pub IsHead : ℕ → ℕ → MappingData → List ℕ → Type 0
 IsHead copies node mapping line = (d : Data) × (read line ≡ Some d) × TellsHead copies node mapping d
 
--- a first line, and behind its newline the lines of these
+-- a first line, and after its newline the lines of these
 pub record IsHeaded {A : Type 0} (Head : List ℕ → Type 0) (Tells : Data → A → Type 0) (text : List ℕ) (xs : List A) : Type 0 where
   pub first : List ℕ
   pub rest : List ℕ

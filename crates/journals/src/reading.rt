@@ -132,7 +132,7 @@ fn check_head(alloc: Global, top: &Head, node: u32, line: &[u8]) -> Result<(), W
 
 // ---- journals
 
-/// What stands behind the last newline: nothing.
+/// What stands after the last newline: nothing.
 fn check_end(node: u32, line: u64, rest: &[u8]) -> Result<(), JournalFault>
     ensures { IfOk result (λ _. rest.now ≡ []) }
 {

@@ -127,7 +127,7 @@ impl State {
         }
     }
 
-    /// The next id is given, and the primary is told of the copy.
+    /// Gives the next id, and has the primary track the copy.
     #[tactic(auto, unfolding(crate::specs::Decide::unless))]
     fn allocate(&self, alloc: Global) -> Result<Decided, MasterFault>
         requires { IsSound self.now }

@@ -9,7 +9,7 @@ use std::alloc::{AllocError, Global};
 /// One entry of the master's log: how many copies the index began with, or a decision.
 #[derive(Clone, Copy, Debug, PartialEq, Eq)]
 pub enum Entry {
-    /// The first entry and no other: an index of so many copies begins.
+    /// The first entry and no other: an index of this many copies begins.
     Begin(u8),
     /// A copy becomes the primary of the next term.
     Promote(u32),
@@ -17,7 +17,7 @@ pub enum Entry {
     Allocate,
     /// A copy joins the in-sync set.
     Add(u32),
-    /// A copy leaves it for good.
+    /// A copy leaves it permanently.
     Remove(u32),
 }
 

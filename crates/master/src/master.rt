@@ -215,7 +215,7 @@ fn prepared<D: LogDevice>(
     }
 }
 
-/// The state that a log keeps. What is torn of it is cut off or written anew, once all its entries are taken.
+/// The state that a log keeps. What is torn of it is cut off or written again, once all its entries are taken.
 fn opened<D: LogDevice>(alloc: Global, frames: &mut Frames<D>) -> Result<State, LogFault>
     requires { frames.old.header ≡ header }
     ensures state { Gives fault_of (λ m. m) result (kept_state (D.bytes frames.old.device)) }

@@ -20,7 +20,7 @@ abbrev pub deeds_of : Journal → List Deed
 deeds_of (OfMaster state rulings) = []
 deeds_of (OfCopy opening deeds) = deeds
 
--- what is told of a copy's journal is all of it; nothing where it has no entry
+-- what was heard of a copy's journal is all of it; nothing where it has no entry
 abbrev pub IsAllOf : Journal → Option (PrefixData Deed) → Type 0
 IsAllOf j None = deeds_of j ≡ []
 IsAllOf j (Some h) = (h.number ≡ node_of j) × (h.entries ≡ deeds_of j)
@@ -30,13 +30,13 @@ pub record IsJournalFrom (began : Copy) (j : Journal) : Type 0 where
   pub deeds : List Deed
   pub is : j ≡ OfCopy began deeds
 
--- what a copy leaves that began as this one: a legal journal, with all that was told of it at last
+-- what a copy leaves that began as this one: a legal journal, all of which was heard at last
 pub record IsEnded (began : Copy) (h : Option (PrefixData Deed)) (j : Journal) : Type 0 where
   pub from : IsJournalFrom began j
   pub legal : IsLawful j
   pub all : IsAllOf j h
 
--- the receipt stands in the journal of its node, which goes on from all entries up to it
+-- the receipt stands in the journal of its node, which extends all entries up to it
 pub record HasReceipt (r : Receipt) (j : Journal) : Type 0 where
   pub node : node_of j ≡ r.node
   pub stands : deed_at j r.place ≡ Some r.deed

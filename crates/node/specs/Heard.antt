@@ -1,4 +1,4 @@
--- What somebody was told of a copy's journal, and what comes later.
+-- What somebody heard of a copy's journal, and what comes later.
 use Rattle.std.specs.Prelude.{◌≡◌, ℕ, ◌<◌, ◌≤◌, List, length}
 use mathlib.Core.List.{IsPrefix}
 use Rattle.chronicle.specs.Registered.{PrefixData}
@@ -6,7 +6,7 @@ use Rattle.journal.specs.declared.journal.Deed.{Deed}
 use Rattle.node.specs.Entry.{Receipt}
 use Rattle.node.specs.Reading.{GotData}
 
--- the entry is of another copy, or stands behind all of these
+-- the entry is of another copy, or stands after all of these
 pub record IsBehindAll (h : PrefixData Deed) (r : Receipt) : Type 0 where
   pub place : length h.entries ≤ r.place
   pub entries : IsPrefix h.entries r.deeds

@@ -56,7 +56,7 @@ pub record IsGotAt (node : ℕ) (id : Id) (answer : Answer) : Type 0 where
   pub node_is : journal.opening.id ≡ node
   pub read : IsRead journal id answer
 
--- it is what the copy has after these entries, of which there are so many
+-- it is what the copy has after these entries, which `place` counts
 pub record IsGot (g : GotData) : Type 0 where
   pub journal : JournalData
   pub sound : HasSoundRecords journal.opening
@@ -89,7 +89,7 @@ IsUnreadable h OutOfMemory = ⊥
 IsUnreadable h WrongAddress = ⊥
 IsUnreadable h Exhausted = ⊥
 
--- why nothing was read: memory is wanting, or the copy is closed
+-- why nothing was read: memory ran out, or the copy is closed
 abbrev pub IsUngot : JournalData → NodeFault → Type 0
 IsUngot h NoMemory = Unit {0}
 IsUngot h NoSeat = ⊥

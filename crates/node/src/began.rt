@@ -94,7 +94,7 @@ impl<J: RegistryName> Began<J> {
         self.node
     }
 
-    /// The same once more.
+    /// A duplicate.
     pub fn again(&self) -> Began<J>
         ensures { result ≡ self.now }
     {
@@ -114,7 +114,7 @@ impl<J: RegistryName> Began<J> {
         self.beginning.agrees(&other.beginning);
     }
 
-    /// The same, without the name of the cluster.
+    /// How the journal begins, without the name of the cluster.
     pub fn beginning(&self) -> &Beginning<Opening, Deed>
         ensures is { result.now ≡ upto J.registry self.now.id (self.now ∷ []) }
         ensures sound { HasSoundRecords self.now }

@@ -1,9 +1,9 @@
-//! What may be large, beside what may be refused.
+//! What may be large, next to what may be refused.
 ghost use Rattle.std.specs.Prelude.{◌≡◌, Ok, Err, IfOk, IfErr};
 
 use std::alloc::AllocError;
 
-/// Both; where the second is refused, the first is let go.
+/// Both; where the second is refused, the first is dropped.
 pub(crate) fn both<T: Drop, U>(
     first: T,
     second: Result<U, AllocError>,

@@ -77,7 +77,7 @@ impl<J: RegistryName> Got<J> {
         }
     }
 
-    /// What it tells of the journal, where that had entries.
+    /// What it says of the journal, where that had entries.
     #[tactic(auto, using(crate::proofs::Readings::heard_journal))]
     pub fn heard(&self) -> Option<Heard<J>>
         ensures some { IfSome result (λ h. h ≡ prefix self.now.node self.now.deeds) }

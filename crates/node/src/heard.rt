@@ -11,7 +11,7 @@ use chronicle::{Prefix, RegistryName};
 use journal::Deed;
 use std::marker::Model;
 
-/// The first entries of a copy's journal, of which somebody was told. Contracts see the copy's number and them.
+/// The first entries of a copy's journal, of which somebody heard. Contracts see the copy's number and them.
 pub struct Heard<J: RegistryName> {
     node: u32,
     place: u64,
@@ -52,14 +52,14 @@ impl<J: RegistryName> Heard<J> {
         Heard { node, place, upto }
     }
 
-    /// What a receipt tells.
+    /// What a receipt says.
     pub fn by(receipt: &Receipt<J>) -> Heard<J>
         ensures { result ≡ prefix receipt.now.node receipt.now.deeds }
     {
         Heard::of(receipt.node(), receipt.place(), receipt.upto().again())
     }
 
-    /// The same once more.
+    /// A duplicate.
     pub fn again(&self) -> Heard<J>
         ensures { result ≡ self.now }
     {
@@ -70,7 +70,7 @@ impl<J: RegistryName> Heard<J> {
         }
     }
 
-    /// Whether an entry is of another copy, or stands behind all that was heard.
+    /// Whether an entry is of another copy, or stands after all that was heard.
     pub fn is_before(&self, receipt: &Receipt<J>) -> bool
         ensures ahead { IsTrue result → IsAheadOf self.now receipt.now }
         ensures among { IsFalse result → HasEntry self.now receipt.now }
@@ -91,7 +91,7 @@ impl<J: RegistryName> Heard<J> {
         !self.is_before(receipt)
     }
 
-    /// Whether these first entries of the copy's journal, which are so many, have all that was heard.
+    /// Whether these first `entries` entries of the copy's journal have all that was heard.
     pub fn is_within(&self, upto: &Prefix<Deed, J>, entries: u64) -> bool
         requires number { upto.now.number ≡ self.now.number }
         requires entries { entries ≡ length upto.now.entries }

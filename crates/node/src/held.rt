@@ -296,7 +296,7 @@ impl<D: LogDevice, J: RegistryName> Held<D, J> {
         self.deeds.upto()
     }
 
-    /// All entries of its journal, as a caller is told of them; nothing where there is none.
+    /// All entries of its journal, as a caller hears of them; nothing where there is none.
     #[tactic(auto, using(crate::proofs::Calls::journal_heard, crate::proofs::Calls::none_heard))]
     pub fn heard(&self) -> Option<Heard<J>>
         ensures some { IfSome result (λ h. h ≡ prefix self.now.opening.id self.now.deeds) }

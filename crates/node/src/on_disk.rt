@@ -4,7 +4,7 @@ ghost use Rattle.std.specs.Prelude.{◌≡◌, nat_le};
 use std::marker::Model;
 use translog::Synced;
 
-/// The steps of so many entries of a copy's journal, from the first on, are on the disk for sure. Only a sync of the copy gives one.
+/// The steps of the first `entries` entries of a copy's journal are on the disk for sure. Only a sync of the copy gives one.
 pub struct OnDisk {
     log: Synced,
     entries: u64,
@@ -41,7 +41,7 @@ impl OnDisk {
         self.entries
     }
 
-    /// Whether these are all entries of a journal that has so many.
+    /// Whether these are all entries of a journal that has this many.
     pub fn covers(&self, entries: u64) -> bool
         ensures { result ≡ nat_le entries self.now }
     {

@@ -90,7 +90,7 @@ fn spelt(pass: u64, own: Input, kept: Input, given: Input, answers: Answers) -> 
     }
 }
 
-/// One step of the copy, told.
+/// Does one step of the copy, and spells out what it did.
 pub(crate) fn tell<D: LogDevice>(
     copy: &mut Copy<D>,
     alloc: Global,

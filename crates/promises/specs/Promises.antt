@@ -1,4 +1,5 @@
--- What a client of an index of one copy may rely on. The client goes on from a place of the index's history, and each reply tells it one that isn't before it.
+-- What a client of an index of one copy may rely on. The client goes on from a place of the index's history, and each reply brings it to a place that isn't
+-- before that.
 use Rattle.std.specs.Prelude.{◌≡◌, ◌≤◌, ℕ, Bool, true, false, List, Option, Some, None, length, slice_get}
 use Rattle.std.specs.List.{flat_map}
 use mathlib.Core.List.{IsPrefix}
@@ -19,8 +20,8 @@ use Rattle.wire.specs.Requests.{Standing}
 use Rattle.clients.specs.Conversation.{Told}
 use Rattle.front.specs.Calls.{Calls}
 use Rattle.front.specs.Command.{Command, write, bulk, get, search, count, refresh, promote}
-use Rattle.front.specs.Greeting.{greeted}
-use Rattle.front.specs.Work.{commands, work_of}
+use Rattle.front.specs.Rule.{Rule, work_by}
+use Rattle.front.specs.Work.{commands}
 use Rattle.front.specs.Reply.{Reply, wrote, bulked, got, hits, counted, refreshed, promoted, refused}
 use Rattle.shard.specs.Answering.{hits_of, reply_of}
 use Rattle.shard.specs.History.{Stand, EndsIn, IsTold}
@@ -31,7 +32,7 @@ pub record HasWrite (id : Id) (seq : ℕ) (os : List Op) : Type 0 where
   pub is_last : last_on os id ≡ Some last
   pub not_older : seq ≤ last.seq
 
--- the copy at the end of this history has the write, and a get of the id tells the document that its last operation left there
+-- the copy at the end of this history has the write, and the reply to a get of the id has the document that the last operation on the id left there
 pub record IsFoundAt (id : Id) (seq : ℕ) (r : Reply) (known : List Stand) : Type 0 where
   pub at : Stand
   pub ends : EndsIn at known
@@ -48,14 +49,14 @@ IsOver mapping os (get id) r = ⊥
 IsOver mapping os refresh r = ⊥
 IsOver mapping os (promote copy) r = ⊥
 
--- what the copy at the end of this history shows has the write, and the reply is over that
+-- the copy at the end of this history shows the write to searches, and the reply is over what the copy shows
 pub record IsSeenAt (id : Id) (seq : ℕ) (c : Command) (r : Reply) (known : List Stand) : Type 0 where
   pub at : Stand
   pub ends : EndsIn at known
   pub has : HasWrite id seq (shown at.copy.copy.records at.copy.copy.point)
   pub over : IsOver at.copy.copy.mapping (shown at.copy.copy.records at.copy.copy.point) c r
 
--- whether a command looks for documents
+-- whether a command is a search or a count
 abbrev pub is_search : Command → Bool
 is_search (search q page) = true
 is_search (count q) = true
@@ -77,42 +78,41 @@ is_refused (promoted copy term) = false
 
 -- ---- the promises
 
--- a write was told as done: with its own reply, or as one of a bulk, in which it has the same place as its reply
+-- a reply says that a write is done: the write's own reply, or the reply to a bulk, at the place that the write has in the bulk
 pub data IsAcknowledged (w : Write) (x : Wrote) : Command → Reply → Type 0 where
   alone : IsAcknowledged w x (write w) (wrote x)
   among : (ws : List Write) (items : List ItemReply) (place : ℕ) → slice_get ws place ≡ Some w → slice_get items place ≡ Some (item.Wrote x) → IsAcknowledged w x (bulk ws) (bulked items)
 
--- a client that has gone on from there, and gets the id, is told the write or a newer one
+-- a client that has gone on from the reply to a write, and gets the id, finds the write or a newer one
 abbrev pub WritesAreFound : Type 0
 WritesAreFound =
     (w : Write) (x : Wrote) (asked : Command) (reply : Reply) (o : Option Found) (old acked later new : List Stand)
     → IsAcknowledged w x asked reply → IsTold old asked reply acked → IsPrefix acked later → IsTold later (get w.id) (got o) new → IsFoundAt w.id x.seq (got o) new
 
--- where it was to be refreshed at once, searches of such a client see it
+-- if the write asked for a refresh, searches of a client that has gone on from its reply see it
 abbrev pub WritesAreSeen : Type 0
 WritesAreSeen =
     (w : Write) (x : Wrote) (c : Command) (r : Reply) (old acked later new : List Stand)
     → IsTold old (write w) (wrote x) acked → w.refresh ≡ true → IsPrefix acked later → IsTold later c r new → is_search c ≡ true → is_refused r ≡ false → IsSeenAt w.id x.seq c r new
 
--- and so they do where a refresh was told since
+-- searches of a client that has gone on from the reply to a write, and then from the reply to a refresh, see the write
 abbrev pub RefreshedWritesAreSeen : Type 0
 RefreshedWritesAreSeen =
     (w : Write) (x : Wrote) (asked : Command) (reply : Reply) (n : ℕ) (c : Command) (r : Reply) (old acked before shown later new : List Stand)
     → IsAcknowledged w x asked reply → IsTold old asked reply acked → IsPrefix acked before → IsTold before refresh (refreshed n) shown → IsPrefix shown later → IsTold later c r new
     → is_search c ≡ true → is_refused r ≡ false → IsSeenAt w.id x.seq c r new
 
--- any commands of a client, one after another: what was known at first begins what is known at last
+-- any commands of a client, one after another: what it knew at first is the beginning of what it knows at last
 abbrev pub NeverBack : Type 0
 NeverBack = (old new : List Stand) (commands : List Command) (replies : List Reply) → Calls IsTold old commands replies new → IsPrefix old new
 
--- the commands that a request of a connection asks, by the one rule of answering or the other
-abbrev pub commands_of : Bool → List ℕ → MappingData → Standing → List Command
-commands_of true index mapping q = commands (work_of index mapping (greeted q))
-commands_of false index mapping q = commands (work_of index mapping q)
+-- the commands of a connection's request, by a rule of answering
+abbrev pub commands_of : Rule → List ℕ → MappingData → Standing → List Command
+commands_of rule index mapping q = commands (work_by rule index mapping q)
 
--- where each reply of a service is told so, the commands of all requests of a connection are told one after another, along one history
+-- if each reply of a service is one that `IsTold` allows, the commands of all requests of a connection are answered one after another, along one history
 abbrev pub GoesOnAlong : {S : Type 0} → (S → Command → Reply → S → Type 0) → (S → List Stand) → Type 0
 GoesOnAlong {S} answers knows =
     ((s : S) (c : Command) (r : Reply) (t : S) → answers s c r t → IsTold (knows s) c r (knows t))
-    → (greets : Bool) (index : List ℕ) (mapping : MappingData) (requests : List Standing) (out : List ℕ) (last : List Stand) → Told greets answers knows index mapping None requests out (Some last)
-    → (first : List Stand) × (replies : List Reply) × Calls IsTold first (flat_map (commands_of greets index mapping) requests) replies last
+    → (rule : Rule) (index : List ℕ) (mapping : MappingData) (requests : List Standing) (out : List ℕ) (last : List Stand) → Told rule answers knows index mapping None requests out (Some last)
+    → (first : List Stand) × (replies : List Reply) × Calls IsTold first (flat_map (commands_of rule index mapping) requests) replies last

@@ -1,5 +1,5 @@
--- What an index of several copies keeps of a write over a run of all its nodes: over events of which their journals are made, where each message that came was
--- sent before. Copies are promoted, recover, restart and lose messages in it as often as they will.
+-- What an index of several copies keeps of a write over a run of all its nodes. A run is a list of events of which the nodes' journals are made, where each
+-- message that came was sent before. In it, copies are promoted, recover, restart and lose messages any number of times.
 use Rattle.std.specs.Prelude.{◌≡◌, ℕ, List, Some, slice_get}
 use mathlib.Core.List.{IsPrefix}
 use Rattle.chronicle.specs.Registered.{PrefixData}
@@ -21,7 +21,7 @@ use Rattle.group.specs.Group.{IsTold}
 use Rattle.group.specs.Known.{KnownData}
 use Rattle.promises.specs.Promises.{HasWrite, IsAcknowledged}
 
--- the journal of that copy is among these, and goes on from what is known of it
+-- the journal of the copy is among these, and goes on from what the client knows of it
 pub record IsKnownOf (js : List Journal) (known : PrefixData Deed) : Type 0 where
   pub opening : Copy
   pub deeds : List Deed
@@ -35,7 +35,8 @@ pub record IsHeldIn (w : World) (id : Id) (seq : ℕ) : Type 0 where
 
 -- ---- the promise
 
--- a write that a client was told as done is held at the end of each run of whose journals one goes on from what the client knows by that
+-- if a client knows from a reply that a write is done, the index has the write at the end of each run in which a journal goes on from what the client knew from
+-- that reply
 abbrev pub WritesAreHeldInRuns : Type 0 → MappingData → Type 0
 WritesAreHeldInRuns J m =
     (w : Write) (x : Wrote) (asked : Command) (reply : Reply) (before after : KnownData) (acked : PrefixData Deed) → IsAcknowledged w x asked reply → IsTold J m before asked reply after → after.heard ≡ Some acked

@@ -1,4 +1,4 @@
-//! What a client of an index of one copy may rely on.
+//! What a client of an index of one or several copies may rely on.
 #![tactic(auto)]
 
 pub mod laws;

@@ -9,7 +9,7 @@ abbrev pub last_of : Listing → List Listing → Listing
 last_of a [] = a
 last_of a (b ∷ log) = last_of b log
 
--- each goes on from the one before it
+-- each extends the one before it
 abbrev pub RunsOn : Listing → List Listing → Type 0
 RunsOn a [] = Unit {0}
 RunsOn a (b ∷ log) = GoesOn b a × RunsOn b log

@@ -7,7 +7,7 @@ use Rattle.published.specs.Listings.{ComesAfter}
 use Rattle.published.specs.Places.{PlaceData}
 use Rattle.published.specs.Search.{IsFoundIn}
 
--- the hits are those of what comes after what was told
+-- the hits are those of what comes after this
 pub record FindsAfter (told : Published) (q : Query) (page : PageData) (hits : Answer) (at : PlaceData) : Type 0 where
   pub now : Published
   pub later : ComesAfter now told

@@ -5,7 +5,7 @@ use Rattle.op.specs.Records.{StartsWith}
 use Rattle.published.specs.declared.listing.Listing.{Listing}
 use Rattle.published.specs.declared.listing.Published.{Published}
 
--- a listing goes on from another of its cell
+-- a listing extends another of its cell
 pub record GoesOn (new old : Listing) : Type 0 where
   pub cell : new.cell ≡ old.cell
   pub registry : new.registry ≡ old.registry

@@ -16,7 +16,7 @@ use Rattle.published.specs.Told.{listed}
 abbrev pub answer_in : Listing → Query → PageData → Answer
 answer_in l q page = answer l.mapping (operations l.records) q page
 
--- the hits are those of what was published: the last list of its history, in which each goes on from the one before it; and its records are those at this place
+-- the hits are those of what was published: the last list of its history, in which each extends the one before it; and its records are those at this place
 pub record IsFoundIn (p : Published) (q : Query) (page : PageData) (hits : Answer) (at : PlaceData) : Type 0 where
   pub chain : IsChain p.history
   pub last : IsLast p.history p.listing
@@ -39,7 +39,7 @@ pub record Finds (before after : List Published) (q : Query) (page : PageData) (
   pub known : IsFloor now after
   pub found : IsFoundIn now q page hits at
 
--- the hits are those of what comes after what was taken and what was told; it is one of them
+-- the hits are those of the later of what was taken and what the note says
 pub record FindsIn (taken : Published) (told : Option Published) (q : Query) (page : PageData) (hits : Answer) (at : PlaceData) : Type 0 where
   pub now : Published
   pub fresh : ComesAfter now taken

@@ -17,7 +17,7 @@ use std::alloc::Global;
 use std::marker::Brand;
 use std::sync::Wait;
 
-/// A searcher that was given out before a publish finds what the publish's note tells of.
+/// A searcher that was given out before a publish finds what the publish's note says.
 fn found_after<N: Name, R: Wait>(
     rt: &R,
     alloc: Global,
@@ -45,7 +45,7 @@ fn found_after<N: Name, R: Wait>(
     searcher.search(alloc, query, page)
 }
 
-/// The same of a cell that a call names.
+/// A searcher that was given out before a publish finds what the publish's note says, in a cell that a call names.
 pub fn fresh<R: Wait>(
     rt: &R,
     alloc: Global,

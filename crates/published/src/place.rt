@@ -42,7 +42,7 @@ impl Model for Place {
 }
 
 impl Place {
-    /// So many entries stand before it.
+    /// This many entries stand before it.
     pub fn of(
         node: u32,
         entries: u64,
@@ -66,7 +66,7 @@ impl Place {
         }
     }
 
-    /// The same once more.
+    /// A duplicate.
     pub fn again(&self) -> Place
         ensures { result ≡ self.now }
     {

@@ -87,8 +87,8 @@ impl Publisher {
         Ok(Publisher { writer, history })
     }
 
-    /// Shows a list that goes on from the last one. It waits for readers of the one before the last. A refusal may leave it the last,
-    /// but shown it isn't.
+    /// Shows a list that extends the last one. It waits for readers of the one before the last. A refusal may leave it the last,
+    /// but doesn't show it.
     pub fn publish<R: Wait>(
         &mut self,
         rt: &R,

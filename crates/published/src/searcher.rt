@@ -55,7 +55,7 @@ fn hits_in(entry: &Entry, alloc: Global, query: &Query, page: Page) -> Result<Fo
     }
 }
 
-/// Searches what was taken, or what was told where that is later.
+/// Searches what was taken, or the note where that is later.
 fn hits_of<N: Name>(
     taken: &Entry,
     told: &Option<Note<N>>,
@@ -101,7 +101,7 @@ fn look<N: Name>(
     }
 }
 
-/// The later of what was told, if anything, and a note.
+/// The later of the note that it has, if any, and another.
 fn taken_in<N: Name>(told: Option<Note<N>>, note: Note<N>) -> Note<N>
     requires named { N.named ≡ true }
     requires told { IsTold N.named N.cell told }
@@ -145,7 +145,7 @@ impl<N: Name> Model for Searcher<N> {
 }
 
 impl<N: Name> Searcher<N> {
-    /// A searcher that was told nothing yet.
+    /// A searcher without a note yet.
     pub(crate) fn over(reader: Line) -> Searcher<N>
         requires { IsAt N.named N.cell (view reader.place) }
         ensures { result ≡ view reader.place }

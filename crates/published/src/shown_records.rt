@@ -45,7 +45,7 @@ impl ShownRecords {
         Some(ShownRecords { written })
     }
 
-    /// The same once more.
+    /// A duplicate.
     pub fn again(&self) -> ShownRecords
         ensures { result ≡ self.now }
     {

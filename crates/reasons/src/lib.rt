@@ -1,9 +1,11 @@
 //! Why a document is refused, in words for whoever wrote it.
 #![tactic(auto)]
 
+mod escaping;
 mod misfit;
 
 use doc::{DocFault, Mapping};
+pub use escaping::{escaped, is_plain};
 use misfit::misfit;
 use serde_json::Value;
 use std::alloc::{AllocError, Global};

@@ -28,7 +28,7 @@ with_entries kept entries unsure master = record { kept = kept; entries = entrie
 abbrev pub with_journal : LedgerData MasterEntry → Option Ruling → Logged → RuledData
 with_journal l unsure master = with_entries l.kept l.entries unsure master
 
--- the log has a decision all the same that it failed to keep
+-- the log has a decision that it failed to keep
 pub record IsFound (s : State) (log : List ℕ) (r : Ruling) : Type 0 where
   pub legal : IsLegalRuling (begins_open s) r
   pub left : State

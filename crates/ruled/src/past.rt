@@ -1,4 +1,4 @@
-//! What tells for good what the master was asked.
+//! What says permanently what the master was asked.
 ghost use Rattle.std.specs.Prelude.{◌≡◌, ◌<◌, ◌≤◌, length, IsFalse, IsTrue};
 ghost use mathlib.Core.List.{IsPrefix};
 
@@ -40,7 +40,7 @@ impl<J: RegistryName> Past<J> {
         Past { entries, count }
     }
 
-    /// The same once more.
+    /// A duplicate.
     pub fn again(&self) -> Past<J>
         ensures { result ≡ self.now }
     {

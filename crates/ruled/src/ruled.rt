@@ -25,7 +25,7 @@ use translog::{LogDevice, LogFault};
 /// are to be kept.
 pub struct Ruled<D: LogDevice, J: RegistryName> {
     entries: NamedLedger<MasterEntry, J>,
-    /// The entry of a decision that the log failed to keep: where the master is closed the log may have it all the same.
+    /// The entry of a decision that the log failed to keep: where the master is closed the log may have it anyway.
     unsure: Option<Ruling>,
     master: Master<D>,
 }
@@ -101,7 +101,7 @@ impl<D: LogDevice, J: RegistryName> Ruled<D, J> {
         self.master.state().primary
     }
 
-    /// The same, and after which entries.
+    /// The primary, and after which entries.
     #[tactic(auto, using(crate::proofs::Rulings::leading_as))]
     pub fn leading(&self) -> Leading<J>
         ensures same { (result.primary ≡ self.now.master.state.primary) × (result.past ≡ self.now.entries) }

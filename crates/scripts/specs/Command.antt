@@ -30,15 +30,15 @@ pub data Command : Type 0 where
   -- a delivery and a write whose append is cut, with the record kept or not
   torn_delivery : (message : ℕ) → (kept : Bool) → Command
   torn_put : (copy : ℕ) → (kept : Bool) → (id source : List ℕ) → Command
-  -- puts of `{}` whose records are kept together, and the same where the append is cut
+  -- puts of `{}` whose records are kept together, and such puts where the append is cut
   bulk : (copy : ℕ) → (ids : List (List ℕ)) → Command
   torn_bulk : (copy : ℕ) → (kept : Bool) → (ids : List (List ℕ)) → Command
 
--- a number, and the text behind the space after it
+-- a number, and the text after the space that follows it
 abbrev pub number_then : List ℕ → Option (ℕ × List ℕ)
 number_then text = option_and_then (λ at. option_map (λ n. (n, at.1)) (number_of at.0)) (split_word text)
 
--- the numbers of a condition, and the text behind them
+-- the numbers of a condition, and the text after them
 abbrev pub condition_then : List ℕ → Option (Condition × List ℕ)
 condition_then text = option_and_then (λ at. option_map (λ next. (record { seq = at.0; term = next.0 }, next.1)) (number_then at.1)) (number_then text)
 
@@ -106,7 +106,7 @@ fail_of text = option_map fail (number_of text)
 abbrev pub kept_of : List ℕ → Option Bool
 kept_of word = if bytes_eq word (codes "1") then Some true else (if bytes_eq word (codes "0") then Some false else None)
 
--- that word, and the text behind the space after it
+-- that word, and the text after the space that follows it
 abbrev pub kept_then : List ℕ → Option (Bool × List ℕ)
 kept_then text = option_and_then (λ at. option_map (λ kept. (kept, at.1)) (kept_of at.0)) (split_word text)
 
@@ -126,7 +126,7 @@ bulk_of text = option_and_then (λ at. option_map (λ ids. bulk at.0 ids) (few_w
 abbrev pub tornbulk_of : List ℕ → Option Command
 tornbulk_of text = option_and_then (λ at. option_and_then (λ on. option_map (λ ids. torn_bulk at.0 on.0 ids) (few_words on.1)) (kept_then at.1)) (number_then text)
 
--- the command of a word with the text behind it
+-- the command of a word with the text after it
 abbrev pub command_named : List ℕ → List ℕ → Option Command
 command_named word text =
     if bytes_eq word (codes "open") then open_of text else (

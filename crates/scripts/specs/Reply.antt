@@ -38,7 +38,7 @@ outcome_name Updated = codes "updated"
 outcome_name Deleted = codes "deleted"
 outcome_name NotFound = codes "not_found"
 
--- each id behind a space
+-- each id after a space
 abbrev pub ids_text : List (Id × List ℕ) → List ℕ
 ids_text [] = []
 ids_text (h ∷ hs) = 32 ∷ h.0 ++ ids_text hs
@@ -99,7 +99,7 @@ kind_name (Removed r) = codes "removed"
 abbrev pub msg_line : ℕ → Msg → List ℕ
 msg_line number m = codes "msg " ++ (decimal number ++ (codes " " ++ (kind_name m.content ++ (codes " " ++ (decimal m.from ++ (codes " " ++ (decimal m.to ++ codes "\n")))))))
 
--- the lines of messages, where so many were sent before them
+-- the lines of messages, where `before` were sent before them
 abbrev pub msg_lines : ℕ → List Msg → List ℕ
 msg_lines before [] = []
 msg_lines before (m ∷ ms) = msg_line (suc before) m ++ msg_lines (suc before) ms

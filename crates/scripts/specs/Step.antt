@@ -33,7 +33,7 @@ State = Option World
 abbrev pub Step : Type 0 → Type 0
 Step A = Result (A × Reply) Refusal
 
--- what an event answers, where so many messages were sent before it
+-- what an event answers, where `before` messages were sent before it
 abbrev pub reply_of : ℕ → EventAnswer → Result Reply Refusal
 reply_of before (Answered a sent acknowledged) = Ok (answered a before sent acknowledged)
 reply_of before (Decided given sent) = Ok (decided given before sent)
@@ -77,7 +77,7 @@ write_at w copy id change = do
   change ← write_of c.mapping id change
   taken w (Writes copy change)
 
--- the same where the append is cut
+-- a put whose append is cut
 unfoldable pub torn_put_at : World → ℕ → Bool → List ℕ → List ℕ → Step World
 torn_put_at w copy kept id text = do
   c ← there (copy_in w.copies copy)
@@ -99,7 +99,7 @@ bulk_at w copy ids = do
   puts ← puts_of c.mapping ids
   taken w (Bulk copy puts)
 
--- the same where the append is cut
+-- a bulk of puts whose append is cut
 unfoldable pub torn_bulk_at : World → ℕ → Bool → List (List ℕ) → Step World
 torn_bulk_at w copy kept ids = do
   c ← there (copy_in w.copies copy)

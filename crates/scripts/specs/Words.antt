@@ -9,7 +9,7 @@ is_space b = b == 32
 abbrev pub has_space : List ℕ → Bool
 has_space text = nat_lt (position_or_len is_space text) (length text)
 
--- the first word of a text and what stands behind the space after it, where there is one
+-- the first word of a text and what stands after the space that follows it, where there is one
 abbrev pub split_word : List ℕ → Option (List ℕ × List ℕ)
 split_word text = if has_space text then Some (before_first is_space text, after_first is_space text) else None
 

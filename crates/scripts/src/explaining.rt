@@ -1,4 +1,4 @@
-//! Why a line is refused, in words: what stands beside the name of the refusal for whoever wrote the line.
+//! Why a line is refused, in words: what stands next to the name of the refusal for whoever wrote the line.
 
 use crate::command::{Command, LineWrite, command_of};
 use crate::index::Index;
@@ -7,7 +7,7 @@ use doc::{DocFault, DocId};
 use engine::Last;
 use master::MasterFault;
 use query::QueryFault;
-use reasons::{cut, document_reason};
+use reasons::{cut, document_reason, escaped};
 use replica::CopyFault;
 use serde_json::Value;
 use std::alloc::{AllocError, Global};
@@ -51,7 +51,7 @@ pub(crate) fn reason(
     index: Option<&Index>,
 ) -> Result<String, AllocError> {
     let why = refused_for(alloc, refusal, line, index)?;
-    one_line(alloc, &why)
+    escaped(alloc, &why)
 }
 
 fn refused_for(
@@ -240,18 +240,4 @@ fn json_of(line: &[u8]) -> &str {
         },
         None => "",
     }
-}
-
-/// A text with what would break its line escaped.
-fn one_line(alloc: Global, whole: &str) -> Result<String, AllocError> {
-    let mut escaped = String::new(alloc);
-    for c in whole.chars() {
-        if c.is_control() || c == '\u{2028}' || c == '\u{2029}' {
-            let code = c as u32;
-            escaped.push_str(&format!(in alloc; "\\u{{{code:x}}}")?)?;
-        } else {
-            escaped.push(c)?;
-        }
-    }
-    Ok(escaped)
 }

@@ -59,14 +59,14 @@ fn has_too_many(text: &str) -> bool
     rest.is_some()
 }
 
-/// The first word, and the text behind the space after it.
+/// The first word, and the text after the space that follows it.
 pub(crate) fn split_word(text: &str) -> Option<(&str, &str)>
     ensures { option_map (λ x. (x.0.now, x.1.now)) result ≡ spec.split_word text.now }
 {
     text.split_once(' ')
 }
 
-/// The first word, and where there is a space after it the text behind that.
+/// The first word, and where there is a space after it the text after that.
 pub(crate) fn first_word(text: &str) -> (&str, Option<&str>)
     ensures { spec.words_of text.now ≡ result.0.now ∷ spec.words_left (option_copied result.1) }
 {

@@ -1,9 +1,9 @@
 -- The columns of pieces that follow one another.
-use native.Mathlib.Nat.{add-mul, one-mul, suc-mul}
-use Rattle.std.proofs.Common.{◌≡◌, ◌<◌, ◌≤◌, ◌+◌, ◌*◌, ◌-◌, ◌/◌, ◌%◌, min, ℕ, zero, suc, List, [], ◌∷◌, ◌++◌, length, map, take, drop, get_or, refl, sym, ap, ◌∙◌, subst, arith, Result, Ok}
+use native.Mathlib.Nat.{add-mul, mul-le-mul_right, one-mul}
+use Rattle.std.proofs.Common.{◌≡◌, ◌<◌, ◌≤◌, ◌+◌, ◌*◌, ℕ, zero, suc, List, [], ◌∷◌, ◌++◌, length, map, take, drop, sym, ap, ◌∙◌, subst, arith, Result, Ok}
 use Rattle.std.specs.declared.alloc.AllocError.{AllocError}
 use Rattle.std.specs.Prelude.{IfOk}
-use Rattle.std.proofs.lemmas.Nat.{div-add-mod', mod_below}
+use Rattle.std.specs.List.{AllZip, range_with_len}
 use Rattle.std.proofs.lemmas.List.{take_all, take-take, drop-take, take-append-drop, length-map, length-take-le, map-append}
 use Rattle.doc.specs.Document.{Values, all_values}
 use Rattle.doc.specs.Mapping.{MappingData}
@@ -12,21 +12,11 @@ use Rattle.segment.specs.Joined.{behind, AreJoined, AreMakings}
 use Rattle.segment.proofs.AddedLaws.{Makings, makings-long}
 use Rattle.segment.proofs.JoinedLaws.{makings-joined}
 
--- as many pieces as it takes reach to the end
-pub reach : (count len size : ℕ) → 0 < size → count ≡ len / size + min 1 (len % size) → len ≤ count * size
-reach count len size some is =
-    let q = len / size in
-    let r = len % size in
-    let parts : q * size + r ≡ len = div-add-mod' len size in
-    let below : r < size = mod_below len size some in
-    by_rest r below parts is
-  where
-    by_rest : (r : ℕ) → r < size → (len / size) * size + r ≡ len → count ≡ len / size + min 1 r → len ≤ count * size
-    by_rest zero below parts is = let w = ap (λ n. n * size) is in omega (arith, parts, w)
-    by_rest (suc r) below parts is =
-        let one : count ≡ len / size + 1 = omega (arith, is) in
-        let w = ap (λ n. n * size) one ∙ add-mul (len / size) 1 size in
-        omega (arith, parts, w, below, one-mul size)
+-- each of as many pieces as it takes begins within the texts
+pub begins : (i count len size : ℕ) → i < count → count * size < len + size → i * size < len
+begins i count len size lt room =
+    let up : i + 1 ≤ count = omega arith in
+    omega (arith, mul-le-mul_right size up, add-mul i 1 size, one-mul size)
 
 module _ (m : MappingData) (size n : ℕ) (sources : List (List ℕ)) where
   -- the documents of the texts that begin at a place, as many as a piece has
@@ -44,19 +34,20 @@ module _ (m : MappingData) (size n : ℕ) (sources : List (List ℕ)) where
     pub columns : AreMakings m.fields (map (all_values m) (take begin sources)) n so_far
     pub rest : ArePieces begin left
 
-  -- what each place of a list has, one by one
-  pub in_turn : (b : ℕ) (rs : List (Result Makings AllocError)) → length sources ≤ b + length rs * size
-      → ((i : ℕ) (d : Result Makings AllocError) → i < length rs → (b + i * size ≤ length sources) × IfOk (get_or rs i d) (AreMakings m.fields (behind (b + i * size) (piece (b + i * size))) n)) → ArePieces b rs
-  in_turn b [] last each = omega (arith, last)
-  in_turn b (r ∷ rs) last each =
-      let first = each 0 r (omega arith) in
-      let here : b + 0 * size ≡ b = omega arith in
-      let more : (i : ℕ) → b + suc i * size ≡ (b + size) + i * size = λ i. ap (λ k. b + k) (suc-mul i size) ∙ omega arith in (
-        subst (λ k. k ≤ length sources) here first.0,
+  -- what stands beside each number of a range, one by one
+  pub in_turn : (k count : ℕ) (rs : List (Result Makings AllocError)) → length sources ≤ (k + count) * size → ((i : ℕ) → i < k + count → i * size ≤ length sources)
+      → AllZip (λ i r. IfOk r (AreMakings m.fields (behind (i * size) (piece (i * size))) n)) (range_with_len k count) rs → ArePieces (k * size) rs
+  in_turn k zero [] last starts each = subst (λ (j : ℕ). length sources ≤ j * size) (omega arith) last
+  in_turn k zero (r ∷ rs) last starts each = absurd each
+  in_turn k (suc count) [] last starts each = absurd each
+  in_turn k (suc count) (r ∷ rs) last starts each =
+      let on : k + suc count ≡ (k + 1) + count = omega arith in
+      let next : (k + 1) * size ≡ k * size + size = add-mul k 1 size ∙ omega (arith, one-mul size) in (
+        starts k (omega arith),
         (
-          subst (λ k. IfOk r (AreMakings m.fields (behind k (piece k)) n)) here first.1,
-          in_turn (b + size) rs (subst (λ k. length sources ≤ k) (more (length rs)) last)
-              (λ i d lt. subst (λ k. (k ≤ length sources) × IfOk (get_or rs i d) (AreMakings m.fields (behind k (piece k)) n)) (more i) (each (suc i) d (omega (arith, lt)))),
+          each.0,
+          subst (λ (b : ℕ). ArePieces b rs) next
+              (in_turn (k + 1) count rs (subst (λ (j : ℕ). length sources ≤ j * size) on last) (λ i lt. starts i (omega (arith, on, lt))) each.1),
         ),
       )
 

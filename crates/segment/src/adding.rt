@@ -46,7 +46,7 @@ fn add_field(
     if let Some(making) = makings.get_mut(field.name.as_str()) {
         return add_values(alloc, making, kind, &field.values, at);
     }
-    let mut making = Making::none(alloc, len)?;
+    let mut making = Making::none(alloc, mapping.seed(), len)?;
     add_values(alloc, &mut making, kind, &field.values, at)?;
     let boxed = Box::new(alloc, making)?;
     makings.insert(String::from_str(alloc, field.name.as_str())?, boxed)?;

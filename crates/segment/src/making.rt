@@ -9,6 +9,7 @@ use crate::longs::Longs;
 use crate::rooms::Room;
 use crate::texts::Texts;
 use marks::Marks;
+use seed::Seed;
 use std::alloc::{AllocError, Global};
 use std::collections::BTreeMap;
 use std::mem;
@@ -30,12 +31,12 @@ pub struct Making {
 
 impl Making {
     /// Nothing of so many documents.
-    pub(crate) fn none(alloc: Global, len: usize) -> Result<Making, AllocError>
+    pub(crate) fn none(alloc: Global, seed: Seed, len: usize) -> Result<Making, AllocError>
         ensures { IfOk result (IsEmptyMaking len) }
     {
         Ok(Making {
             has: Marks::none(alloc, len)?,
-            texts: Texts::none(alloc, len),
+            texts: Texts::none(alloc, seed, len),
             longs: Longs::none(alloc, len),
             yes: Marks::none(alloc, len)?,
             no: Marks::none(alloc, len)?,

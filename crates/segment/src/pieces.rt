@@ -1,5 +1,5 @@
 //! The columns of documents, piece by piece on all processors.
-ghost use Rattle.std.specs.Prelude.{◌≡◌, ◌<◌, ◌≤◌, ◌+◌, ◌^◌, ℕ, List, length, map, IfOk};
+ghost use Rattle.std.specs.Prelude.{◌≡◌, ◌<◌, ◌*◌, ◌^◌, ℕ, List, drop, length, map, take, IfOk};
 ghost use Rattle.doc.specs.Document.{all_values};
 ghost use Rattle.segment.specs.Indexed.{column_at, IsColumnOr};
 ghost use Rattle.segment.specs.Joined.{behind, AreMakings};
@@ -12,9 +12,9 @@ use crate::joining::join;
 use crate::making::Makings;
 use crate::rooms::rooms_of;
 use doc::{Mapping, Source};
+use rayon::prelude::*;
 use std::alloc::{AllocError, Global};
 use std::collections::BTreeMap;
-use std::thread;
 use std::thread::Threads;
 
 /// So many pieces keep the processors of most machines at work.
@@ -44,17 +44,18 @@ pub(crate) fn columns_of<R: Threads + Sync>(
 {
     let len = sources.len();
     let size = piece_size(len);
-    let pieces = thread::map_chunks(
-        rt,
-        alloc,
-        sources,
-        size,
-        &|begin: usize, piece: &[Source]| -> Result<Makings, AllocError>
-            requires few { len < 2 ^ 32 }
-            requires within { begin + length piece.now ≤ len }
-            ensures { IfOk result (AreMakings mapping.entry.now.fields (behind begin (map (all_values mapping.entry.now) piece.now)) len) }
-        { piece_of(alloc, mapping, piece, begin, len) },
-    )?;
+    let pieces = (0..len.div_ceil(size))
+        .into_par_iter()
+        .with_min_len(1)
+        .map(
+            |n: usize| -> Result<Makings, AllocError>
+                requires few { length sources.now < 2 ^ 32 }
+                requires some { 0 < size }
+                requires within { n * size < length sources.now }
+                ensures { IfOk result (AreMakings mapping.entry.now.fields (behind (n * size) (map (all_values mapping.entry.now) (take size (drop (n * size) sources.entry.now)))) (length sources.entry.now)) }
+            { piece_of(alloc, mapping, sources, n * size, size) },
+        )
+        .collect::<Vec<_>>(rt, alloc)?;
     let rooms = rooms_of(alloc, &pieces)?;
     let mut makings = BTreeMap::new(alloc);
     for piece in pieces {
@@ -77,14 +78,17 @@ fn piece_size(len: usize) -> usize
 fn piece_of(
     alloc: Global,
     mapping: &Mapping,
-    piece: &[Source],
+    sources: &[Source],
     begin: usize,
-    len: usize,
+    size: usize,
 ) -> Result<Makings, AllocError>
-    requires few { len < 2 ^ 32 }
-    requires within { begin + length piece.now ≤ len }
-    ensures { IfOk result (AreMakings mapping.now.fields (behind begin (map (all_values mapping.now) piece.now)) len) }
+    requires few { length sources.now < 2 ^ 32 }
+    requires within { begin < length sources.now }
+    ensures { IfOk result (AreMakings mapping.now.fields (behind begin (map (all_values mapping.now) (take size (drop begin sources.now)))) (length sources.now)) }
 {
+    let len = sources.len();
+    let rest = &sources[begin..];
+    let piece = &rest[..size.min(rest.len())];
     let makings = makings_of(alloc, mapping, piece, begin, len)?;
     if piece.len() == len {
         return Ok(makings);

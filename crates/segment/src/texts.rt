@@ -7,6 +7,7 @@ ghost use Rattle.segment.specs.Woven.{risen};
 
 use crate::listing::{map_of, sorted};
 use crate::places::Places;
+use seed::Seed;
 use std::alloc::{AllocError, Global};
 use std::collections::{BTreeMap, HashMap};
 use std::mem;
@@ -18,19 +19,19 @@ const LEAST_DOCUMENTS: usize = 64;
 #[derive(Drop)]
 pub enum Texts {
     Ordered(BTreeMap<String, Places>),
-    Table(HashMap<String, Places>),
+    Table(HashMap<String, Places, Seed>),
     Listed(Vec<(String, Places)>),
 }
 
 impl Texts {
     /// No text of so many documents.
-    pub(crate) fn none(alloc: Global, len: usize) -> Texts
+    pub(crate) fn none(alloc: Global, seed: Seed, len: usize) -> Texts
         ensures { (w : List ℕ) → places_so_far result w ≡ [] }
     {
         if len < LEAST_DOCUMENTS {
             Texts::Ordered(BTreeMap::new(alloc))
         } else {
-            Texts::Table(HashMap::new(alloc))
+            Texts::Table(HashMap::with_hasher(alloc, seed))
         }
     }
 
@@ -132,7 +133,7 @@ fn list_of(
 /// The entries of a table, in order.
 fn sort_out(
     alloc: Global,
-    texts: HashMap<String, Places>,
+    texts: HashMap<String, Places, Seed>,
 ) -> Result<Vec<(String, Places)>, AllocError>
     ensures { IfOk result (λ v. (w : List ℕ) → places_listed (λ k. bytes_eq w (string_bytes k)) v.items ≡ places_in texts w) }
 {
@@ -168,7 +169,7 @@ fn post_in_order(
 
 fn post_in_table(
     alloc: Global,
-    texts: &mut HashMap<String, Places>,
+    texts: &mut HashMap<String, Places, Seed>,
     word: &str,
     at: u32,
 ) -> Result<(), AllocError>
@@ -184,7 +185,7 @@ fn post_in_table(
 
 fn put_in_order(
     alloc: Global,
-    texts: HashMap<String, Places>,
+    texts: HashMap<String, Places, Seed>,
 ) -> Result<BTreeMap<String, Places>, AllocError>
     ensures { IfOk result (λ m. (w : List ℕ) → places_at m w ≡ places_in texts w) }
 {
@@ -210,7 +211,7 @@ fn merge_in_order(
 
 fn merge_in_table(
     alloc: Global,
-    texts: &mut HashMap<String, Places>,
+    texts: &mut HashMap<String, Places, Seed>,
     word: &str,
     later: &[u32],
 ) -> Result<(), AllocError>

@@ -21,6 +21,7 @@ use crate::segment::Segment;
 use crate::texts::Texts;
 use doc::{Mapping, Source};
 use marks::Marks;
+use seed::Seed;
 use std::alloc::{AllocError, Global};
 use std::collections::BTreeMap;
 
@@ -100,7 +101,14 @@ fn add_strand(
     let Some(mine) = placed(alloc, sources, segment.sources(), to, taken)? else {
         return Ok(false);
     };
-    weave_columns(alloc, makings, segment.columns(), to, sources.len())?;
+    weave_columns(
+        alloc,
+        mapping.seed(),
+        makings,
+        segment.columns(),
+        to,
+        sources.len(),
+    )?;
     taken.unite(&mine);
     Ok(true)
 }
@@ -159,6 +167,7 @@ fn mark_next(
 /// Adds what the documents of columns have, at the places that they are given among so many.
 fn weave_columns(
     alloc: Global,
+    seed: Seed,
     makings: &mut Makings,
     columns: &BTreeMap<String, Box<Column>>,
     to: &[Option<u32>],
@@ -171,7 +180,15 @@ fn weave_columns(
     ensures { OnOk result (AreWoven len to.now columns.now makings.old makings.new) }
 {
     for (name, column) in columns {
-        weave_one(alloc, makings, name.as_str(), column.as_ref(), to, len)?;
+        weave_one(
+            alloc,
+            seed,
+            makings,
+            name.as_str(),
+            column.as_ref(),
+            to,
+            len,
+        )?;
     }
     Ok(())
 }
@@ -179,6 +196,7 @@ fn weave_columns(
 /// Adds what the documents of one column have.
 fn weave_one(
     alloc: Global,
+    seed: Seed,
     makings: &mut Makings,
     name: &str,
     column: &Column,
@@ -196,7 +214,7 @@ fn weave_one(
     if let Some(making) = makings.get_mut(name) {
         return weave_column(alloc, making, column, to, len);
     }
-    let mut making = Making::none(alloc, len)?;
+    let mut making = Making::none(alloc, seed, len)?;
     weave_column(alloc, &mut making, column, to, len)?;
     let boxed = Box::new(alloc, making)?;
     makings.insert(String::from_str(alloc, name)?, boxed)?;

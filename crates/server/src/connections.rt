@@ -20,7 +20,7 @@ use translog::LogDevice;
 /// How many places for searchers there are: a copy has no more seats.
 const CHAIRS: usize = 8;
 
-/// Serves connections to an index of one copy until the last that is wanted has ended. A fault on one ends that connection alone. Beside them a thread
+/// Serves connections to an index of one copy until the last that is wanted has ended. A fault on one ends that connection alone. Meanwhile a thread
 /// merges the segments of the index.
 pub(crate) fn serve_connections<R, D, W, N>(
     rt: &R,
@@ -83,7 +83,7 @@ where
     Ok(())
 }
 
-/// Has searches of an index of one copy see what was written, where that is much: it is built on threads, while commands go on. Tells whether that was done.
+/// Has searches of an index of one copy see what was written, where that is much: threads build it, while commands go on. Reports whether they did.
 fn show_more<R, D, N>(rt: &R, shard: &SharedShard<D, N>) -> bool
 where
     R: Threads + Wait + Sync,
@@ -100,7 +100,7 @@ where
     shard.show_more(rt, &builder)
 }
 
-/// Refreshes an index of one copy, and tells whether that was done.
+/// Refreshes an index of one copy, and reports whether that was done.
 fn refresh_one<R, D, N>(rt: &R, shard: &SharedShard<D, N>) -> bool
 where
     R: Wait,
@@ -112,7 +112,7 @@ where
     !matches!(reply, Reply::Refused(_))
 }
 
-/// An index of several copies: its name and its mapping, and what asks the copies.
+/// An index of several copies: its name, its mapping and the client of its copies.
 #[derive(Drop)]
 pub(crate) struct Index<'a, D: LogDevice, J: IndexName> {
     pub(crate) label: &'a IndexLabel<J>,
@@ -177,7 +177,7 @@ where
     Ok(())
 }
 
-/// Copies as one thread has them who knows nothing of their history.
+/// The copies as a thread sees them that knows nothing of their history.
 fn group_of<'a, R: Wait, D: LogDevice, J: IndexName>(
     rt: &'a R,
     alloc: Global,
@@ -194,7 +194,7 @@ fn group_of<'a, R: Wait, D: LogDevice, J: IndexName>(
     }
 }
 
-/// Refreshes all copies, and tells whether that was done.
+/// Refreshes all copies, and reports whether that was done.
 fn refresh_all<R: Wait, D: LogDevice, J: IndexName>(
     rt: &R,
     alloc: Global,

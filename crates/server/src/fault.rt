@@ -7,7 +7,7 @@ use std::alloc::AllocError;
 use std::fmt::Display;
 use std::{fmt, io};
 
-/// Why the server doesn't start, or ends. Faults are looked for in this order, with want of memory anywhere.
+/// Why the server doesn't start, or ends. Faults are looked for in this order; memory may run out at any place.
 #[derive(Drop)]
 pub enum ServeFault {
     IndexName,
@@ -15,9 +15,12 @@ pub enum ServeFault {
     TooLarge,
     NotJson(serde_json::Error),
     Mapping(DocFault),
+    Seed(io::Error),
     EndlessAudit,
     JournalsAlone,
     SyncInMemory,
+    Origin(String),
+    HostName(String),
     AuditOfKept,
     Data(DataFault),
     Copies(ClusterFault),
@@ -40,6 +43,7 @@ impl Display for ServeFault {
             ServeFault::TooLarge => write!(f, "the mapping file has more than 1,048,576 bytes"),
             ServeFault::NotJson(error) => write!(f, "the mapping file isn't JSON: {error}"),
             ServeFault::Mapping(fault) => write!(f, "the mapping file is no mapping: {fault}"),
+            ServeFault::Seed(error) => write!(f, "the system gives no random number: {error}"),
             ServeFault::EndlessAudit => write!(
                 f,
                 "--audit is of a run that ends: give --connections too"
@@ -50,6 +54,14 @@ impl Display for ServeFault {
             ServeFault::SyncInMemory => write!(
                 f,
                 "--sync is of an index in a folder: give --data too, or leave out --sync"
+            ),
+            ServeFault::Origin(text) => write!(
+                f,
+                "--cors {text} is no origin: give SCHEME://HOST or SCHEME://HOST:PORT without a path and capital letters, as https://shop.example, or null, or *"
+            ),
+            ServeFault::HostName(text) => write!(
+                f,
+                "--host-name {text} is no name of a host: give one of letters, digits, hyphens, underscores and dots, without a port"
             ),
             ServeFault::AuditOfKept => write!(
                 f,
@@ -78,7 +90,7 @@ impl From<AllocError> for ServeFault {
     }
 }
 
-// Each fault is let go or kept as a whole: its parts may be large.
+// Each fault is dropped or kept as a whole: its parts may be large.
 
 impl From<DataFault> for ServeFault {
     fn from(fault: DataFault) -> ServeFault {

@@ -16,7 +16,7 @@ pub(crate) struct Founding {
     pub(crate) journals: Unnamed<Deed, MasterEntry>,
 }
 
-/// The same under its name.
+/// What an index of several copies begins with, under its name.
 #[derive(Drop)]
 pub(crate) struct Founded<J: IndexName> {
     pub(crate) label: IndexLabel<J>,

@@ -1,10 +1,12 @@
 //! Serves an index over HTTP on 127.0.0.1.
 #![tactic(auto)]
 
+mod admission;
 mod connections;
 mod fault;
 mod founding;
 mod index_name;
+mod lines;
 mod listening;
 mod lone;
 mod mapping;
@@ -16,5 +18,6 @@ mod telling;
 
 pub use cluster::Syncing;
 pub use fault::ServeFault;
+pub use front::{Admission, Rule};
 pub use serving::serve;
 pub use settings::Settings;

@@ -3,16 +3,18 @@ ghost use Rattle.std.specs.Prelude.{◌≡◌};
 
 use crate::connections::{Index, serve_connections, serve_group};
 use crate::fault::{ServeFault, ended};
+use crate::lines::Lines;
 use crate::settings::Settings;
 use crate::telling::Telling;
 use cell::IndexName;
-use clients::{Clients, Limits};
+use clients::Clients;
+use front::Rule;
 use shard::{Begun, HistoryName, Shard, SharedShard};
 use std::io;
 use std::io::Write;
 use std::marker::Brand;
 use std::net::{Net, TcpListener, TcpStream};
-use std::sync::{Mutex, Wait};
+use std::sync::Wait;
 use std::thread::Threads;
 use std::time::Clock;
 use translog::LogDevice;
@@ -21,6 +23,7 @@ use translog::LogDevice;
 pub(crate) fn listen<R, O, E, D>(
     rt: &R,
     settings: Settings<'_>,
+    rule: &Rule,
     shard: Shard<D>,
     output: &mut O,
     errors: &mut E,
@@ -37,28 +40,14 @@ where
     D: LogDevice + Send,
 {
     let begun = Begun::new(shard);
-    let door = Door {
-        port: settings.port,
-        limits: settings.limits(),
-        explains: settings.explains,
-        greets: settings.greets,
-    };
-    listen_to_one::<Brand, R, O, E, D>(rt, door, begun, output, errors)
+    listen_to_one::<Brand, R, O, E, D>(rt, settings, rule, begun, output, errors)
 }
 
-/// How connections come, and how their requests are answered.
-#[derive(Clone, Copy)]
-struct Door {
-    port: u16,
-    limits: Limits,
-    explains: bool,
-    greets: bool,
-}
-
-/// The same of an index whose history has this name.
+/// Takes the port of an index whose history has this name, and serves the connections that come to it.
 fn listen_to_one<N, R, O, E, D>(
     rt: &R,
-    door: Door,
+    settings: Settings<'_>,
+    rule: &Rule,
     begun: Begun<D>,
     output: &mut O,
     errors: &mut E,
@@ -77,19 +66,26 @@ where
     requires { begun ≡ N.index }
 {
     let shared: SharedShard<D, N> = SharedShard::new(rt.alloc(), begun)?;
-    let listener = bound(rt, door.port, output)?;
-    let ended = serve_shared(rt, door, listener, &shared, errors);
+    let lines = Lines::new(rt.alloc())?;
+    let listener = bound(rt, settings.port, output)?;
+    let ended = lines.written_while(
+        rt,
+        errors,
+        || serve_shared(rt, settings, rule, listener, &shared, &lines),
+    );
+    drop(lines);
     drop(shared);
     ended
 }
 
 /// Serves the connections that come to an index of one copy.
-fn serve_shared<N, R, E, D>(
+fn serve_shared<N, R, D>(
     rt: &R,
-    door: Door,
+    settings: Settings<'_>,
+    rule: &Rule,
     listener: TcpListener,
     shared: &SharedShard<D, N>,
-    errors: &mut E,
+    lines: &Lines,
 ) -> Result<(), ServeFault>
 where
     N: HistoryName + Send + Sync,
@@ -99,7 +95,6 @@ where
         + Wait
         + Clock
         + Sync,
-    E: Write + Send,
     D: LogDevice + Send,
 {
     let alloc = rt.alloc();
@@ -108,11 +103,12 @@ where
         alloc,
         index: shared.index(),
         mapping: shared.mapping(),
-        explains: door.explains,
-        greets: door.greets,
-        errors: Mutex::new(errors),
+        explains: settings.explains,
+        lines,
     };
-    let clients = Clients::new(rt, alloc, listener, door.limits, &telling).map_err(ended)?;
+    let clients = Clients::new(rt, alloc, listener, settings.limits(), rule, &telling).map_err(
+        ended,
+    )?;
     serve_connections(rt, alloc, &clients, shared).map_err(ended)
 }
 
@@ -120,6 +116,7 @@ where
 pub(crate) fn listen_to_group<R, O, E, D, J>(
     rt: &R,
     settings: Settings<'_>,
+    rule: &Rule,
     index: &Index<'_, D, J>,
     output: &mut O,
     errors: &mut E,
@@ -136,18 +133,48 @@ where
     D: LogDevice + Send,
     J: IndexName + Send + Sync + 'static,
 {
-    let alloc = rt.alloc();
+    let lines = Lines::new(rt.alloc())?;
     let listener = bound(rt, settings.port, output)?;
+    let ended = lines.written_while(
+        rt,
+        errors,
+        || serve_index(rt, settings, rule, listener, index, &lines),
+    );
+    drop(lines);
+    ended
+}
+
+/// Serves the connections that come to copies on threads.
+fn serve_index<R, D, J>(
+    rt: &R,
+    settings: Settings<'_>,
+    rule: &Rule,
+    listener: TcpListener,
+    index: &Index<'_, D, J>,
+    lines: &Lines,
+) -> Result<(), ServeFault>
+where
+    R: AllocGlobal
+        + Net<Listener = TcpListener, Stream = TcpStream>
+        + Threads
+        + Wait
+        + Clock
+        + Sync,
+    D: LogDevice + Send,
+    J: IndexName + Send + Sync + 'static,
+{
+    let alloc = rt.alloc();
     let telling = Telling {
         rt,
         alloc,
         index: index.label.name(),
         mapping: index.label.mapping(),
         explains: settings.explains,
-        greets: settings.greets,
-        errors: Mutex::new(errors),
+        lines,
     };
-    let clients = Clients::new(rt, alloc, listener, settings.limits(), &telling).map_err(ended)?;
+    let clients = Clients::new(rt, alloc, listener, settings.limits(), rule, &telling).map_err(
+        ended,
+    )?;
     serve_group(rt, alloc, &clients, index).map_err(ended)
 }
 

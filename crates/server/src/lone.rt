@@ -8,6 +8,7 @@ use crate::opening::OpeningLine;
 use crate::settings::Settings;
 use doc::{Mapping, Source};
 use folder::{DataFault, KeptCopy, MappingFile, open_copy};
+use front::Rule;
 use master::Master;
 use segment::Segment;
 use shard::Shard;
@@ -15,13 +16,14 @@ use std::alloc::{AllocError, Global};
 use std::fs::File;
 use std::io::Write;
 use std::net::{Net, TcpListener, TcpStream};
+use std::random::RandomSource;
 use std::rt::Files;
 use std::sync::{Arc, Wait};
 use std::thread::Threads;
 use std::time::Clock;
 use translog::FileDevice;
 
-/// An index of one copy in a folder, which no other process serves while this is held.
+/// An index of one copy in a folder, which no other process serves while this value is there.
 #[derive(Drop)]
 pub(crate) struct KeptIndex {
     shard: Shard<FileDevice<File>>,
@@ -37,7 +39,7 @@ pub(crate) fn open_alone<R, E>(
     errors: &mut E,
 ) -> Result<KeptIndex, DataFault>
 where
-    R: Files<File = File> + AllocGlobal + Threads + Clock + Sync,
+    R: Files<File = File> + AllocGlobal + RandomSource + Threads + Clock + Sync,
     E: Write + Send,
 {
     let line = OpeningLine::of_one(rt, rt.alloc(), folder, settings.at_terminal)?;
@@ -49,7 +51,7 @@ where
 }
 
 /// Opens the index of a folder, whose copy then leads, and begins one where there is none. What searches look through is built on threads.
-fn open_index<R: Files<File = File> + AllocGlobal + Threads + Sync>(
+fn open_index<R: Files<File = File> + AllocGlobal + RandomSource + Threads + Sync>(
     rt: &R,
     path: &str,
     name: &str,
@@ -105,6 +107,7 @@ fn leading(mut shard: Shard<FileDevice<File>>) -> Result<Shard<FileDevice<File>>
 pub(crate) fn serve_kept<R, O, E>(
     rt: &R,
     settings: Settings<'_>,
+    rule: &Rule,
     kept: KeptIndex,
     output: &mut O,
     errors: &mut E,
@@ -120,7 +123,7 @@ where
     E: Write + Send,
 {
     let KeptIndex { shard, lock } = kept;
-    let ended = listen(rt, settings, shard, output, errors);
+    let ended = listen(rt, settings, rule, shard, output, errors);
     drop(lock);
     ended
 }

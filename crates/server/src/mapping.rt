@@ -3,11 +3,13 @@
 use crate::fault::{ServeFault, refused};
 use doc::Mapping;
 use folder::MappingFile;
+use seed::Seed;
 use serde_json::Value;
 use shard::Shard;
 use std::alloc::Global;
 use std::fs;
 use std::io::Read;
+use std::random::RandomSource;
 use std::rt::Files;
 use translog::MemDevice;
 
@@ -50,11 +52,16 @@ fn text_of<R: Files + AllocGlobal>(rt: &R, file: &str) -> Result<String, ServeFa
     Ok(text)
 }
 
-/// The mapping of a new index: that of a file, or an empty one.
-pub(crate) fn fields_of(
-    alloc: Global,
+/// The mapping of a new index: that of a file, or an empty one. Hash tables of the index begin with a seed that nobody knows.
+pub(crate) fn fields_of<R: RandomSource + AllocGlobal>(
+    rt: &R,
     mapping: Option<&MappingFile>,
 ) -> Result<Mapping, ServeFault> {
+    let seed = Seed::random(rt).map_err(ServeFault::Seed)?;
+    Ok(unseeded_fields(rt.alloc(), mapping)?.seeded(seed))
+}
+
+fn unseeded_fields(alloc: Global, mapping: Option<&MappingFile>) -> Result<Mapping, ServeFault> {
     match mapping {
         Some(mapping) => fields_in(alloc, &mapping.value),
         None => {
@@ -70,24 +77,31 @@ fn fields_in(alloc: Global, value: &Value) -> Result<Mapping, ServeFault> {
     Mapping::from_value(alloc, value).map_err(refused)
 }
 
-/// A new index in memory under such a mapping.
-pub(crate) fn in_memory(
-    alloc: Global,
+/// A new index in memory under a mapping, or under an empty one.
+pub(crate) fn in_memory<R: RandomSource + AllocGlobal>(
+    rt: &R,
     name: &str,
     mapping: Option<&MappingFile>,
 ) -> Result<Shard<MemDevice>, ServeFault> {
+    let alloc = rt.alloc();
+    let seed = Seed::random(rt).map_err(ServeFault::Seed)?;
     match mapping {
-        Some(mapping) => begun(alloc, name, &mapping.value),
+        Some(mapping) => begun(alloc, name, &mapping.value, seed),
         None => {
             let empty = json_of(alloc, "{}")?;
-            let shard = begun(alloc, name, &empty);
+            let shard = begun(alloc, name, &empty, seed);
             drop(empty);
             shard
         }
     }
 }
 
-fn begun(alloc: Global, name: &str, value: &Value) -> Result<Shard<MemDevice>, ServeFault> {
+fn begun(
+    alloc: Global,
+    name: &str,
+    value: &Value,
+    seed: Seed,
+) -> Result<Shard<MemDevice>, ServeFault> {
     let name = String::from_str(alloc, name)?;
-    Shard::new(alloc, name, value).map_err(refused)
+    Shard::new(alloc, name, value, seed).map_err(refused)
 }

@@ -12,6 +12,7 @@ use cell::IndexName;
 use cluster::{Cluster, ClusterFault, Devices, HandedOut, InMemory, Journals, Open, Unopened};
 use doc::Mapping;
 use folder::{KeptFolder, MappingFile, judge, keep_journals, open_folder};
+use front::Rule;
 use journal::Journal;
 use node::Receipt;
 use std::alloc::{AllocError, Global};
@@ -20,6 +21,7 @@ use std::fs::File;
 use std::io::Write;
 use std::marker::Brand;
 use std::net::{Net, TcpListener, TcpStream};
+use std::random::RandomSource;
 use std::rt::Files;
 use std::sync::Wait;
 use std::thread::Threads;
@@ -30,6 +32,7 @@ use translog::{FileDevice, LogDevice};
 pub(crate) fn serve_copies<'x, R, O, E>(
     rt: &R,
     settings: Settings<'x>,
+    rule: &Rule,
     mapping: Option<&'x MappingFile>,
     output: &mut O,
     errors: &mut E,
@@ -37,6 +40,7 @@ pub(crate) fn serve_copies<'x, R, O, E>(
 where
     R: Files<File = File>
         + AllocGlobal
+        + RandomSource
         + Net<Listener = TcpListener, Stream = TcpStream>
         + Threads
         + Wait
@@ -49,14 +53,16 @@ where
     O: Write,
     E: Write + Send,
 {
-    let fields = fields_of(rt.alloc(), mapping)?;
+    let fields = fields_of(rt, mapping)?;
     let wanted = Wanted {
         settings,
         mapping,
         fields: &fields,
     };
     let ended = match Founding::of(rt.alloc(), settings.index, &fields) {
-        Ok(founding) => serve_started::<Brand, R, O, E>(rt, &wanted, output, errors, founding),
+        Ok(founding) => serve_started::<Brand, R, O, E>(
+            rt, &wanted, rule, output, errors, founding,
+        ),
         Err(refused) => Err(ServeFault::from(refused)),
     };
     drop(fields);
@@ -78,10 +84,11 @@ struct WantedIn<'a> {
     folder: &'a str,
 }
 
-/// The same, of the index that begins with this.
+/// Serves a new index in memory that begins with this.
 fn serve_started<J, R, O, E>(
     rt: &R,
     wanted: &Wanted<'_>,
+    rule: &Rule,
     output: &mut O,
     errors: &mut E,
     founding: Founding,
@@ -119,7 +126,7 @@ where
         ledgers,
     ) {
         Ok(cluster) => {
-            let served = serve_cluster(rt, wanted, &cluster, output, errors);
+            let served = serve_cluster(rt, wanted, rule, &cluster, output, errors);
             told_of(rt, wanted, journals_of(rt, cluster, served), output, errors)
         }
         Err(fault) => Err(ServeFault::from(fault)),
@@ -256,10 +263,11 @@ fn audited<O: Write, E: Write>(
 }
 
 /// Serves an index of copies on threads of their own that is kept in a folder; also one copy, whose worker then syncs its log for all that waits. It
-/// begins with those that the folder has; more are added where fewer than are wanted could be opened, and those that couldn't be are told.
+/// begins with those that the folder has; more are added where fewer than are wanted could be opened, and standard error names those that couldn't be.
 pub(crate) fn serve_kept_copies<'x, R, O, E>(
     rt: &R,
     settings: Settings<'x>,
+    rule: &Rule,
     folder: &'x str,
     mapping: Option<&'x MappingFile>,
     output: &mut O,
@@ -268,6 +276,7 @@ pub(crate) fn serve_kept_copies<'x, R, O, E>(
 where
     R: Files<File = File>
         + AllocGlobal
+        + RandomSource
         + Net<Listener = TcpListener, Stream = TcpStream>
         + Threads
         + Wait
@@ -300,7 +309,7 @@ where
             };
             let ended = match Founding::of(rt.alloc(), settings.index, &fields) {
                 Ok(founding) => {
-                    serve_folder::<Brand, R, O, E>(rt, &wanted, output, errors, founding)
+                    serve_folder::<Brand, R, O, E>(rt, &wanted, rule, output, errors, founding)
                 }
                 Err(refused) => Err(ServeFault::from(refused)),
             };
@@ -316,6 +325,7 @@ where
 fn serve_folder<J, R, O, E>(
     rt: &R,
     kept: &WantedIn<'_>,
+    rule: &Rule,
     output: &mut O,
     errors: &mut E,
     founding: Founding,
@@ -341,7 +351,7 @@ where
 {
     match opened(rt, kept, errors, founding.named::<J>()) {
         Ok(mut cluster) => {
-            let served = serve_opened(rt, &kept.wanted, &mut cluster, output, errors);
+            let served = serve_opened(rt, &kept.wanted, rule, &mut cluster, output, errors);
             told_of(
                 rt,
                 &kept.wanted,
@@ -418,6 +428,7 @@ where
 fn serve_opened<J, R, V, O, E>(
     rt: &R,
     wanted: &Wanted<'_>,
+    rule: &Rule,
     cluster: &mut Cluster<FileDevice<File>, V, Open, J>,
     output: &mut O,
     errors: &mut E,
@@ -448,13 +459,14 @@ where
     for _ in 0..lacking {
         cluster.allocate(rt)?;
     }
-    serve_cluster(rt, wanted, cluster, output, errors)
+    serve_cluster(rt, wanted, rule, cluster, output, errors)
 }
 
 /// Serves copies that are there.
 fn serve_cluster<J, R, D, V, O, E>(
     rt: &R,
     wanted: &Wanted<'_>,
+    rule: &Rule,
     cluster: &Cluster<D, V, Open, J>,
     output: &mut O,
     errors: &mut E,
@@ -476,7 +488,7 @@ where
         label: cluster.label(),
         client: cluster.client(),
     };
-    listen_to_group(rt, wanted.settings, &index, output, errors)
+    listen_to_group(rt, wanted.settings, rule, &index, output, errors)
 }
 
 /// How many copies are to be added, so that there are as many as are wanted.

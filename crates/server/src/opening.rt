@@ -37,7 +37,7 @@ pub(crate) struct Progress {
 }
 
 impl Progress {
-    /// That of a log of so many bytes; with 0 nothing is known yet.
+    /// The opening of a log of this many bytes; 0 stands for an unknown number.
     fn of(bytes: u64) -> Progress {
         Progress {
             bytes: AtomicU64::new(bytes),
@@ -48,13 +48,13 @@ impl Progress {
         }
     }
 
-    /// So many copies are to be opened, whose logs have so many bytes.
+    /// Says how many copies are to be opened, and how many bytes their logs have.
     fn expect(&self, copies: u64, bytes: u64) {
         self.copies.store(copies, Ordering::SeqCst);
         self.bytes.store(bytes, Ordering::SeqCst);
     }
 
-    /// The copies before it are open, and a log of so many bytes comes next.
+    /// Says that the copies before it are open, and how many bytes the next log has.
     fn go_on(&self, bytes: u64) {
         let before = self.current.swap(bytes, Ordering::SeqCst);
         self.done.fetch_add(before, Ordering::SeqCst);
@@ -83,7 +83,7 @@ impl Progress {
     }
 }
 
-/// A line on standard error that says how much is being opened, how much of it is done and for how long it takes by now, and that goes again.
+/// A line on standard error that says how much is being opened, how much of it is done and how long that has taken. It goes away at the end.
 #[derive(Drop)]
 pub(crate) struct OpeningLine {
     is_wanted: bool,
@@ -164,7 +164,7 @@ impl OpeningLine {
     }
 }
 
-/// The files of a folder; the copies whose log is asked for are counted.
+/// The files of a folder, which counts the copies whose log is opened.
 #[derive(Drop)]
 pub(crate) struct Counted<R> {
     rt: R,
@@ -175,7 +175,7 @@ pub(crate) struct Counted<R> {
 }
 
 impl<R: Files<File = File> + AllocGlobal + Copy + Drop> Counted<R> {
-    /// The files of a folder, as a line is to tell of them.
+    /// The files of a folder; a line shows how many of them are open.
     pub(crate) fn new(
         rt: R,
         alloc: Global,

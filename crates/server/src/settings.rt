@@ -9,9 +9,9 @@ use cluster::Syncing;
 pub struct Settings<'a> {
     pub port: u16,
     pub index: &'a str,
-    /// The file of the mapping; with none it is the one that is kept, or for a new index empty.
+    /// The file of the mapping; with none the kept mapping, or for a new index an empty one.
     pub mapping: Option<&'a str>,
-    /// The folder that the index is kept in; with none it is in memory.
+    /// The folder that keeps the index; with none it is in memory.
     pub data: Option<&'a str>,
     /// When the logs of a folder are synced; with none in each append.
     pub syncing: Option<Syncing>,
@@ -33,8 +33,6 @@ pub struct Settings<'a> {
     pub request_bytes: u64,
     /// Whether standard error says why requests are refused.
     pub explains: bool,
-    /// Whether requests are answered as the client libraries of Elasticsearch ask them.
-    pub greets: bool,
     /// Whether standard error is a terminal: the opening of large logs is shown there, and an entry that doesn't pass the audit.
     pub at_terminal: bool,
 }
@@ -52,7 +50,6 @@ impl<'a> Settings<'a> {
             bytes: self.request_bytes,
             idle: self.idle,
             refresh: self.refresh,
-            greets: self.greets,
         }
     }
 }

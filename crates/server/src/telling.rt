@@ -1,62 +1,63 @@
-//! What standard error is told while connections are served.
+//! What standard error says while connections are served.
 
+use crate::lines::Lines;
 use clients::Watcher;
 use doc::Mapping;
-use front::{greeted_reasons_of, reasons_of};
-use reasons::cut;
+use front::{Rule, reasons_of};
+use reasons::{cut, escaped};
 use std::alloc::{AllocError, Global};
-use std::io::Write;
-use std::sync::{Mutex, Wait};
+use std::sync::Wait;
 use wire::{Request, Whole, text_of};
 
-/// Tells why requests are refused, where that is wanted, and once that no connection more can be had.
+/// Says why requests are refused, by default or where that is wanted, and once that no connection more can be had.
 #[derive(Drop)]
-pub(crate) struct Telling<'a, R: Wait, E: Write> {
+pub(crate) struct Telling<'a, R: Wait> {
     pub(crate) rt: &'a R,
     pub(crate) alloc: Global,
     pub(crate) index: &'a str,
     pub(crate) mapping: &'a Mapping,
-    /// Whether it is told why requests are refused.
+    /// Whether it says why requests are refused.
     pub(crate) explains: bool,
-    /// Whether requests are answered as the client libraries of Elasticsearch ask them.
-    pub(crate) greets: bool,
-    pub(crate) errors: Mutex<&'a mut E>,
+    pub(crate) lines: &'a Lines,
 }
 
-impl<'a, R: Wait, E: Write> Telling<'a, R, E> {
-    /// Tells each reason in a line of its own.
-    fn tell(&self, connection: u64, whole: &Whole) -> Result<(), AllocError> {
-        let reasons = if self.greets {
-            greeted_reasons_of(self.alloc, self.index, self.mapping, whole)?
-        } else {
-            reasons_of(self.alloc, self.index, self.mapping, whole)?
-        };
-        let asked = asked(self.alloc, whole)?;
-        let mut held = self.errors.lock(self.rt);
+impl<'a, R: Wait> Telling<'a, R> {
+    /// Says each reason in a line of its own, in which what comes from a client is escaped.
+    fn tell(&self, rule: &Rule, connection: u64, whole: &Whole) -> Result<(), AllocError> {
+        let reasons = reasons_of(self.alloc, rule, self.index, self.mapping, whole)?;
         for reason in &reasons {
-            let _ = writeln!(*held, "indexd: connection {connection}: {asked}: {reason}");
+            self.say(connection, whole, reason)?;
         }
+        Ok(())
+    }
+
+    fn say(&self, connection: u64, whole: &Whole, reason: &str) -> Result<(), AllocError> {
+        let asked = asked(self.alloc, whole)?;
+        let line = format!(in self.alloc; "connection {connection}: {asked}: {reason}")?;
+        self.lines.push(self.rt, escaped(self.alloc, &line)?);
         Ok(())
     }
 }
 
-impl<'a, R: Wait + Sync, E: Write + Send> Watcher for Telling<'a, R, E> {
-    fn answered(&self, connection: u64, whole: &Whole, page: &str) {
+impl<'a, R: Wait + Sync> Watcher for Telling<'a, R> {
+    fn answered(&self, rule: &Rule, connection: u64, whole: &Whole, page: &str) {
         if self.explains && is_refusal(whole, page) {
-            let _ = self.tell(connection, whole);
+            let _ = self.tell(rule, connection, whole);
         }
     }
 
     fn is_full(&self) {
-        let mut held = self.errors.lock(self.rt);
-        let _ = writeln!(
-            *held,
-            "indexd: the limit of open files is reached: connections that come wait until others end"
+        let told = String::from_str(
+            self.alloc,
+            "the limit of open files is reached: connections that come wait until others end",
         );
+        if let Ok(line) = told {
+            self.lines.push(self.rt, line);
+        }
     }
 }
 
-/// Whether a page tells a refusal, of the whole or of an item of a bulk.
+/// Whether a page refuses the whole of a request, or an item of a bulk.
 fn is_refusal(whole: &Whole, page: &str) -> bool {
     if !page.starts_with("HTTP/1.1 2") {
         return true;

@@ -1,4 +1,4 @@
--- What an index of one copy answers a command, and what its copy is after it.
+-- How an index of one copy answers a command, and what its copy is afterwards.
 use Rattle.std.specs.Prelude.{◌≡◌, ◌≢◌, ◌⊎◌, ◌==◌, ◌&&◌, nat_lt, nat_le, if◌then◌else◌, ℕ, Bool, true, false, List, map, length, Option, Some, None, option_map, Result, Ok, Err}
 use Rattle.serde_json.specs.Data.{Data}
 use Rattle.doc.specs.Fault as doc
@@ -42,14 +42,14 @@ use Rattle.front.specs.declared.reply.Refusal.TheVariants.{NotPrimary, VersionCo
 use Rattle.front.specs.Command.{Command, write, bulk, get, search, count, refresh, promote}
 use Rattle.front.specs.Reply.{Reply, wrote, bulked, got, hits, counted, refreshed, refused}
 
--- the copy of a new index under the mapping that a JSON value is
+-- the copy of a new index with the mapping that a JSON value states
 abbrev pub begun_under : Data → Result Copy doc.Fault
 begun_under d = mapping_of d >>= λ m. Ok (begun 1 1 m)
 
 abbrev pub condition_of : Condition → kept.Condition
 condition_of c = record { seq = c.seq; term = c.term }
 
--- what a write does; a document that is to be created has no condition
+-- what a write does; the creation of a document has no condition
 abbrev pub kind_of : Change → Option Condition → OpType
 kind_of (change.Index d) condition = kind.Index d.source (option_map condition_of condition)
 kind_of (change.Create d) condition = kind.Create d.source
@@ -64,7 +64,7 @@ input_of w = input.Write (write_of w)
 abbrev pub bulk_of : List Write → Input
 bulk_of ws = input.Bulk (map write_of ws)
 
--- whether so many writes are a bulk
+-- whether n writes are a bulk
 abbrev pub is_bulk : ℕ → Bool
 is_bulk n = nat_lt 0 n && nat_le n 1024
 
@@ -74,11 +74,11 @@ replied_outcome outcome.Updated = Updated
 replied_outcome outcome.Deleted = Deleted
 replied_outcome outcome.NotFound = NotFound
 
--- a write that is kept; so many copies have to acknowledge it
+-- a write that was kept; this many copies have to acknowledge it
 abbrev pub wrote_of : ℕ → kept_written.Written → front_wrote.Wrote
 wrote_of members w = record { seq = w.seq; term = w.term; version = w.version; outcome = replied_outcome w.outcome; copies = members }
 
--- the reply that tells a copy's answer to anything but a bulk; one copy is refreshed
+-- the reply that reports a copy's answer to anything but a bulk; a refresh counts one copy
 abbrev pub reply_of : ℕ → Answer → Reply
 reply_of members (Wrote w) = wrote (wrote_of members w)
 reply_of members (Bulked items) = refused Mismatch
@@ -109,7 +109,7 @@ abbrev pub item_reply_of : ℕ → Item → ItemReply
 item_reply_of members (kept_item.Wrote w) = item.Wrote (wrote_of members w)
 item_reply_of members (kept_item.Refused f) = item.Refused (refusal_of f)
 
--- the reply that tells a copy's answer to a bulk
+-- the reply that reports a copy's answer to a bulk
 abbrev pub bulk_reply_of : ℕ → Answer → Reply
 bulk_reply_of members (Bulked items) = bulked (map (item_reply_of members) items)
 bulk_reply_of members (Wrote w) = refused Mismatch
@@ -135,7 +135,7 @@ Asked = Result (Copy × Reply) CopyFault
 abbrev pub taken : Copy → Input → Asked
 taken c i = copy_step c i >>= λ s. Ok (s.copy, reply_of (members_of s.copy.role) s.answer)
 
--- the refresh that is wanted after a write
+-- the refresh after a write, if the write asks for one
 abbrev pub refreshed_after : Bool → Copy → Result Copy CopyFault
 refreshed_after false c = Ok c
 refreshed_after true c = copy_step c input.Refresh >>= λ s. Ok s.copy
@@ -144,11 +144,11 @@ refreshed_after true c = copy_step c input.Refresh >>= λ s. Ok s.copy
 abbrev pub written : Copy → Write → Asked
 written c w = copy_step c (input_of w) >>= λ s. refreshed_after w.refresh s.copy >>= λ d. Ok (d, reply_of (members_of s.copy.role) s.answer)
 
--- the writes of a bulk; fewer than one and more than 1,024 are none
+-- the writes of a bulk; fewer than one or more than 1,024 are no bulk
 abbrev pub bulk_written : Copy → List Write → Asked
 bulk_written c ws = if is_bulk (length ws) then (copy_step c (bulk_of ws) >>= λ s. Ok (s.copy, bulk_reply_of (members_of s.copy.role) s.answer)) else Ok (c, refused Mismatch)
 
--- why one copy isn't promoted: it leads already, and there is no other
+-- why an only copy isn't promoted: it leads already, and there is no other copy
 abbrev pub promotion_refusal : ℕ → ℕ → Refusal
 promotion_refusal own copy = if copy == own then IsPrimary else NotInSync
 
@@ -167,12 +167,12 @@ abbrev pub told : Copy → Asked → Copy × Reply
 told c (Ok x) = x
 told c (Err f) = (c, refused (refusal_of f))
 
--- the copy after a step, or as it was
+-- the copy after a step; as it was if the step was refused
 abbrev pub left_by : Copy → Step → Copy
 left_by c (Ok s) = s.copy
 left_by c (Err f) = c
 
--- nothing has changed, or the write stands alone, without the refresh after it, or the writes of a bulk without a reply
+-- nothing has changed, or the write stands without the refresh after it, or the writes of a bulk stand without a reply
 abbrev pub IsPartOf : Command → Copy → Copy → Type 0
 IsPartOf (write w) c d = (d ≡ c) ⊎ (d ≡ left_by c (copy_step c (input_of w)))
 IsPartOf (bulk ws) c d = (d ≡ c) ⊎ (d ≡ left_by c (copy_step c (bulk_of ws)))
@@ -182,13 +182,13 @@ IsPartOf (count q) c d = d ≡ c
 IsPartOf refresh c d = d ≡ c
 IsPartOf (promote copy) c d = d ≡ c
 
--- whether memory is wanting, or the copy's log has failed
+-- whether the reply says that memory ran out, or that the copy's log failed
 abbrev pub is_failure : Reply → Bool
 is_failure (refused NoMemory) = true
 is_failure (refused Log) = true
 is_failure r = false
 
--- the log failed in the step of a write or of a bulk; nothing else comes to it
+-- the log failed in the step of a write or of a bulk; no other command uses the log
 pub record HasFailed (s : Logged) (i : Input) (t : Logged) : Type 0 where
   pub fault : CopyFault
   pub failed : IsFailed s t (copy_step s.copy i) fault

@@ -21,7 +21,7 @@ abbrev pub command_in : List declared.Command → declared.Command
 command_in [] = variant.Refresh
 command_in (c ∷ cs) = c
 
--- the writes of a bulk, as a copy takes them; nothing where they are no bulk; or memory was wanting for them
+-- the writes of a bulk, as a copy takes them; none if they are no bulk; or memory ran out for them
 abbrev pub AreTaken : {E : Type 0} → List Write → Result (Option (List kept.Write)) E → Type 0
 AreTaken ws (Ok (Some taken)) = taken ≡ map write_of ws
 AreTaken ws (Ok None) = AreOfOneBulk (map write_of ws) → ⊥
@@ -33,7 +33,7 @@ pub record IsBulkOf {E : Type 0} (c : Command) (made : Result (Option (List kept
   pub is : c ≡ bulk writes
   pub taken : AreTaken writes made
 
--- what a copy takes for a command
+-- the form in which a copy takes a command
 abbrev pub IsTakenAs : Command → Form → Type 0
 IsTakenAs c (form.Write w) = c ≡ write w
 IsTakenAs c (form.Bulk made) = IsBulkOf c made

@@ -25,7 +25,7 @@ pub record Stand : Type 0 where
   pub copy : Logged
   pub master : ruler.Logged
 
--- a command led from one to the next, of the same mapping, in which the log of an open copy is that of its records
+-- a command led from one stand to the next. The mapping stays, and if the copy is open then, its log keeps exactly its records
 pub record Follows (s t : Stand) : Type 0 where
   pub command : Command
   pub reply : Reply
@@ -48,7 +48,7 @@ pub record DiffersInPoint (s t : Stand) : Type 0 where
   pub logged : IsLogged t.copy
   pub master : t.master ≡ s.master
 
--- a command led from one to the next, or segments were merged, or a refresh shows what was there when it was begun
+-- a command led from one stand to the next, or segments were merged, or a refresh shows what was there when it began
 abbrev pub LeadsTo : Stand → Stand → Type 0
 LeadsTo s t = Follows s t ⊎ DiffersInSegments s t ⊎ DiffersInPoint s t
 
@@ -61,17 +61,17 @@ abbrev pub IsHistory : List Stand → Type 0
 IsHistory [] = ⊥
 IsHistory (s ∷ ts) = IsLogged s.copy × RunsOn s ts
 
--- each is of a copy with this mapping
+-- each copy has this mapping
 abbrev pub AreUnder : MappingData → List Stand → Type 0
 AreUnder m [] = Unit {0}
 AreUnder m (t ∷ ts) = (t.copy.copy.mapping ≡ m) × AreUnder m ts
 
--- this is the last
+-- this is the last of the list
 pub record EndsIn (t : Stand) (ts : List Stand) : Type 0 where
   pub before : List Stand
   pub is : ts ≡ before ++ t ∷ []
 
--- one more stands behind those of a history
+-- the new list is the old one with one more stand, to which the last one led
 pub record IsNext (old new : List Stand) : Type 0 where
   pub at : Stand
   pub next : Stand
@@ -79,7 +79,7 @@ pub record IsNext (old new : List Stand) : Type 0 where
   pub goes_on : LeadsTo at next
   pub is : new ≡ old ++ next ∷ []
 
--- the history goes on from what was known up to a place, from which the command led to the next, which is the last that is known then
+-- the history goes on from what was known to some place. From there the command led to the next place, which is the last that is known then
 pub record IsDone (old : List Stand) (c : Command) (r : Reply) (new : List Stand) : Type 0 where
   pub start : List Stand
   pub at : Stand
@@ -96,13 +96,13 @@ pub record IsReplyAt (ts : List Stand) (c : Command) (r : Reply) : Type 0 where
   pub ends : EndsIn at ts
   pub served : IsServed at.copy at.master c r at.copy at.master
 
--- the history goes on from what was known up to such a place
+-- the history goes on from what was known to a place where the command has this reply and changes nothing
 pub record IsLooked (old : List Stand) (c : Command) (r : Reply) (new : List Stand) : Type 0 where
   pub goes_on : IsPrefix old new
   pub replied : IsReplyAt new c r
   pub legal : IsHistory new
 
--- the reply is that of the index at a place of its history that isn't before what was known; this place is known then
+-- the reply is that of the index at a place of its history. The place isn't before what was known, and is known then
 abbrev pub IsTold : List Stand → Command → Reply → List Stand → Type 0
 IsTold old c r new = IsDone old c r new ⊎ IsLooked old c r new
 
@@ -110,13 +110,13 @@ IsTold old c r new = IsDone old c r new ⊎ IsLooked old c r new
 abbrev pub seen_of : Copy → SnapshotData
 seen_of c = record { mapping = c.mapping; documents = documents (shown c.records c.point) }
 
--- it is what searches see of an index whose copy is open, and whose log is that of its records
+-- searches see this of the index: its copy is open, and the log keeps exactly the copy's records
 pub record IsSeenOf (s : SnapshotData) (t : Stand) : Type 0 where
   pub now_open : t.copy.closed ≡ false
   pub logged : IsLogged t.copy
   pub sees : s ≡ seen_of t.copy.copy
 
--- it is what they see at the end of a history
+-- searches see this at the end of the history
 pub record IsSeenAt (s : SnapshotData) (ts : List Stand) : Type 0 where
   pub at : Stand
   pub ends : EndsIn at ts

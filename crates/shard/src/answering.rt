@@ -1,4 +1,4 @@
-//! What a copy answers the commands of requests, and how that is replied.
+//! How a copy answers commands, and the replies made of its answers.
 ghost use Rattle.std.specs.Prelude.{◌≡◌, ◌⊎◌, true, false, length, map, IfOk, IfErr, OnOk, option_map};
 ghost use Rattle.doc.specs.Outcome.{Gives};
 ghost use Rattle.engine.specs.Answer.{answer_of, found};
@@ -22,7 +22,7 @@ use replica::{Answer, Copy, CopyFault, Input, Item, Items, OpType, Output, Write
 use std::alloc::{AllocError, Global};
 use translog::LogDevice;
 
-/// Does a command, and tells the copy's refusal as a reply.
+/// Carries out a command. If the copy refuses it, the reply is the refusal.
 pub(crate) fn reply_to<D: LogDevice>(alloc: Global, copy: &mut Copy<D>, asked: Asked) -> Reply
     ensures { spec.IsAnswered copy.old (command_view asked) (reply_view result) copy.new }
 {
@@ -35,7 +35,7 @@ pub(crate) fn reply_to<D: LogDevice>(alloc: Global, copy: &mut Copy<D>, asked: A
     }
 }
 
-/// Does a command. After want of memory nothing has changed, or the write stands whose refresh was refused.
+/// Carries out a command. If memory runs out, nothing has changed, or the writes stand without their refresh or reply.
 pub(crate) fn answer<D: LogDevice>(
     alloc: Global,
     copy: &mut Copy<D>,
@@ -61,7 +61,7 @@ pub(crate) fn answer<D: LogDevice>(
     }
 }
 
-/// Why one copy isn't promoted: it leads whenever it is to write, and there is no other.
+/// Why an only copy isn't promoted: it leads whenever it has to write, and there is no other copy.
 fn promotion_refusal(own: u32, copy: u32) -> Refusal
     ensures { result ≡ spec.promotion_refusal own copy }
 {
@@ -72,7 +72,7 @@ fn promotion_refusal(own: u32, copy: u32) -> Refusal
     }
 }
 
-/// Does a step of the copy.
+/// Has the copy do one step.
 fn take<D: LogDevice>(alloc: Global, copy: &mut Copy<D>, input: Input) -> Result<Reply, CopyFault>
     requires open { copy.old.closed ≡ false }
     requires no_log { uses_log input ≡ false }
@@ -84,7 +84,7 @@ fn take<D: LogDevice>(alloc: Global, copy: &mut Copy<D>, input: Input) -> Result
     Ok(reply_of(output))
 }
 
-/// Does a write, and then the refresh that is wanted.
+/// Does a write, and then the refresh if the write asks for one.
 fn do_write<D: LogDevice>(
     alloc: Global,
     copy: &mut Copy<D>,
@@ -104,7 +104,7 @@ fn do_write<D: LogDevice>(
     Ok(reply_of(output))
 }
 
-/// Does the writes of a bulk, with one step.
+/// Does the writes of a bulk, in one step.
 fn do_bulk<D: LogDevice>(
     alloc: Global,
     copy: &mut Copy<D>,
@@ -131,7 +131,7 @@ pub fn writes_of(alloc: Global, writes: Vec<Write>) -> Result<Vec<replica::Write
     Ok(taken)
 }
 
-/// The input that a write is to its copy.
+/// The write as an input of its copy.
 fn input_of(write: Write) -> Input
     ensures { result ≡ spec.input_of write }
 {
@@ -171,7 +171,7 @@ fn condition_of(condition: Option<Condition>) -> Option<replica::Condition>
     }
 }
 
-/// The reply that tells what a step answers.
+/// The reply that reports the answer of a step.
 pub(crate) fn reply_of(output: Output) -> Reply
     ensures { reply_view result ≡ spec.reply_of output.members output.answer }
 {
@@ -184,7 +184,7 @@ pub(crate) fn reply_of(output: Output) -> Reply
     reply_in(answer, members as u64)
 }
 
-/// The reply that tells what the step of a bulk answers.
+/// The reply that reports the answer of a bulk's step.
 fn bulk_reply(alloc: Global, output: Output) -> Result<Reply, AllocError>
     ensures { IfOk result (λ r. reply_view r ≡ spec.bulk_reply_of output.members output.answer) }
 {
@@ -197,8 +197,8 @@ fn bulk_reply(alloc: Global, output: Output) -> Result<Reply, AllocError>
     bulk_reply_in(alloc, answer, members as u64)
 }
 
-/// The reply that tells the answer to a bulk; so many copies have to acknowledge its writes.
-pub fn bulk_reply_in(alloc: Global, answer: Answer, copies: u64) -> Result<Reply, AllocError>
+/// The reply that reports the answer to a bulk; this many copies have to acknowledge its writes.
+fn bulk_reply_in(alloc: Global, answer: Answer, copies: u64) -> Result<Reply, AllocError>
     ensures { IfOk result (λ r. reply_view r ≡ spec.bulk_reply_of copies answer) }
 {
     match answer {
@@ -217,8 +217,8 @@ pub fn bulk_reply_in(alloc: Global, answer: Answer, copies: u64) -> Result<Reply
     }
 }
 
-/// The replies that tell what became of the writes of a bulk; so many copies have to acknowledge them.
-pub fn replies_of(alloc: Global, items: Items, copies: u64) -> Result<Vec<ItemReply>, AllocError>
+/// The replies that say what became of the writes of a bulk; this many copies have to acknowledge them.
+fn replies_of(alloc: Global, items: Items, copies: u64) -> Result<Vec<ItemReply>, AllocError>
     ensures { IfOk result (λ rs. rs.items ≡ map (spec.item_reply_of copies) items) }
 {
     let mut replies = Vec::new(alloc);
@@ -228,7 +228,7 @@ pub fn replies_of(alloc: Global, items: Items, copies: u64) -> Result<Vec<ItemRe
     Ok(replies)
 }
 
-/// The reply that tells what became of a write of a bulk; so many copies have to acknowledge it.
+/// The reply that says what became of a write of a bulk; this many copies have to acknowledge it.
 pub fn item_reply_of(item: Item, copies: u64) -> ItemReply
     ensures { result ≡ spec.item_reply_of copies item }
 {
@@ -250,7 +250,7 @@ fn wrote_of(written: Written, copies: u64) -> Wrote
     }
 }
 
-/// The reply that tells an answer to anything but a bulk; so many copies have to acknowledge a write.
+/// The reply that reports an answer to anything but a bulk; this many copies have to acknowledge a write.
 pub fn reply_in(answer: Answer, copies: u64) -> Reply
     ensures { reply_view result ≡ spec.reply_of copies answer }
 {
@@ -285,7 +285,7 @@ fn replied_outcome(outcome: replica::Outcome) -> Outcome
     }
 }
 
-/// The refusal that tells why a copy refuses a step.
+/// The refusal that says why a copy refuses a step.
 pub fn refusal_of(fault: &CopyFault) -> Refusal
     ensures { result ≡ spec.refusal_of fault.now }
 {
@@ -321,7 +321,7 @@ fn search<D: LogDevice>(
     Ok(search_of(alloc, snapshot, body)?)
 }
 
-/// The documents of a page that a query means.
+/// The documents of a page that match a query.
 #[tactic(auto, using(crate::proofs::Found::each_in_turn))]
 pub(crate) fn search_of(
     alloc: Global,
@@ -335,7 +335,7 @@ pub(crate) fn search_of(
     Ok(Reply::Hits(total, hits))
 }
 
-/// The hits of a page, which take the ids and the texts of what was found.
+/// The hits of a page. They take over the ids and the texts of what was found.
 pub fn hits_of(alloc: Global, handed: Vec<Found>) -> Result<Vec<Hit>, AllocError>
     ensures { IfOk result (λ hits. hits.items ≡ map (λ h. spec.hit_of (hit_view h)) handed.items) }
 {
@@ -367,7 +367,7 @@ fn count<D: LogDevice>(alloc: Global, copy: &Copy<D>, query: &Query) -> Result<R
     Ok(count_of(alloc, snapshot, query)?)
 }
 
-/// How many documents a query means.
+/// How many documents match a query.
 pub(crate) fn count_of(
     alloc: Global,
     snapshot: &Snapshot,

@@ -1,4 +1,4 @@
-//! Commands, made ready for the copy that takes them. That needs nothing of the copy.
+//! Commands, made ready for the copy that takes them. Making them ready needs nothing from the copy.
 ghost use Rattle.front.specs.CommandView.{command_view};
 ghost use Rattle.shard.specs.Asked.{AreTaken, IsTakenAs};
 
@@ -15,7 +15,7 @@ use std::marker::Model;
 #[derive(Drop)]
 pub(crate) enum Form {
     Write(Write),
-    /// Nothing where they aren't 1 to 1,024. Want of memory for them is kept until they are to be done.
+    /// `None` unless there are 1 to 1,024 writes. If memory runs out for them, the error is kept until the command is carried out.
     Bulk(Result<Option<Writes>, AllocError>),
     Get(DocId),
     Search(SearchBody),
@@ -40,7 +40,7 @@ impl Form {
     }
 }
 
-/// The writes of a bulk, as a copy takes them; nothing where they aren't 1 to 1,024.
+/// The writes of a bulk, as a copy takes them; `None` unless there are 1 to 1,024 of them.
 fn bulk_of(alloc: Global, writes: Vec<Write>) -> Result<Option<Writes>, AllocError>
     ensures { AreTaken writes.items result }
 {
@@ -51,7 +51,7 @@ fn bulk_of(alloc: Global, writes: Vec<Write>) -> Result<Option<Writes>, AllocErr
 #[derive(Drop)]
 pub(crate) struct Asked {
     form: Form,
-    /// Of the command itself, which is there for clauses alone.
+    /// Marks the command itself, for contracts alone.
     mark: Mark<Command>,
 }
 
@@ -76,7 +76,7 @@ impl Asked {
     ghost use Rattle.shard.specs.Asked.{IsTakenAs};
     ghost use Rattle.shard.specs.Ready as spec;
 
-    /// Makes a command ready to be taken.
+    /// Makes a command ready for the copy.
     pub(crate) fn of(alloc: Global, command: Command) -> Asked
         ensures { result ≡ command }
     {
@@ -89,7 +89,7 @@ impl Asked {
         }
     }
 
-    /// Whether it is a write.
+    /// Whether it is a write or a bulk.
     pub(crate) fn is_write(&self) -> bool
         ensures { result ≡ spec.is_write (command_view self.now) }
     {

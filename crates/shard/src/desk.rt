@@ -44,7 +44,7 @@ impl<D: LogDevice, N: HistoryName> Model for Seen<D, N> {
 }
 
 impl<D: LogDevice, N: HistoryName> Seen<D, N> {
-    /// What searches of the index see now. Nothing while its copy is closed: the next command opens it again.
+    /// What searches of the index see now. `None` while its copy is closed: the next command reopens it.
     fn of(kept: &Kept<D, N>) -> Option<Seen<D, N>> {
         let at = kept.reached();
         match kept.snapshot() {
@@ -67,7 +67,7 @@ impl<D: LogDevice, N: HistoryName> Seen<D, N> {
         })
     }
 
-    /// The same once more.
+    /// A duplicate.
     fn again(&self) -> Result<Seen<D, N>, AllocError>
         ensures { IfOk result (λ s. s ≡ self.now) }
     {
@@ -77,7 +77,7 @@ impl<D: LogDevice, N: HistoryName> Seen<D, N> {
         })
     }
 
-    /// The reply to a search or a count, and the place that it is of; nothing for another command, or for one who knows more of the history.
+    /// The reply to a search or a count, and its place in the history; `None` for another command, or if the client knows more of the history.
     fn reply_to(
         &self,
         alloc: Global,
@@ -96,7 +96,7 @@ impl<D: LogDevice, N: HistoryName> Seen<D, N> {
     }
 }
 
-/// The reply to a search or a count by what searches see at the end of a history; nothing for another command.
+/// The reply to a search or a count, from what searches see at the end of a history; `None` for another command.
 fn reply_by<D: LogDevice, N: HistoryName>(
     alloc: Global,
     snapshot: &Arc<Snapshot, Global>,
@@ -117,7 +117,7 @@ fn reply_by<D: LogDevice, N: HistoryName>(
     }
 }
 
-/// Whether a command is answered by what searches see.
+/// Whether a command is answered from what searches see.
 fn is_search(command: &Command) -> bool {
     matches!(command, Command::Search(_) | Command::Count(_))
 }
@@ -127,7 +127,7 @@ fn is_bulk(command: &Command) -> bool {
     matches!(command, Command::Bulk(_))
 }
 
-/// Whether a command has searches see what was written, by a segment more.
+/// Whether a command shows searches what was written, by adding a segment.
 fn is_refresh(command: &Command) -> bool {
     match command {
         Command::Refresh => true,
@@ -140,7 +140,7 @@ fn is_refresh(command: &Command) -> bool {
     }
 }
 
-/// The reply, or the refusal where memory was wanting for it.
+/// The reply, or a refusal if memory ran out for it.
 fn or_refused(reply: Result<Reply, AllocError>) -> Reply
     ensures ok { IfOk reply (λ r. result ≡ r) }
     ensures err { IsErr reply → reply_view result ≡ refused NoMemory }
@@ -151,25 +151,25 @@ fn or_refused(reply: Result<Reply, AllocError>) -> Reply
     }
 }
 
-/// What the thread that builds merges is sent.
+/// An order to the thread that builds merges.
 #[derive(Drop)]
 enum Order {
     Build(Merging),
     End,
 }
 
-/// An index of one copy behind a lock, which a write holds until the device has synced it. What searches see stands behind a lock of its own, which
-/// is held no longer than it takes to look there, so no search waits for a write. Who wants the lock goes through a door, where one at a time waits for it: a lock
-/// alone is taken by who comes by just then, however long another one waits. Bulks take turns before they come to the door, so where few others write a write
-/// waits for two of them at most, and not for as many as there are connections. Segments are merged by a thread of its own (`merge_beside`), which holds the
-/// lock only while it puts a merge in place.
+/// An index of one copy, guarded by a lock. A write keeps the lock until the device has synced it. What searches see has a lock of its own, which a thread
+/// keeps only while it looks there, so no search waits for a write. A thread that needs the index's lock goes through a door first, where one thread at a time
+/// waits for the lock: a lock alone goes to whichever thread comes by just then, however long another one waits. Bulks take turns before they come to the door.
+/// So if few others write, a write waits for two bulks at most, not for as many as there are connections. A separate thread (`merge_beside`) merges segments,
+/// and keeps the lock only while it puts a merge in place.
 pub struct SharedShard<D: LogDevice, N: HistoryName> {
     alloc: Global,
     label: Label<N>,
     shard: Mutex<Kept<D, N>>,
-    /// Whose turn it is among bulks.
+    /// Which bulk's turn it is.
     bulk_turn: Mutex<()>,
-    /// Who is the next one at the lock.
+    /// Which thread is next at the lock.
     door: Mutex<()>,
     seen: Mutex<Option<Seen<D, N>>>,
     begun: Reached<D, N>,
@@ -197,7 +197,7 @@ impl<D: LogDevice, N: HistoryName> Drop for SharedShard<D, N> {
 }
 
 impl<D: LogDevice, N: HistoryName> SharedShard<D, N> {
-    /// The index whose history has begun, and has this name.
+    /// The index whose history has begun. The history has the name `N` from now on.
     pub fn new(alloc: Global, begun: Begun<D>) -> Result<SharedShard<D, N>, AllocError>
         requires { begun ≡ N.index }
     {
@@ -234,7 +234,7 @@ impl<D: LogDevice, N: HistoryName> SharedShard<D, N> {
         self.label.mapping()
     }
 
-    /// What one knows of the history who was told nothing.
+    /// What a client knows of the history before its first reply.
     pub fn begun(&self) -> Reached<D, N> {
         self.begun.again()
     }
@@ -248,7 +248,7 @@ impl<D: LogDevice, N: HistoryName> SharedShard<D, N> {
         }
     }
 
-    /// The reply to a search or a count by what searches see, where something is there, and one doesn't know more.
+    /// The reply to a search or a count, from what searches see; `None` for another command, if there is nothing to see, or if the client knows more.
     fn reply_to<R: Wait>(
         &self,
         rt: &R,
@@ -266,7 +266,7 @@ impl<D: LogDevice, N: HistoryName> SharedShard<D, N> {
         seen.reply_to(self.alloc, known, command)
     }
 
-    /// Has the index do a command, and searches see what it shows then. The command is made ready for the copy before the lock is taken.
+    /// Has the index carry out a command, and shows searches what the index shows then. The command is made ready for the copy before the lock is taken.
     fn call<R: Wait>(
         &self,
         rt: &R,
@@ -288,7 +288,7 @@ impl<D: LogDevice, N: HistoryName> SharedShard<D, N> {
         told
     }
 
-    /// The index, once one is the next at its lock.
+    /// The index, locked. The thread waits at the door first, until it is next.
     fn enter<R: Wait>(&self, rt: &R) -> MutexGuard<'_, Kept<D, N>> {
         let door = self.door.lock(rt);
         let held = self.shard.lock(rt);
@@ -296,7 +296,7 @@ impl<D: LogDevice, N: HistoryName> SharedShard<D, N> {
         held
     }
 
-    /// The turn of a bulk, once it has come.
+    /// Waits for the turn of a bulk. Another command needs no turn.
     fn turn<R: Wait>(&self, rt: &R, is_bulk: bool) -> Option<MutexGuard<'_, ()>> {
         if is_bulk {
             Some(self.bulk_turn.lock(rt))
@@ -305,8 +305,8 @@ impl<D: LogDevice, N: HistoryName> SharedShard<D, N> {
         }
     }
 
-    /// Has searches see what is written when this is called, where that is much: the builder builds it while commands go on. Tells whether they see it; else a refresh
-    /// has to show it.
+    /// Shows searches what is written when this is called, if that is much: the builder builds it while commands go on. Returns whether they see it; if not, a
+    /// refresh has to show it.
     pub fn show_more<
         R: Wait,
         F: Fn(Global, &Arc<Mapping, Global>, Vec<Source>) -> Result<Segment, AllocError>,
@@ -316,21 +316,21 @@ impl<D: LogDevice, N: HistoryName> SharedShard<D, N> {
         let Some(unshown) = self.begin_refresh(rt) else {
             return false;
         };
-        // What it holds is let go of behind the lock, where it would be without it.
+        // `unshown` lives until the lock is free again: what it keeps is dropped after that, not under the lock.
         match unshown.build(builder) {
             Ok(prebuilt) => self.finish_refresh(rt, prebuilt),
             Err(_) => false,
         }
     }
 
-    /// Has searches see all that was written, for one who knows so much of the history.
+    /// Shows searches all that was written, for a client that knows this much of the history.
     pub fn refresh<R: Wait>(&self, rt: &R, known: &Reached<D, N>) -> (Reply, Reached<D, N>)
         ensures { IsDone known.now refresh (reply_view result.0) result.1 }
     {
         self.call(rt, known, Command::Refresh)
     }
 
-    /// Begins a refresh whose segment is built while commands go on, where much has to be built.
+    /// Begins a refresh whose segment is built while commands go on, if much has to be built.
     fn begin_refresh<R: Wait>(&self, rt: &R) -> Option<Unshown> {
         let mut held = self.enter(rt);
         match held.begin_refresh() {
@@ -339,9 +339,9 @@ impl<D: LogDevice, N: HistoryName> SharedShard<D, N> {
         }
     }
 
-    /// Has searches see what was there when the refresh was begun, and tells whether they do.
+    /// Shows searches what was there when the refresh began, and returns whether they see it now.
     fn finish_refresh<R: Wait>(&self, rt: &R, prebuilt: Prebuilt) -> bool {
-        // What they saw before is let go of while commands go on.
+        // What they saw before is dropped while commands go on.
         match self.put_refresh(rt, prebuilt) {
             Some(before) => {
                 drop(before);
@@ -351,7 +351,7 @@ impl<D: LogDevice, N: HistoryName> SharedShard<D, N> {
         }
     }
 
-    /// The same, and gives back what they saw, if there is something else to see.
+    /// Shows searches what was there when the refresh began, and returns what they saw before; `None` if that couldn't be shown.
     fn put_refresh<R: Wait>(&self, rt: &R, prebuilt: Prebuilt) -> Option<Option<Seen<D, N>>> {
         let mut held = self.enter(rt);
         let is_shown = held.finish_refresh(prebuilt).ok()?;
@@ -363,13 +363,13 @@ impl<D: LogDevice, N: HistoryName> SharedShard<D, N> {
         Some(before)
     }
 
-    /// Has searches see what the index shows now, and gives back what they saw.
+    /// Shows searches what the index shows now, and returns what they saw before.
     fn show<R: Wait>(&self, rt: &R, kept: &Kept<D, N>) -> Option<Seen<D, N>> {
         let next = Seen::of(kept);
         self.replace(rt, next)
     }
 
-    /// Has searches see this, and gives back what they saw.
+    /// Shows searches this, and returns what they saw before.
     fn replace<R: Wait>(&self, rt: &R, next: Option<Seen<D, N>>) -> Option<Seen<D, N>> {
         let mut held = self.seen.lock(rt);
         let before = held.take();
@@ -377,7 +377,7 @@ impl<D: LogDevice, N: HistoryName> SharedShard<D, N> {
         before
     }
 
-    /// Has a merge built where searches look through many segments and none is being built. Without memory for that the next refresh tries again.
+    /// Has a merge built if searches look through many segments and no merge is being built. If memory runs out for that, the next refresh tries again.
     fn begin_merge<R: Wait>(&self, rt: &R, kept: &mut Kept<D, N>)
         ensures { kept.new ≡ kept.old }
     {
@@ -390,7 +390,7 @@ impl<D: LogDevice, N: HistoryName> SharedShard<D, N> {
         }
     }
 
-    /// Builds merges beside the commands, and puts them in place, until it is ended.
+    /// Builds merges while commands go on, and puts them in place, until `end_merges` ends it.
     pub fn merge_beside<R: Wait>(&self, rt: &R) {
         for _ in rt.forever() {
             let Ok(Order::Build(merging)) = self.orders.recv(rt) else {
@@ -402,20 +402,20 @@ impl<D: LogDevice, N: HistoryName> SharedShard<D, N> {
         }
     }
 
-    /// Ends `merge_beside`, once it has built what it builds.
+    /// Ends `merge_beside`, once it has built the merge at hand.
     pub fn end_merges<R: Wait>(&self, rt: &R) {
         let _ = self.to_merger.send(rt, Order::End);
     }
 
-    /// Puts a merge in place that was built, and begins the next one. One whose segments are gone is let go.
+    /// Puts a built merge in place, and begins the next one. A merge whose segments are gone is dropped.
     fn put_merged<R: Wait>(&self, rt: &R, merged: Option<Merged>) {
         let before = self.finish_merge(rt, merged.is_some());
-        // The segments that it replaced are let go of while commands go on.
+        // The segments that it replaced are dropped while commands go on.
         drop(before);
         drop(merged);
     }
 
-    /// The same, and gives back what searches saw.
+    /// Puts the merge in place, begins the next one, and returns what searches saw before.
     fn finish_merge<R: Wait>(&self, rt: &R, is_built: bool) -> Option<Seen<D, N>> {
         let mut held = self.enter(rt);
         self.note_built(rt);
@@ -427,15 +427,15 @@ impl<D: LogDevice, N: HistoryName> SharedShard<D, N> {
         before
     }
 
-    /// No merge is being built any more.
+    /// Notes that no merge is being built any more.
     fn note_built<R: Wait>(&self, rt: &R) {
         let mut is_merging = self.is_merging.lock(rt);
         *is_merging = false;
     }
 }
 
-/// An index of one copy, as one thread that serves connections has it, with what the client that it serves knows of the index's history. Searches and counts are of what
-/// was shown when a command ended last; they wait for no other.
+/// An index of one copy, as one thread that serves connections has it, with what the client that it serves knows of the index's history. Searches and counts
+/// see what the index showed when the last command ended, and wait for no other command.
 #[derive(Drop)]
 pub struct Desk<'a, R: Wait, D: LogDevice, N: HistoryName> {
     pub rt: &'a R,

@@ -1,4 +1,4 @@
-//! The history of an index of one copy: what it was after each command. It exists in proofs alone, but for how long it is.
+//! The history of an index of one copy: what the index was after each command. Except for its length, it exists in proofs alone.
 ghost use Rattle.std.specs.Prelude.{◌≡◌, ◌≤◌, true, IfOk, IsTrue, IfSome, length, map, string_bytes};
 ghost use Rattle.std.specs.Arc.{arc_value};
 ghost use mathlib.Core.List.{IsPrefix};
@@ -18,7 +18,7 @@ use std::marker::{Brand, Model, PhantomData};
 use std::sync::Arc;
 use translog::LogDevice;
 
-/// Whose history it is. A call of a program picks it by `Brand`.
+/// Which index's history it is. A program passes `Brand` for it, and the call's proof picks the index.
 pub trait HistoryName {
     ghost use Rattle.shard.specs.History.{Index};
 
@@ -32,7 +32,7 @@ impl HistoryName for Brand {
     ghost index = { record { line = line (record { number = 0; log_name = 0; cells_name = 0 }) 0; name = []; mapping = record { strict = false; fields = [] } } };
 }
 
-/// An index at the beginning of its history, which has no name yet. Contracts see which index it is.
+/// An index at the beginning of its history. The history has no name yet. Contracts see which index it is.
 #[derive(Drop)]
 pub struct Begun<D: LogDevice> {
     shard: Shard<D>,
@@ -54,7 +54,7 @@ impl<D: LogDevice> Model for Begun<D> {
 }
 
 impl<D: LogDevice> Begun<D> {
-    /// The history of an index begins.
+    /// Begins the history of an index.
     pub fn new(shard: Shard<D>) -> Begun<D>
         ensures name { result.name ≡ string_bytes shard.name }
         ensures mapping { result.mapping ≡ shard.copy.copy.mapping }
@@ -85,7 +85,7 @@ impl<D: LogDevice> Begun<D> {
     }
 }
 
-/// The name and the mapping of an index, as its history's name has them. Contracts see the name.
+/// The name and the mapping of the index whose history is named `N`. Contracts see the name.
 #[derive(Drop)]
 pub(crate) struct Label<N: HistoryName> {
     name: String,
@@ -117,7 +117,7 @@ impl<N: HistoryName> Label<N> {
     }
 }
 
-/// A beginning of the history of an index that was reached. Contracts see what the index was after each command.
+/// The history of an index up to a place that it has reached. Contracts see what the index was after each command.
 pub struct Reached<D: LogDevice, N: HistoryName> {
     mark: Mark<Shard<D>>,
     count: u64,
@@ -147,7 +147,7 @@ impl<D: LogDevice, N: HistoryName> Model for Reached<D, N> {
 }
 
 impl<D: LogDevice, N: HistoryName> Reached<D, N> {
-    /// The same once more.
+    /// A duplicate.
     pub fn again(&self) -> Reached<D, N>
         ensures { result ≡ self.now }
     {
@@ -158,7 +158,7 @@ impl<D: LogDevice, N: HistoryName> Reached<D, N> {
         }
     }
 
-    /// One more place, which a mark reaches.
+    /// This history and one more place, which the mark reaches.
     fn behind(&self, mark: Mark<Shard<D>>) -> Reached<D, N>
         requires line { mark.line ≡ N.index.line }
         requires next { IsNext self.now (map (λ s. record { copy = s.copy; master = s.master }) mark.entries) }
@@ -172,7 +172,7 @@ impl<D: LogDevice, N: HistoryName> Reached<D, N> {
         }
     }
 
-    /// What two clients know is of one list of what the index was: where the other one reaches as far, it begins with this.
+    /// What two clients know is of one list of what the index was: if the other one reaches as far as this one, it begins with this one.
     #[tactic(auto, using(crate::proofs::Histories::mapped_prefix))]
     pub fn agrees(&self, other: &Reached<D, N>)
         ensures { length self.now ≤ length other.now → IsPrefix self.now other.now }
@@ -180,14 +180,14 @@ impl<D: LogDevice, N: HistoryName> Reached<D, N> {
         self.mark.agrees(&other.mark);
     }
 
-    /// All that is known of the history is of copies under the mapping of the index.
+    /// At each place of this history the copy has the mapping of the index.
     pub fn is_under(&self)
         ensures { AreUnder N.index.mapping self.now }
     {
         let _ = &self.mark;
     }
 
-    /// Whether it is known that another one goes on from this.
+    /// Whether another one surely goes on from this one.
     pub fn is_before(&self, other: &Reached<D, N>) -> bool
         ensures before { IsTrue result → IsPrefix self.now other.now }
     {
@@ -196,7 +196,7 @@ impl<D: LogDevice, N: HistoryName> Reached<D, N> {
     }
 }
 
-/// An index with its history. Contracts see what it is now.
+/// An index with its history. Contracts see what the index is now.
 pub(crate) struct Kept<D: LogDevice, N: HistoryName> {
     shard: Shard<D>,
     chronicle: Chronicle<Shard<D>>,
@@ -227,7 +227,7 @@ impl<D: LogDevice, N: HistoryName> Model for Kept<D, N> {
 }
 
 impl<D: LogDevice, N: HistoryName> Kept<D, N> {
-    /// The index, whose history has this name from now on.
+    /// The index. Its history has the name `N` from now on.
     pub(crate) fn of(begun: Begun<D>) -> Kept<D, N>
         requires { begun ≡ N.index }
     {
@@ -256,7 +256,7 @@ impl<D: LogDevice, N: HistoryName> Kept<D, N> {
         self.last.again()
     }
 
-    /// Does a command, for one who knows so much of the history, and tells how far this goes then.
+    /// Carries out a command for a client that knows this much of the history, and returns how far the history goes then.
     #[tactic(auto, using(crate::proofs::Histories::next_by, crate::proofs::Histories::done_by))]
     pub(crate) fn call(&mut self, known: &Reached<D, N>, asked: Asked) -> (Reply, Reached<D, N>)
         ensures done { IsDone known.now (command_view asked) (reply_view result.0) result.1 }
@@ -270,7 +270,7 @@ impl<D: LogDevice, N: HistoryName> Kept<D, N> {
         (reply, self.last.again())
     }
 
-    /// What searches see at this place of the history; nothing while the copy is closed.
+    /// What searches see at this place of the history; `None` while the copy is closed.
     pub(crate) fn snapshot(&self) -> Option<&Arc<Snapshot, Global>>
         ensures { IfSome result (λ s. IsSeenOf (arc_value s.now) self.now) }
     {
@@ -278,14 +278,14 @@ impl<D: LogDevice, N: HistoryName> Kept<D, N> {
         self.shard.snapshot()
     }
 
-    /// Begins a merge of segments that go well into one, where searches look through many. The index stays as it is.
+    /// Begins a merge of segments that fit well into one, if searches look through many. The index stays as it is.
     pub(crate) fn begin_merge(&mut self) -> Result<Option<Merging>, AllocError>
         ensures { self.new ≡ self.old }
     {
         self.shard.begin_merge()
     }
 
-    /// Puts the segment in place that was built for it, and tells whether it is there. What the index has and shows stays.
+    /// Puts the merged segment in place, and returns whether it is there now. What the index has and shows stays.
     #[tactic(auto, using(crate::proofs::Histories::merged_by, crate::proofs::Histories::unmerged))]
     pub(crate) fn finish_merge(&mut self) -> Result<bool, AllocError>
         ensures differs { DiffersInSegments self.old self.new }
@@ -297,7 +297,7 @@ impl<D: LogDevice, N: HistoryName> Kept<D, N> {
         Ok(is_there)
     }
 
-    /// Begins a refresh whose segment is built while commands go on, where much has to be built. The index stays as it is.
+    /// Begins a refresh whose segment is built while commands go on, if much has to be built. The index stays as it is.
     pub(crate) fn begin_refresh(&mut self) -> Result<Option<Unshown>, AllocError>
         ensures { self.new ≡ self.old }
     {
@@ -307,7 +307,7 @@ impl<D: LogDevice, N: HistoryName> Kept<D, N> {
         self.shard.begin_refresh()
     }
 
-    /// Has searches see what was there when the refresh was begun, and tells whether they do.
+    /// Shows searches what was there when the refresh began, and returns whether they see it now.
     #[tactic(auto, using(crate::proofs::Histories::shown_by, crate::proofs::Histories::shows_more))]
     pub(crate) fn finish_refresh(&mut self, prebuilt: Prebuilt) -> Result<bool, AllocError>
         ensures done { IfOk result (λ b. b ≡ true → DiffersInPoint self.old self.new) }

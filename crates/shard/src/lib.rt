@@ -1,4 +1,4 @@
-//! An index of one copy as a service that answers the requests of HTTP.
+//! An index of one copy, as a service that answers HTTP requests.
 #![tactic(auto)]
 
 pub mod answering;

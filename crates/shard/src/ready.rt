@@ -11,8 +11,7 @@ use replica::{Copy, CopyFault, Input, Role};
 use std::alloc::{AllocError, Global};
 use translog::{LogDevice, LogFault};
 
-/// Opens a closed copy again, and has the master make one that is to write its primary. What can't be done is left undone; want of memory
-/// is told.
+/// Reopens a closed copy. If the copy has to write, the master makes it the primary. What can't be done is left undone; an error says that memory ran out.
 pub(crate) fn make_ready<D: LogDevice>(
     alloc: Global,
     copy: &mut Copy<D>,
@@ -77,7 +76,7 @@ fn lead<D: LogDevice>(
     }
 }
 
-/// The message by which the master makes a copy its primary, where it does. A master that is closed is opened again first.
+/// The message by which the master makes a copy the primary; `None` if it doesn't. A closed master is reopened first.
 fn promotion<D: LogDevice>(
     alloc: Global,
     master: &mut Master<D>,

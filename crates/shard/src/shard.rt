@@ -23,12 +23,13 @@ use front::reply::Refusal;
 use front::{Command, Reply, Service};
 use master::Master;
 use replica::Copy;
+use seed::Seed;
 use serde_json::Value;
 use std::alloc::{AllocError, Global};
 use std::sync::Arc;
 use translog::{LogDevice, MemDevice};
 
-/// An index of a name over its one copy, and the master that makes the copy its primary again after it was opened anew.
+/// An index with its name, its only copy, and the master, which makes the copy the primary again after the copy is reopened.
 pub struct Shard<D: LogDevice> {
     alloc: Global,
     name: String,
@@ -48,14 +49,19 @@ impl<D: LogDevice> Drop for Shard<D> {
 }
 
 impl Shard<MemDevice> {
-    /// A new index in memory under the mapping that a JSON value is, or the mapping's fault. An index name has 1 to 255 bytes, no capital letter of
-    /// ASCII, and is judged by the caller.
-    pub fn new(alloc: Global, name: String, mapping: &Value) -> Result<Shard<MemDevice>, DocFault>
+    /// A new index in memory, with the mapping that the JSON value states; or the mapping's fault. Its hash tables begin with the seed. The caller checks the
+    /// name: 1 to 255 bytes, and no ASCII capital letter.
+    pub fn new(
+        alloc: Global,
+        name: String,
+        mapping: &Value,
+        seed: Seed,
+    ) -> Result<Shard<MemDevice>, DocFault>
         ensures gives { Gives fault_of (λ s. s.copy.copy) result (begun_under (view mapping.now)) }
         ensures open { IfOk result (λ s. s.copy.closed ≡ false) }
         ensures name { IfOk result (λ s. string_bytes s.name ≡ string_bytes name) }
     {
-        let mapping = Mapping::from_value(alloc, mapping)?;
+        let mapping = Mapping::from_value(alloc, mapping)?.seeded(seed);
         let Ok(copy) = Copy::begin(alloc, 1, 1, mapping, MemDevice::new(Vec::new(alloc))) else {
             return Err(DocFault::NoMemory);
         };
@@ -67,7 +73,7 @@ impl Shard<MemDevice> {
 }
 
 impl<D: LogDevice> Shard<D> {
-    /// The index of a copy and a master that are there.
+    /// The index made of a copy and a master that exist already.
     pub fn over(alloc: Global, name: String, master: Master<D>, copy: Copy<D>) -> Shard<D>
         ensures copy { result.copy ≡ copy }
         ensures master { result.master ≡ master }
@@ -81,7 +87,7 @@ impl<D: LogDevice> Shard<D> {
         }
     }
 
-    /// Makes the copy ready for writes, and tells whether it is: open, and the primary.
+    /// Makes the copy ready for writes, and returns whether it is ready: open, and the primary.
     #[tactic(auto, using(crate::proofs::Mappings::ready_under, crate::proofs::Mappings::unready_under))]
     pub fn lead(&mut self) -> Result<bool, AllocError>
         ensures ready { OnOk result (IsReady true self.old.copy self.new.copy self.old.master self.new.master) }
@@ -94,7 +100,7 @@ impl<D: LogDevice> Shard<D> {
         Ok(self.copy.snapshot().is_some() && is_primary(self.copy.role()))
     }
 
-    /// Does a command.
+    /// Carries out a command.
     #[tactic(auto, using(crate::proofs::Mappings::unready_under, crate::proofs::Mappings::asked_under))]
     pub(crate) fn answer(&mut self, asked: Asked) -> Reply
         ensures served { IsServed self.old.copy self.old.master (command_view asked) (reply_view result) self.new.copy self.new.master }
@@ -109,21 +115,21 @@ impl<D: LogDevice> Shard<D> {
         reply_to(self.alloc, &mut self.copy, asked)
     }
 
-    /// While the copy is open its log is that of its records.
+    /// While the copy is open, its log keeps exactly its records.
     pub(crate) fn is_logged(&self)
         ensures { IsLogged self.now.copy }
     {
         self.copy.is_logged();
     }
 
-    /// Begins a merge of segments that go well into one, where searches look through many. The index stays as it is.
+    /// Begins a merge of segments that fit well into one, if searches look through many. The index stays as it is.
     pub(crate) fn begin_merge(&mut self) -> Result<Option<Merging>, AllocError>
         ensures { self.new ≡ self.old }
     {
         self.copy.begin_merge_beside(self.alloc)
     }
 
-    /// Puts the segment in place that was built for it, and tells whether it is there. What the index has and shows stays.
+    /// Puts the merged segment in place, and returns whether it is there now. What the index has and shows stays.
     pub(crate) fn finish_merge(&mut self) -> Result<bool, AllocError>
         ensures merged { IfOk result (λ b. b ≡ true → HasMerged self.old.copy.segments self.new.copy.segments) }
         ensures copy { self.new.copy ≡ record self.old.copy { segments = self.new.copy.segments } }
@@ -133,14 +139,14 @@ impl<D: LogDevice> Shard<D> {
         self.copy.finish_merge(self.alloc)
     }
 
-    /// Begins a refresh whose segment is built while commands go on, where much has to be built. The index stays as it is.
+    /// Begins a refresh whose segment is built while commands go on, if much has to be built. The index stays as it is.
     pub(crate) fn begin_refresh(&mut self) -> Result<Option<Unshown>, AllocError>
         ensures { self.new ≡ self.old }
     {
         self.copy.begin_refresh(self.alloc)
     }
 
-    /// Has searches see what was there when the refresh was begun, and tells whether they do. What the index has stays.
+    /// Shows searches what was there when the refresh began, and returns whether they see it now. What the index has stays.
     pub(crate) fn finish_refresh(&mut self, prebuilt: Prebuilt) -> Result<bool, AllocError>
         ensures done { IfOk result (λ b. b ≡ true → IsRefreshTo prebuilt.point (searched self.old.copy) (searched self.new.copy)) }
         ensures copy { self.new.copy ≡ record self.old.copy { copy = self.new.copy.copy; segments = self.new.copy.segments } }
@@ -151,7 +157,7 @@ impl<D: LogDevice> Shard<D> {
         self.copy.finish_refresh(self.alloc, prebuilt)
     }
 
-    /// What searches see; nothing while the copy is closed.
+    /// What searches see; `None` while the copy is closed.
     pub(crate) fn snapshot(&self) -> Option<&Arc<Snapshot, Global>>
         ensures now_open { IfSome result (λ s. self.now.copy.closed ≡ false) }
         ensures sees { IfSome result (λ s. arc_value s.now ≡ seen_of self.now.copy.copy) }

@@ -1,12 +1,11 @@
 -- The pieces of stretches that follow one another.
 use mathlib.Core.Bool.{beq, not}
-use native.Mathlib.Nat.{add-mul, one-mul, suc-mul}
-use Rattle.std.proofs.Common.{◌≡◌, Bool, true, false, ◌<◌, ◌≤◌, ◌+◌, ◌*◌, ◌/◌, ◌%◌, min, ℕ, zero, suc, List, [], ◌∷◌, ◌++◌, length, map, take, drop, get_or, refl, sym, ap, ◌∙◌, subst, arith, Some, Result, Ok, Err}
+use native.Mathlib.Nat.{add-mul, mul-le-mul_right, one-mul}
+use Rattle.std.proofs.Common.{◌≡◌, Bool, true, false, ◌<◌, ◌≤◌, ◌+◌, ◌*◌, min, ℕ, zero, suc, List, [], ◌∷◌, ◌++◌, length, map, take, drop, refl, sym, ap, ◌∙◌, subst, arith, Some, Result, Ok, Err}
 use Rattle.std.specs.Result.{result_ok}
-use Rattle.std.specs.List.{flat_map, AllByRecursion}
+use Rattle.std.specs.List.{flat_map, range_with_len, AllByRecursion, AllZip}
 use Rattle.std.specs.Prelude.{IfOk}
-use Rattle.std.proofs.lemmas.Nat.{div-add-mod', mod_below}
-use Rattle.std.proofs.lemmas.List.{take_all, take-take, drop-take, take-append-drop, map-append, length-append}
+use Rattle.std.proofs.lemmas.List.{take_all, take-take, drop-take, take-append-drop, take_min, map-append, length-append}
 use Rattle.std.proofs.lemmas.Grind.{flat_map-append}
 use Rattle.op.specs.declared.record.Record.{Record}
 use Rattle.translog.specs.declared.fault.LogFault.{LogFault}
@@ -59,6 +58,10 @@ pieces_read groups offset cs rs after are =
 
 -- ---- one stretch of many contents
 
+-- what is cut off at a place and then behind so many
+pub cut_at : {X : Type 0} (xs rest part : List X) (begin size n : ℕ) → part ≡ take n rest → n ≡ min size (length rest) → rest ≡ drop begin xs → part ≡ take size (drop begin xs)
+cut_at xs rest part begin size n is least back = is ∙ ap (λ k. take k rest) least ∙ take_min size rest ∙ ap (take size) back
+
 smalls_part : (cs ds : List (List ℕ)) → AreContents (cs ++ ds) → AreContents cs × AreContents ds
 smalls_part [] ds small = (tt, small)
 smalls_part (c ∷ cs) ds small = let parts = smalls_part cs ds small.1 in ((small.0, parts.0), parts.1)
@@ -102,16 +105,17 @@ module _ {X : Type 0} (f : X → List ℕ) (xs : List X) (size : ℕ) where
     pub pieces : ArePieces groups (map f (take begin xs)) rs now
     pub rest : AreStretches begin left
 
-  -- what each place of a list has, one by one
-  pub in_turn : (b : ℕ) (rs : List (Result Stretch LogFault)) → length xs ≤ b + length rs * size
-      → ((i : ℕ) (d : Result Stretch LogFault) → i < length rs → IfOk (get_or rs i d) (λ s. ArePieces s.before (stretch (b + i * size)) s.records.items s.after)) → AreStretches b rs
-  in_turn b [] last each = omega (arith, last)
-  in_turn b (r ∷ rs) last each =
-      let here : b + 0 * size ≡ b = omega arith in
-      let more : (i : ℕ) → b + suc i * size ≡ (b + size) + i * size = λ i. ap (λ k. b + k) (suc-mul i size) ∙ omega arith in (
-        subst (λ k. IfOk r (λ s. ArePieces s.before (stretch k) s.records.items s.after)) here (each 0 r (omega arith)),
-        in_turn (b + size) rs (subst (λ k. length xs ≤ k) (more (length rs)) last)
-            (λ i d lt. subst (λ k. IfOk (get_or rs i d) (λ s. ArePieces s.before (stretch k) s.records.items s.after)) (more i) (each (suc i) d (omega (arith, lt)))),
+  -- what stands beside each number of a range, one by one
+  pub in_turn : (k count : ℕ) (rs : List (Result Stretch LogFault)) → length xs ≤ (k + count) * size
+      → AllZip (λ i r. IfOk r (λ s. ArePieces s.before (stretch (i * size)) s.records.items s.after)) (range_with_len k count) rs → AreStretches (k * size) rs
+  in_turn k zero [] last each = subst (λ (j : ℕ). length xs ≤ j * size) (omega arith) last
+  in_turn k zero (r ∷ rs) last each = absurd each
+  in_turn k (suc count) [] last each = absurd each
+  in_turn k (suc count) (r ∷ rs) last each =
+      let on : k + suc count ≡ (k + 1) + count = omega arith in
+      let next : (k + 1) * size ≡ k * size + size = add-mul k 1 size ∙ omega (arith, one-mul size) in (
+        each.0,
+        subst (λ (b : ℕ). AreStretches b rs) next (in_turn (k + 1) count rs (subst (λ (j : ℕ). length xs ≤ j * size) on last) each.1),
       )
 
   take-more : (b : ℕ) → take b xs ++ take size (drop b xs) ≡ take (b + size) xs
@@ -146,18 +150,8 @@ module _ {X : Type 0} (f : X → List ℕ) (xs : List X) (size : ℕ) where
   pub all-read : (groups now : Bool) (rs : List Record) → IsSoFar groups rs now [] → ArePieces groups (map f xs) rs now
   all-read groups now rs so_far = subst (λ ys. ArePieces groups (map f ys) rs now) (take_all so_far.begin xs so_far.rest) so_far.pieces
 
--- as many stretches as it takes reach to the end
-pub reach : (count len size : ℕ) → 0 < size → count ≡ len / size + min 1 (len % size) → len ≤ count * size
-reach count len size some is =
-    let q = len / size in
-    let r = len % size in
-    let parts : q * size + r ≡ len = div-add-mod' len size in
-    let below : r < size = mod_below len size some in
-    by_rest r below parts is
-  where
-    by_rest : (r : ℕ) → r < size → (len / size) * size + r ≡ len → count ≡ len / size + min 1 r → len ≤ count * size
-    by_rest zero below parts is = let w = ap (λ n. n * size) is in omega (arith, parts, w)
-    by_rest (suc r) below parts is =
-        let one : count ≡ len / size + 1 = omega (arith, is) in
-        let w = ap (λ n. n * size) one ∙ add-mul (len / size) 1 size in
-        omega (arith, parts, w, below, one-mul size)
+-- each of as many stretches as it takes begins within the contents
+pub begins : (i count len size : ℕ) → i < count → count * size < len + size → i * size < len
+begins i count len size lt room =
+    let up : i + 1 ≤ count = omega arith in
+    omega (arith, mul-le-mul_right size up, add-mul i 1 size, one-mul size)

@@ -1,5 +1,5 @@
 //! The records of many contents, stretch by stretch on all processors.
-ghost use Rattle.std.specs.Prelude.{◌≡◌, ◌≤◌, ◌<◌, ◌+◌, ◌^◌, false, length, map, IfOk, IfErr, IfSome};
+ghost use Rattle.std.specs.Prelude.{◌≡◌, ◌<◌, ◌+◌, ◌*◌, ◌^◌, false, drop, length, map, take, IfOk, IfErr, IfSome};
 ghost use Rattle.std.specs.List.{flat_map};
 ghost use Rattle.doc.specs.Outcome.{Gives};
 ghost use Rattle.translog.specs.Fault.{fault_of, is_device};
@@ -11,8 +11,8 @@ use crate::fault::LogFault;
 use crate::frames::{self, Torn};
 use crate::pieces::{self, UPGRADE, has_groups, header_of, records_of};
 use op::Record;
+use rayon::prelude::*;
 use std::alloc::Global;
-use std::thread;
 use std::thread::Threads;
 
 /// So many stretches keep the processors of most machines at work.
@@ -82,22 +82,19 @@ fn together<R: Threads + Sync>(
     ensures { IfSome result (λ x. ArePieces groups (map (λ c. c.now) contents.entry.now) x.0.items x.1) }
 {
     let size = contents.len() / MOST_STRETCHES + 1;
-    let stretches = thread::map_chunks(
-        rt,
-        alloc,
-        contents,
-        size,
-        &|begin: usize, stretch: &[&[u8]]| -> Result<Stretch, LogFault>
-            requires within { begin ≤ length contents.now }
-            requires small { AreContents (map (λ c. c.now) stretch.now) }
-            requires offsets { 4 + length (flat_map framed (map (λ c. c.now) stretch.now)) < 2 ^ 64 }
-            ensures { IfOk result (λ s. ArePieces s.before (map (λ c. c.now) stretch.now) s.records.items s.after) }
-        {
-            let before = groups || contents[..begin].contains(&[UPGRADE].as_slice());
-            stretch_of(alloc, before, stretch)
-        },
-    )
-    .ok()?;
+    let stretches = (0..contents.len().div_ceil(size))
+        .into_par_iter()
+        .with_min_len(1)
+        .map(
+            |n: usize| -> Result<Stretch, LogFault>
+                requires within { n * size < length contents.now }
+                requires small { AreContents (map (λ c. c.now) contents.now) }
+                requires offsets { 4 + length (flat_map framed (map (λ c. c.now) contents.now)) < 2 ^ 64 }
+                ensures { IfOk result (λ s. ArePieces s.before (map (λ c. c.now) (take size (drop (n * size) contents.entry.now))) s.records.items s.after) }
+            { stretch_at(alloc, groups, contents, n * size, size) },
+        )
+        .collect::<Vec<_>>(rt, alloc)
+        .ok()?;
     let mut records = Vec::with_capacity(alloc, contents.len()).ok()?;
     let mut may_group = groups;
     for stretch in stretches {
@@ -109,6 +106,25 @@ fn together<R: Threads + Sync>(
         may_group = next.after;
     }
     Some((records, may_group))
+}
+
+/// The records of the stretch that begins at a place.
+fn stretch_at(
+    alloc: Global,
+    groups: bool,
+    contents: &[&[u8]],
+    begin: usize,
+    size: usize,
+) -> Result<Stretch, LogFault>
+    requires within { begin < length contents.now }
+    requires small { AreContents (map (λ c. c.now) contents.now) }
+    requires offsets { 4 + length (flat_map framed (map (λ c. c.now) contents.now)) < 2 ^ 64 }
+    ensures { IfOk result (λ s. ArePieces s.before (map (λ c. c.now) (take size (drop begin contents.entry.now))) s.records.items s.after) }
+{
+    let (front, rest) = contents.split_at(begin);
+    let before = groups || front.contains(&[UPGRADE].as_slice());
+    let (stretch, _) = rest.split_at(size.min(rest.len()));
+    stretch_of(alloc, before, stretch)
 }
 
 /// The records of a stretch. The offset of a fault is one within the stretch.

@@ -1,6 +1,6 @@
-//! What `--help` says behind the options.
+//! What `--help` says after the options.
 
-/// What stands behind the options in `--help`.
+/// What stands after the options in `--help`.
 pub(crate) const LINES: &str =
     "Lines of a script (words parted by one space; JSON is the rest of the line):
   open N MAPPING                  begins an index of N copies, 1 to 5; prints nothing
@@ -25,7 +25,7 @@ pub(crate) const LINES: &str =
   tornput C 0 ID JSON             torn, point N: a put whose append is cut (0:
                                   its record is lost; 1: it is kept)
   tornbulk C 0 ID ID ..           the same of a bulk and all its records
-C is a copy: 1 takes the writes at first. Behind what a line prints stand the
+C is a copy: 1 takes the writes at first. After what a line prints stand the
 messages that it sends, msg K KIND FROM TO (0 is the master), and the writes
 that it confirms, ack SEQ TERM: with one copy at once, with more copies when
 each has it.
@@ -36,10 +36,10 @@ Example:
   printf 'open 1 {}\\nput 1 a {\"n\":1}\\nget 1 a\\n' | ./indexd replay -
 
 Exit status: 0; 1 where the script can't be read, the output can't be written
-or memory is wanting; 2 for a bad command line.
+or memory runs out; 2 for a bad command line.
 README.md beside the program says more, and what is proved.";
 
-/// What stands behind the options of `serve` in `--help`.
+/// What stands after the options of `serve` in `--help`.
 pub(crate) const KEPT: &str =
     "With --data DIR each write is on the disk before it is confirmed, and a start finds all
 that was confirmed: after the end of the server, a kill, a full disk. DIR is made
@@ -62,7 +62,7 @@ Example:
 Exit status: 0; 1 where the index can't be begun or opened, or the port can't be
 had; 2 for a bad command line.";
 
-/// What stands behind the options of `dump` in `--help`.
+/// What stands after the options of `dump` in `--help`.
 pub(crate) const MOVED: &str =
     "Each document is two lines, as _bulk of Elasticsearch takes them: its id, and its source
 on one line. So an index moves to another folder, or to Elasticsearch:
@@ -74,10 +74,12 @@ on one line. So an index moves to another folder, or to Elasticsearch:
 The parts are part-000001.ndjson and so on, and a document's two lines are in one of
 them. serve takes a body of 1,048,576 bytes at most.
 
-Exit status: 0; 1 where the folder can't be read, another process serves it, or
-the output can't be written; 2 for a bad command line.";
+A server may have the folder: what is whole of its log is written.
 
-/// What stands behind the options of `inspect` in `--help`.
+Exit status: 0; 1 where the folder can't be read or the output can't be written; 2 for a
+bad command line.";
+
+/// What stands after the options of `inspect` in `--help`.
 pub(crate) const INSPECTED: &str =
     "Prints a line for each file: `records N`; the same with `torn at byte B` where its end is
 torn, as a crash leaves it, and is cut when the copy is opened; and where it is no log
@@ -89,7 +91,7 @@ Example:
 Exit status: 0; 1 where a file can't be read, or is no log, or is damaged; 2 for a bad
 command line.";
 
-/// What stands behind the options of `audit` in `--help`.
+/// What stands after the options of `audit` in `--help`.
 pub(crate) const JUDGED: &str =
     "Prints `audit ok`; or `audit failed`, with `Differs` for an entry that the node wouldn't
 have answered or `Uncaused` for one that nothing causes, the node (0 is the master) and

@@ -114,11 +114,25 @@ fn with_answers<'a>(alloc: Global, command: Command<'a>) -> Result<Command<'a>, 
         "explain",
         "Says on standard error why each request is refused (at a terminal it always does)",
     )?;
-    with_flag(
+    let command = with_flag(
         alloc,
         command,
         "greet",
         "Answers GET / and HEAD as Elasticsearch 7.10 does, so that its clients run",
+    )?;
+    let command = with_texts(
+        alloc,
+        command,
+        "cors",
+        "ORIGIN",
+        "Lets web pages of this origin ask, as `https://shop.example`; `*` lets pages of all origins; may be given again",
+    )?;
+    with_texts(
+        alloc,
+        command,
+        "host-name",
+        "NAME",
+        "Answers requests whose host is this name; may be given again",
     )
 }
 
@@ -170,7 +184,7 @@ fn with_ends<'a>(alloc: Global, command: Command<'a>) -> Result<Command<'a>, All
         alloc,
         command,
         "refresh-ms",
-        "After how many milliseconds the index is refreshed again, or sooner, behind 2048 writes; up to 3600000; 0 for never, 1000 where none is given",
+        "After how many milliseconds the index is refreshed again, or sooner, after 2048 writes; up to 3600000; 0 for never, 1000 where none is given",
         0,
         3_600_000,
     )
@@ -259,6 +273,20 @@ fn with_text<'a>(
     help: &'a str,
 ) -> Result<Command<'a>, AllocError> {
     command.arg(option(alloc, name, help).value_name(value))
+}
+
+/// Adds an option whose value is a text, and which may be given again.
+fn with_texts<'a>(
+    alloc: Global,
+    command: Command<'a>,
+    name: &'a str,
+    value: &'a str,
+    help: &'a str,
+) -> Result<Command<'a>, AllocError> {
+    let texts = option(alloc, name, help)
+        .action(ArgAction::Append)
+        .value_name(value);
+    command.arg(texts)
 }
 
 /// Adds an option whose value is a number of at least `least` and at most `most`.

@@ -8,7 +8,7 @@ use Rattle.wire.specs.Fault.{bad_head, transfer_coding, body_too_large}
 use Rattle.wire.specs.Framing.{framing, framed, first}
 use Rattle.wire.specs.HeadReading.{head_of}
 use Rattle.wire.specs.Requests.{bad, good, requests}
-use Rattle.wire.specs.Rows.{put_text, put_request}
+use Rattle.wire.specs.Rows.{put_text, put_request, nobody}
 
 pub put : requests put_text ≡ good put_request ∷ []
 unfolding requests first cut framed framing head_of is_token_byte trim_ows is_utf8 chars encode_utf8
@@ -22,9 +22,13 @@ pub twice : requests (put_text ++ put_text) ≡ good put_request ∷ good put_re
 unfolding requests first cut framed framing head_of is_token_byte trim_ows is_utf8 chars encode_utf8
 twice = refl
 
-pub head : requests (codes "HEAD / HTTP/1.1\r\n\r\nGET / HTTP/1.1\r\n\r\n") ≡ good (record { method = codes "HEAD"; target = codes "/"; body = [] }) ∷ []
+pub head : requests (codes "HEAD / HTTP/1.1\r\n\r\nGET / HTTP/1.1\r\n\r\n") ≡ good (record { method = codes "HEAD"; target = codes "/"; body = []; sender = nobody }) ∷ []
 unfolding requests first cut framed framing head_of is_token_byte trim_ows is_utf8 chars encode_utf8
 head = refl
+
+pub sender : requests (codes "GET / HTTP/1.1\r\nOrigin: http://a\r\nhost: b:1\r\n\r\n") ≡ good (record { method = codes "GET"; target = codes "/"; body = []; sender = record { origins = codes "http://a" ∷ []; hosts = codes "b:1" ∷ [] } }) ∷ []
+unfolding requests first cut framed framing head_of is_token_byte trim_ows is_utf8 chars encode_utf8
+sender = refl
 
 pub version : requests (codes "GET / HTTP/9.9\r\n\r\n") ≡ bad bad_head ∷ []
 unfolding requests first cut framed framing head_of is_token_byte trim_ows is_utf8 chars encode_utf8

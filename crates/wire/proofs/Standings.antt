@@ -42,7 +42,7 @@ ahead_if false n m r closes rest h = tt
 
 ahead_body : (n : ℕ) (rest : List ℕ) (f : Result Framed Fault) → length rest < n → Ahead n (with_body rest f)
 ahead_body n rest (Err f) h = tt
-ahead_body n rest (Ok x) h = ahead_if (nat_le x.frame.length (length rest)) n x.frame.length (record { method = x.method; target = x.target; body = take x.frame.length rest }) x.frame.closes rest h
+ahead_body n rest (Ok x) h = ahead_if (nat_le x.frame.length (length rest)) n x.frame.length (record { method = x.method; target = x.target; body = take x.frame.length rest; sender = x.sender }) x.frame.closes rest h
 
 ahead_cut : (n : ℕ) (c : Cut) → Shorter n c → Ahead n (after_cut c)
 ahead_cut n short h = tt

@@ -81,11 +81,25 @@ unfoldable pub framing : HeadData → Result Frame Fault
 framing h =
     lengths None h.fields >>= λ n. uncoded (is_coded h.fields) >>= λ u. size_of n >>= λ size. Ok (record { length = size; closes = ends_after h })
 
--- a request that stands whole: the parts that say what it asks
+-- the values of the fields with a name
+abbrev pub values_of : List ℕ → List (List ℕ × List ℕ) → List (List ℕ)
+values_of name [] = []
+values_of name (f ∷ fs) = if is_named f.0 name then f.1 ∷ values_of name fs else values_of name fs
+
+-- who sends a request, as its head says: of which pages it comes, and under which names it looked for the server
+pub record Sender : Type 0 where
+  pub origins : List (List ℕ)
+  pub hosts : List (List ℕ)
+
+abbrev pub sender_of : List (List ℕ × List ℕ) → Sender
+sender_of fields = record { origins = values_of (codes "origin") fields; hosts = values_of (codes "host") fields }
+
+-- a request that stands whole: the parts that say what it asks, and who sends it
 pub record Request : Type 0 where
   pub method : List ℕ
   pub target : List ℕ
   pub body : List ℕ
+  pub sender : Sender
 
 -- what stands first: no whole request; a fault, after which the stream ends; or a request, whether the stream ends after it, and the bytes behind it
 pub data First : Type 0 where
@@ -101,16 +115,17 @@ head_or_bad (Some h) = Ok h
 pub record Framed : Type 0 where
   pub method : List ℕ
   pub target : List ℕ
+  pub sender : Sender
   pub frame : Frame
 
 unfoldable pub framed : List ℕ → Result Framed Fault
-framed bytes = head_or_bad (head_of bytes) >>= λ h. framing h >>= λ f. Ok (record { method = h.method; target = h.target; frame = f })
+framed bytes = head_or_bad (head_of bytes) >>= λ h. framing h >>= λ f. Ok (record { method = h.method; target = h.target; sender = sender_of h.fields; frame = f })
 
 abbrev pub with_body : List ℕ → Result Framed Fault → First
 with_body rest (Err f) = broken f
 with_body rest (Ok x) =
     if nat_le x.frame.length (length rest)
-    then asked (record { method = x.method; target = x.target; body = take x.frame.length rest }) x.frame.closes (drop x.frame.length rest)
+    then asked (record { method = x.method; target = x.target; body = take x.frame.length rest; sender = x.sender }) x.frame.closes (drop x.frame.length rest)
     else none
 
 abbrev pub after_cut : Cut → First

@@ -1,14 +1,18 @@
 -- What was read of a request.
-use Rattle.std.specs.Prelude.{◌≡◌, ◌≤◌, ◌<◌, ℕ, Bool, true, List, ◌++◌, take, drop, length, Option, Some, None}
+use Rattle.std.specs.Prelude.{◌≡◌, ◌≤◌, ◌<◌, ℕ, Bool, true, List, ◌++◌, map, take, drop, length, Option, Some, None}
 use Rattle.wire.specs.declared.reading.Whole.{Whole}
 use Rattle.wire.specs.declared.reading.Whole.TheVariants.{Broken, Asked}
 use Rattle.wire.specs.declared.reading.Request as read
+use Rattle.wire.specs.declared.sender.Sender as kept
 use Rattle.wire.specs.Fault.{Fault, fault_of}
-use Rattle.wire.specs.Framing.{Request, First, none, broken, asked}
+use Rattle.wire.specs.Framing.{Request, Sender, First, none, broken, asked}
 use Rattle.wire.specs.Requests.{Standing, bad, good}
 
+abbrev pub sender_view : kept.Sender → Sender
+sender_view s = record { origins = map (λ v. v.items) s.origins.items; hosts = map (λ v. v.items) s.hosts.items }
+
 abbrev pub request_view : read.Request → Request
-request_view r = record { method = r.method.items; target = r.target.items; body = r.body.items }
+request_view r = record { method = r.method.items; target = r.target.items; body = r.body.items; sender = sender_view r.sender }
 
 -- what was read is what stands first, and what is left is after it
 abbrev pub IsRead : First → Option Whole → Option (List ℕ) → Type 0

@@ -151,7 +151,7 @@ fn is_closing<'b>(fields: &[Field<'b>]) -> bool
     false
 }
 
-fn is_named(name: &[u8], wanted: &[u8]) -> bool
+pub(crate) fn is_named(name: &[u8], wanted: &[u8]) -> bool
     ensures { result ≡ spec.is_named name.now wanted.now }
 {
     name.eq_ignore_ascii_case(wanted)

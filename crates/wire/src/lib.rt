@@ -10,6 +10,7 @@ pub mod number;
 pub mod pieces;
 mod place;
 pub mod reading;
+pub mod sender;
 pub mod writing;
 
 pub use fault::StreamFault;
@@ -17,4 +18,5 @@ pub use head_fault::HeadFault;
 pub use number::number_of;
 pub use pieces::{cut_at, text_of};
 pub use reading::{Request, Whole, read_request};
+pub use sender::Sender;
 pub use writing::{write_all, write_flushed, write_whole};

@@ -12,6 +12,7 @@ use crate::framing::{Frame, framing};
 use crate::head::head_of;
 use crate::head_fault::HeadFault;
 use crate::place::Place;
+use crate::sender::Sender;
 use std::alloc::Global;
 use std::io::{Error, ErrorKind, Read};
 
@@ -75,6 +76,7 @@ pub struct Request {
     pub target: Vec<u8>,
     pub body: Vec<u8>,
     pub closes: bool,
+    pub sender: Sender,
 }
 
 /// A request that stands whole, or the fault of its head, after which the stream ends.
@@ -101,6 +103,7 @@ impl Whole {
 pub(crate) struct Framed {
     pub(crate) method: Vec<u8>,
     pub(crate) target: Vec<u8>,
+    pub(crate) sender: Sender,
     pub(crate) frame: Frame,
 }
 
@@ -116,6 +119,7 @@ fn frame_head(alloc: Global, bytes: &[u8]) -> Result<Framed, HeadFault>
     Ok(Framed {
         method: head.method.to_vec(alloc)?,
         target: head.target.to_vec(alloc)?,
+        sender: Sender::of(alloc, &head.fields)?,
         frame,
     })
 }
@@ -155,6 +159,7 @@ fn read_framed<R: Read>(
     let Framed {
         method,
         target,
+        sender,
         frame,
     } = framed;
     let Some(body) = read_body(alloc, reader, frame.length)? else {
@@ -165,6 +170,7 @@ fn read_framed<R: Read>(
         target,
         body,
         closes: frame.closes,
+        sender,
     })))
 }
 

@@ -205,7 +205,7 @@ impl Nodes {
         }
     }
 
-    /// Merges at once what goes well into one, at a copy whose searches look through many segments, and tells whether it did. `false` where the copy isn't
+    /// Merges at once what goes well into one, at a copy whose searches look through many segments, and says whether it did. `false` where the copy isn't
     /// there.
     pub(crate) fn merge_next(&mut self, alloc: Global, id: u32) -> Result<bool, AllocError>
         ensures world { self.new.world ≡ self.old.world }
@@ -347,7 +347,7 @@ impl Nodes {
         }
     }
 
-    /// A decision of the master, the copy that it gives an id to, and its message. It is looked at before it is made, so that memory is wanting before
+    /// A decision of the master, the copy that it gives an id to, and its message. It is looked at before it is made, so that memory runs out before
     /// anything changes.
     fn decide(&mut self, alloc: Global, request: Request) -> Result<Decision, MasterFault>
         ensures decided { Gives fault_of (λ d. (self.new.world, d)) result (decided_in self.old.world (master_step self.old.world.master request)) }
@@ -371,7 +371,7 @@ impl Nodes {
     }
 }
 
-/// Adds what a decision gives and tells, where it was made.
+/// Adds what a decision gives and sends, where it was made.
 fn follow(
     copies: &mut Vec<OneCopy>,
     messages: &mut Vec<Msg>,

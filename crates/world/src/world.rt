@@ -90,7 +90,7 @@ impl World {
         self.nodes.swap_merged(alloc, copy, merged)
     }
 
-    /// Merges at once what goes well into one, at a copy whose searches look through many segments, and tells whether it did. `false` where the copy isn't
+    /// Merges at once what goes well into one, at a copy whose searches look through many segments, and says whether it did. `false` where the copy isn't
     /// there.
     pub fn merge_next(&mut self, alloc: Global, copy: u32) -> Result<bool, AllocError>
         ensures world { self.new.world ≡ self.old.world }
@@ -162,7 +162,7 @@ impl World {
     }
 }
 
-/// The world of some copies after some events. `BadCount` unless there are one copy to five; `NoMemory` tells how many events were taken before.
+/// The world of some copies after some events. `BadCount` unless there are one copy to five; `NoMemory` says how many events were taken before.
 pub fn run(
     alloc: Global,
     mapping: &Mapping,

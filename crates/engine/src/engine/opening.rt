@@ -82,7 +82,7 @@ fn noted_and_shown<
         move || -> Result<Latest, AllocError>
             requires { IsAscending (ops slots.now) × AreWhole slots.now }
             ensures { IfOk result (λ l. HaveLast (ops slots.entry.now) l.tables.items) }
-        { latest_numbers(alloc, slots) },
+        { latest_numbers(alloc, mapping.seed(), slots) },
         move || -> Result<Showing, AllocError>
             requires { Builds F.Fn builder.now × IsAscending (ops slots.now) × AreHeld (ops slots.now) slots.now }
             ensures { IfOk result (λ s. s ≡ record {

@@ -146,7 +146,7 @@ fn bare_log_fault_of(name: &str) -> Result<LogFault, Wrong>
     }
 }
 
-/// The name of a refusal, and what stands behind it; none where this is no refusal.
+/// The name of a refusal, and what stands after it; none where this is no refusal.
 fn refusal_of(value: &Value) -> Result<Option<(&str, &[Value])>, Wrong>
     ensures { IfOk result (λ o. IfSome o (λ r. view value.now ≡ spec.refused_data r.0.now (map view r.1.now))) }
 {

@@ -20,7 +20,7 @@ fn items_of(value: &Value) -> Result<&[Value], Wrong>
     }
 }
 
-/// The word that an array begins with, and the items behind it.
+/// The word that an array begins with, and the items after it.
 pub(crate) fn worded(value: &Value) -> Result<(&str, &[Value]), Wrong>
     ensures { IfOk result (λ w. view value.now ≡ spec.worded w.0.now (map view w.1.now)) }
 {

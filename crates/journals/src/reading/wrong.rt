@@ -11,7 +11,7 @@ pub(crate) enum Wrong {
     Wanted(&'static str),
 }
 
-/// What was read, with what was to be read behind it. Where that can't be read, the first is let go.
+/// What was read, with what was to be read after it. Where that can't be read, the first is dropped.
 pub(crate) fn both<T: Drop, U>(first: T, second: Result<U, Wrong>) -> Result<(T, U), Wrong>
     ensures { IfOk result (λ both. (both.0 ≡ first) × (second ≡ Ok both.1)) }
 {

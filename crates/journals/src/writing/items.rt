@@ -96,7 +96,7 @@ pub(crate) fn message_value(alloc: Global, message: &Msg) -> Result<Value, Alloc
     Ok(Value::Array(items))
 }
 
-/// What a message says, behind the others.
+/// What a message says, after the others.
 fn add_content(alloc: Global, items: &mut Vec<Value>, content: &Content) -> Result<(), AllocError>
     ensures { OnOk result (map view items.new.items ≡ map view items.old.items ++ spec.content_data content.now) }
 {

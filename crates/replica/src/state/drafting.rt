@@ -64,7 +64,7 @@ impl State {
         ensures none { IfOk result (λ d. d.items.items ≡ []) }
     {
         Ok(Draft {
-            ahead: Ahead::new(alloc),
+            ahead: Ahead::new(alloc, self.engine.mapping().seed()),
             records: Vec::new(alloc),
             known: self.known,
             next: self.next_seq(),

@@ -109,7 +109,7 @@ fn room_for(
     Ok((sent, settled))
 }
 
-/// Does a step that is ready. In memory only memory may be wanting, and that changes nothing.
+/// Does a step that is ready. Over a log in memory only memory can run out, and that changes nothing.
 fn done(alloc: Global, copy: &mut OneCopy, prepared: Prepared) -> Result<Output, AllocError>
     requires ready { IsReady copy.old prepared }
     requires open { copy.old.closed ≡ false }
@@ -224,7 +224,7 @@ fn copied(alloc: Global, messages: &[Msg]) -> Result<Vec<Msg>, AllocError>
     Ok(items)
 }
 
-/// The items and one more, where that could be made. It is a function over any type, so that what may be large is let go once and for all.
+/// The items and one more, where that could be made. It is a function over any type, so that what may be large is dropped once and for all.
 fn pushed<T: Drop>(items: Vec<T>, one: Result<T, AllocError>) -> Result<Vec<T>, AllocError>
     ensures made { OnOk result (IsOk one) }
     ensures pushed { IfOk result (λ v. IfOk one (λ it. v.items ≡ items.items ++ it ∷ [])) }

@@ -1,24 +1,34 @@
-use Rattle.std.proofs.Common.{◌≡◌, ◌<◌, ◌+◌, ◌*◌, ◌/◌, ◌%◌, ◌^◌, ◌∙◌, ◌∷◌, [], min, ℕ, List, Bor, Result, get_or, length, map, ap, subst, sym, arith}
-use Rattle.std.specs.List.{flat_map}
+use native.Mathlib.Nat.{zero-mul}
+use Rattle.std.proofs.Common.{◌≡◌, ◌<◌, ◌≤◌, ◌+◌, ◌-◌, ◌*◌, ◌/◌, ◌^◌, ◌∙◌, ◌∷◌, [], ℕ, List, Bor, Result, length, map, ap, subst, sym, arith}
+use Rattle.std.specs.List.{flat_map, range_with_len, AllZip}
 use Rattle.std.specs.Prelude.{IfOk}
 use Rattle.std.proofs.lemmas.List.{nil_from_length}
+use Rattle.std.proofs.lemmas.Grind.{div_ceil_times}
+use Rattle.std.proofs.lemmas.Result.{IfOk-at_ok}
+use Rattle.rayon.specs.Numbers.{nat_range}
+use Rattle.rayon.proofs.ListFacts.{IfOk-then}
+use Rattle.rayon.proofs.ToStd.{nat_range-All}
 use Rattle.op.specs.declared.record.Record.{Record}
 use Rattle.translog.specs.declared.fault.LogFault.{LogFault}
 use Rattle.translog.specs.declared.stretches.Stretch.{Stretch}
 use Rattle.translog.specs.Frames.{framed, AreContents}
 use Rattle.translog.specs.Pieces.{ArePieces}
-use Rattle.translog.proofs.StretchLaws.{all-read, in_turn, none-read, reach, same_flag, was_ok, stretch, stretch-more, stretch-small, stretch-room, AreStretches, IsSoFar}
+use Rattle.translog.proofs.StretchLaws.{all-read, begins, in_turn, none-read, same_flag, was_ok, stretch, stretch-more, AreStretches, IsSoFar}
 use Rattle.translog.proofs.stretches.together.Goals as goal
 
-pub map_chunks-requires-clause-accepts : goal.map_chunks-requires-clause-accepts
-map_chunks-requires-clause-accepts g c κs within = λ start p is.
+-- each stretch begins within the contents
+pub collect-requires-clause-ready : goal.collect-requires-clause-ready
+collect-requires-clause-ready g c κs within =
     let xs = c.args.contents.now in
     let size = length xs / 8 + 1 in
-    let fits : 4 + length (flat_map framed (map (λ v. v.now) p.now)) < 2 ^ 64
-    = subst (λ (l : List (Bor (List ℕ))). 4 + length (flat_map framed (map (λ v. v.now) l)) < 2 ^ 64) (sym is.value) (omega (arith, c.requires.offsets, stretch-room (λ v. v.now) xs size start)) in (
-      omega (arith, is.in_bounds),
-      (subst (λ (l : List (Bor (List ℕ))). AreContents (map (λ v. v.now) l)) (sym is.value) (stretch-small (λ v. v.now) xs size start c.requires.small), fits),
-    )
+    let some : 0 < size = omega arith in
+    let count = c.div_ceil.result in
+    let ends = c.into_par_iter.ensures in
+    let all = subst (λ (k : ℕ). (length xs ≤ k * size) × (k * size < length xs + size)) (sym c.div_ceil.ensures) (div_ceil_times (length xs) size some) in
+    let small = AreContents (map (λ (v : Bor (List ℕ)). v.now) xs) in
+    let offsets = 4 + length (flat_map framed (map (λ (v : Bor (List ℕ)). v.now) xs)) < 2 ^ 64 in
+    let inside = nat_range-All (λ i. (i * size < length xs) × (small × offsets)) 0 count (λ i low high. (begins i count (length xs) size high all.1, (c.requires.small, c.requires.offsets))) in
+    rw (c.map.ensures.base, c.map.ensures.f, c.with_min_len.ensures.base, ends.0, ends.1) (λ k d lt. (inside k d lt, λ y p. tt))
 
 -- no stretch yet
 pub loop-stretch-init : goal.loop-stretch-init
@@ -26,21 +36,24 @@ loop-stretch-init g c =
     let xs = c.args.contents.now in
     let size = length xs / 8 + 1 in
     let some : 0 < size = omega arith in
+    let count = c.div_ceil.result in
     let stretches = c.in_ok-stretches.stretches in
     let gives = c.into_iter-stretch-iterator.ensures.into_iter_gives in
+    let ends = c.into_par_iter.ensures in
     let made = was_ok _ stretches c.in_ok-stretches.ensures.value in
-    let len : stretches.len ≡ length xs / size + min 1 (length xs % size) = rw made at c.map_chunks.ensures.len in
-    let gave = rw made at c.map_chunks.ensures.each in
+    let whole : count - 0 ≡ count = omega arith in
+    let beside = λ (ns : List ℕ) (rs : List (Result Stretch LogFault)). AllZip (λ i r. IfOk r (λ s. ArePieces s.before (stretch (λ v. v.now) xs size (i * size)) s.records.items s.after)) ns rs in
+    let collected : IfOk c.collect.result (λ v. beside (range_with_len 0 count) v.items) = IfOk-then c.collect.result _ _ c.collect.ensures (λ v h.
+    let chain = rw (c.map.ensures.base, c.map.ensures.f, c.with_min_len.ensures.base) at h.1 in
+    let places : chain.0 ≡ range_with_len 0 count = chain.1 ∙ (λ i. nat_range (ends.0 i) (ends.1 i)) ∙ ap (range_with_len 0) whole in
+    subst (beside (range_with_len 0 count)) (sym h.2) (subst (λ ns. beside ns h.0) places chain.2)) in
+    let each = IfOk-at_ok (λ v. beside (range_with_len 0 count) v.items) made collected in
+    let all = subst (λ (k : ℕ). (length xs ≤ k * size) × (k * size < length xs + size)) (sym c.div_ceil.ensures) (div_ceil_times (length xs) size some) in
+    let from : count ≡ 0 + count = omega arith in
+    let ended = subst (λ (j : ℕ). length xs ≤ j * size) from all.0 in
     let empty : c.in_ok-records.records.items ≡ [] = rw (was_ok _ c.in_ok-records.records c.in_ok-records.ensures.value) at c.with_capacity.ensures.items in
-    let all : length stretches.items ≡ length xs / size + min 1 (length xs % size) = sym stretches.ok.0 ∙ len in
-    let each : (i : ℕ) (d : Result Stretch LogFault) → i < length stretches.items → IfOk (get_or stretches.items i d) (λ s. ArePieces s.before (stretch (λ v. v.now) xs size (0 + i * size)) s.records.items s.after) =
-    λ i d lt.
-    let given = (gave i d lt).1 in
-    subst (λ (b : ℕ). IfOk (get_or stretches.items i d) (λ s. ArePieces s.before (stretch (λ v. v.now) xs size b) s.records.items s.after)) (omega arith)
-    (subst (λ (l : List (Bor (List ℕ))). IfOk (get_or stretches.items i d) (λ s. ArePieces s.before (map (λ v. v.now) l) s.records.items s.after)) given.argument_is.value given.call)
-    in
     let rest : AreStretches (λ v. v.now) xs size 0 c.into_iter-stretch-iterator.result.rest.items
-    = subst (AreStretches (λ v. v.now) xs size 0) (sym gives.0) (in_turn (λ v. v.now) xs size 0 stretches.items (omega (arith, reach (length stretches.items) (length xs) size some all)) each) in (
+    = subst (AreStretches (λ v. v.now) xs size 0) (sym gives.0) (subst (λ (b : ℕ). AreStretches (λ v. v.now) xs size b stretches.items) (zero-mul size) (in_turn (λ v. v.now) xs size 0 count stretches.items ended each)) in (
       subst (λ (rs : List Record). IsSoFar (λ v. v.now) xs size c.args.groups rs c.args.groups c.into_iter-stretch-iterator.result.rest.items) (sym empty) (none-read (λ v. v.now) xs size c.args.groups _ rest),
       gives.1 ∙ stretches.ok.0 ∙ sym (ap length gives.0),
     )

@@ -34,3 +34,13 @@ returns-in-Ok-clause-ok c =
     let within = rw c.deref.ensures.value at c.in-Ok.ensures.there in
     let within_ops : suc c.in-Ok.field-0 ≤ length (ops ss) = omega (arith, within, length-ops ss) in
     rw (← c.self.view_is) (there (ops ss) c.args.op c.in-Ok.field-0 within_ops found)
+
+-- it went in
+pub returns-in_ok-insert-in-Err-clause-ok : goal.returns-in_ok-insert-in-Err-clause-ok
+returns-in_ok-insert-in-Err-clause-ok c =
+    let ss = c.self.inside.slots.items in
+    let os = ops ss in
+    let o = c.args.op in
+    let at = c.in-Err.at in
+    let gap = rw c.deref.ensures.value at c.in-Err.ensures.absent in
+    rw (← c.self.view_is, c.in_ok-insert-in-Err.ensures.items, c.in_ok-reserve-in-Err.ensures.items, c.in_ok-slot-in-Err.ensures) (ops-insert ss at (whole o) ∙ gap.place o refl ∙ sym (add-free os o gap.free))

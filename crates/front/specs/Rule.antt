@@ -1,0 +1,74 @@
+-- The rule by which requests are answered.
+use Rattle.std.specs.Prelude.{◌≡◌, ℕ, Bool, true, false, codes, List, Result, Ok, Err, ⊤, if◌then◌else◌}
+use Rattle.doc.specs.Mapping.{MappingData}
+use Rattle.wire.specs.Framing.{Request}
+use Rattle.wire.specs.Requests.{Standing, bad, good}
+use Rattle.front.specs.Admission.{Admission, admitted, is_preflight, preflight_page, opened}
+use Rattle.front.specs.Asking.{ask}
+use Rattle.front.specs.Command.{Command}
+use Rattle.front.specs.Fault.{Fault, of_head}
+use Rattle.front.specs.Greeting.{greeted_work, greeted_page}
+use Rattle.front.specs.Page.{with_fields}
+use Rattle.front.specs.Reply.{Reply}
+use Rattle.front.specs.Serving.{Answered}
+use Rattle.front.specs.Work.{Work, refused, worked}
+
+-- whether requests are answered as the client libraries of Elasticsearch expect, and who may ask
+pub record Rule : Type 0 where
+  pub greets : Bool
+  pub admission : Admission
+
+abbrev pub work_if : Bool → List ℕ → MappingData → Request → Work
+work_if true index mapping r = greeted_work index mapping r
+work_if false index mapping r = worked index mapping (ask index mapping r)
+
+abbrev pub page_if : Bool → List ℕ → Request → List ℕ → List ℕ
+page_if true index r page = greeted_page index r page
+page_if false index r page = page
+
+-- nothing is done for a sender that may not ask
+abbrev pub admitted_work : Result ⊤ Fault → Bool → List ℕ → MappingData → Request → Work
+admitted_work (Err f) greets index mapping r = refused f
+admitted_work (Ok u) greets index mapping r = work_if greets index mapping r
+
+-- the page for a sender that may ask
+abbrev pub opened_for : Rule → Request → List ℕ → List ℕ
+opened_for rule r page = opened rule.admission r.sender.origins (if is_preflight r then preflight_page else page)
+
+abbrev pub opened_page : Rule → List ℕ → Request → List ℕ → List ℕ
+opened_page rule index r page = opened_for rule r (page_if rule.greets index r page)
+
+abbrev pub admitted_page : Result ⊤ Fault → Rule → List ℕ → Request → List ℕ → List ℕ
+admitted_page (Err f) rule index r page = page
+admitted_page (Ok u) rule index r page = opened_page rule index r page
+
+-- what is done for a request
+abbrev pub work_by : Rule → List ℕ → MappingData → Standing → Work
+work_by rule index mapping (bad f) = refused (of_head f)
+work_by rule index mapping (good r) = admitted_work (admitted rule.admission r.sender) rule.greets index mapping r
+
+abbrev pub plain_page : Rule → List ℕ → Standing → List ℕ → List ℕ
+plain_page rule index (bad f) page = page
+plain_page rule index (good r) page = admitted_page (admitted rule.admission r.sender) rule index r page
+
+-- the field by which client libraries of Elasticsearch know its server
+abbrev pub product : List ℕ
+product = codes "\r\nx-elastic-product: Elasticsearch"
+
+abbrev pub signed : Bool → List ℕ → List ℕ
+signed true page = with_fields product page
+signed false page = page
+
+-- the page of a request, made from the page of its commands
+abbrev pub page_by : Rule → List ℕ → Standing → List ℕ → List ℕ
+page_by rule index q page = signed rule.greets (plain_page rule index q page)
+
+-- the service was called with exactly the commands of some work, and what is written is made from its page
+pub record Turned {S : Type 0} (answers : S → Command → Reply → S → Type 0) (index : List ℕ) (w : Work) (turn : List ℕ → List ℕ) (s : S) (out : List ℕ) (t : S) : Type 0 where
+  pub page : List ℕ
+  pub answered : Answered answers index w s page t
+  pub is_page : out ≡ turn page
+
+-- a request was answered by this rule
+abbrev pub AnsweredBy : {S : Type 0} → Rule → (S → Command → Reply → S → Type 0) → List ℕ → MappingData → Standing → S → List ℕ → S → Type 0
+AnsweredBy rule answers index mapping q s out t = Turned answers index (work_by rule index mapping q) (page_by rule index q) s out t
