@@ -173,7 +173,7 @@ class Server:
     def __init__(self, program, folder):
         with open(f"{folder}/mapping.json", "w") as mapping:
             json.dump({"properties": {name: {"type": kind} for name, kind in PROPERTIES.items()}}, mapping)
-        self.words = [program, "serve", "--index", "books", "--mapping", f"{folder}/mapping.json", "--data", f"{folder}/data"]
+        self.words = [program, "serve", "--index", "books", "--mapping", f"{folder}/mapping.json", "--data", f"{folder}/data", "--idle-s", "3600"]
         self.memories = []
         self.start()
 
