@@ -3,6 +3,8 @@
 use crate::journal_folder::path_of;
 use crate::verdict;
 use crate::verdict::{VerdictFault, tell};
+use doc::Mapping;
+use journal::Journal;
 use journals::{JournalFault, read};
 use std::alloc::{AllocError, AllocFailed, Global};
 use std::fmt::Display;
@@ -87,6 +89,19 @@ fn unread(alloc: Global, folder: &str, fault: JournalFault) -> AuditingFault {
     }
 }
 
+/// The journals that a folder keeps, and the mapping that they are under.
+pub fn journals_in<R: Files + AllocGlobal>(
+    rt: &R,
+    folder: &str,
+) -> Result<(Mapping, Vec<Journal>), AuditingFault> {
+    let alloc = rt.alloc();
+    let texts = texts_in(rt, folder)?;
+    match read(alloc, &texts) {
+        Ok(found) => Ok(found),
+        Err(fault) => Err(unread(alloc, folder, fault)),
+    }
+}
+
 /// Judges the journals of a folder, and writes the verdict.
 pub fn judge_folder<R: Files + AllocGlobal, O: Write, E: Write>(
     rt: &R,
@@ -96,11 +111,7 @@ pub fn judge_folder<R: Files + AllocGlobal, O: Write, E: Write>(
     errors: &mut E,
 ) -> Result<(), AuditingFault> {
     let alloc = rt.alloc();
-    let texts = texts_in(rt, folder)?;
-    let (mapping, journals) = match read(alloc, &texts) {
-        Ok(found) => found,
-        Err(fault) => return Err(unread(alloc, folder, fault)),
-    };
+    let (mapping, journals) = journals_in(rt, folder)?;
     match verdict::judge(alloc, &mapping, &journals, explains, output, errors) {
         Ok(()) => Ok(()),
         Err(VerdictFault::Missing(copy)) => {

@@ -12,7 +12,7 @@ mod model_answer;
 mod parts;
 mod verdict;
 
-pub use auditing::{AuditingFault, judge_folder};
+pub use auditing::{AuditingFault, journals_in, judge_folder};
 pub use data_fault::{DataFault, Difference};
 pub use data_folder::{KeptCopy, KeptFolder, open_copy, open_folder};
 pub use dumping::{DumpFault, Dumped, dump};

@@ -19,5 +19,6 @@ pub use index::Index;
 pub use names::shown;
 pub use playing::{replay, replay_telling};
 pub use refusal::Refusal;
+pub use reply::{answered, decided, delivered, refused};
 pub use telling::{Listener, Teller, Wanted};
 pub use writing::Flushing;

@@ -100,3 +100,33 @@ terminal the entry itself, and what the model answers there.
 
 Exit status: 0; 1 where the journals are those of no run, or can't be read; 2 for a
 bad command line.";
+
+/// What stands after the options of `draw` in `--help`.
+pub(crate) const DRAWN: &str =
+    "The picture has a line for the master and for each copy, a row for each step, and an
+arrow for each message from its sending to its delivery. Late messages, repeated ones,
+those that never arrive and those that are refused look different; a colour stands for
+a term. Of journals it marks the entry at which an audit fails.
+
+Example:
+  ./indexd draw examples/failover.script >failover.svg
+
+A picture has the first 2,000 steps. Exit status: 0; 1 where FILE can't be read or the
+picture can't be written; 2 for a bad command line.";
+
+/// What stands after the options of `load` in `--help`.
+pub(crate) const LOADED: &str =
+    "Lines of a bulk are those that dump writes, and that _bulk of Elasticsearch takes, each
+document with its _id. Documents are written by their ids, so a load that was cut short
+may be begun again: nothing doubles. Lines that are refused go to a file, as JSON with
+the file, the line, the reason and the text; the others are loaded.
+
+A log that grew by overwrites gets small again by way of a new folder:
+  ./indexd dump --data old --mapping >mapping.json
+  ./indexd dump --data old | ./indexd load --data new --mapping mapping.json -
+
+Example:
+  ./indexd load --port 9200 --index books --id isbn books.ndjson
+
+Prints `loaded N documents`. Exit status: 0; 1 where a line was refused, a file can't be
+read, or the server doesn't answer; 2 for a bad command line.";

@@ -1,6 +1,6 @@
 //! The words of the command line.
 
-use crate::texts::{INSPECTED, JUDGED, KEPT, LINES, MOVED};
+use crate::texts::{DRAWN, INSPECTED, JUDGED, KEPT, LINES, LOADED, MOVED};
 use clap::{Arg, ArgAction, Command};
 use std::alloc::{AllocError, Global};
 
@@ -13,9 +13,88 @@ pub fn command<'a>(alloc: Global) -> Result<Command<'a>, AllocError> {
         .subcommand_required(true);
     let command = with_subcommand(command, replay_command(alloc))?;
     let command = with_subcommand(command, serve_command(alloc))?;
+    let command = with_subcommand(command, load_command(alloc))?;
     let command = with_subcommand(command, dump_command(alloc))?;
+    let command = with_subcommand(command, draw_command(alloc))?;
     let command = with_subcommand(command, audit_command(alloc))?;
-    with_subcommand(command, inspect_command(alloc))
+    let command = with_subcommand(command, inspect_command(alloc))?;
+    with_flag(
+        alloc,
+        command,
+        "man",
+        "Prints the manual page, for `man -l`",
+    )
+}
+
+fn draw_command<'a>(alloc: Global) -> Result<Command<'a>, AllocError> {
+    let file = Arg::new(alloc, "FILE")
+        .required(true)
+        .action(ArgAction::Set)
+        .help("The script, `-` for standard input, or a folder of journals");
+    Command::new(alloc, "draw")
+        .about("Draws a script or journals as SVG: who sent what to whom, and what became of it")
+        .after_help(DRAWN)
+        .arg(file)
+}
+
+fn load_command<'a>(alloc: Global) -> Result<Command<'a>, AllocError> {
+    let command = Command::new(alloc, "load")
+        .about("Loads documents into a server that runs, or into a folder")
+        .after_help(LOADED);
+    let command = with_target(alloc, command)?;
+    let command = with_text(
+        alloc,
+        command,
+        "index",
+        "NAME",
+        "The name of the server's index; `index` where none is given",
+    )?;
+    let command = with_text(
+        alloc,
+        command,
+        "id",
+        "FIELD",
+        "Each line is one document, and this field of it is its id; else the lines are those of a bulk",
+    )?;
+    let command = with_text(
+        alloc,
+        command,
+        "refused",
+        "FILE",
+        "The new file of the lines that are refused, each with the reason; `load.refused` where none is given",
+    )?;
+    let files = Arg::new(alloc, "FILE")
+        .required(true)
+        .num_args(1..)
+        .action(ArgAction::Append)
+        .help("The files of the documents; `-` for standard input");
+    command.arg(files)
+}
+
+/// The options of `load` that say where the documents go.
+fn with_target<'a>(alloc: Global, command: Command<'a>) -> Result<Command<'a>, AllocError> {
+    let port = option(
+        alloc,
+        "port",
+        "The port of a server on 127.0.0.1; this or --data",
+    )
+    .value_name("P")
+    .value_parser(clap::value_parser!(u16).range(1..));
+    let command = with_option(command, port.conflicts_with("data"))?;
+    let data = option(
+        alloc,
+        "data",
+        "The folder of an index, which is made where it is missing; no server may have it",
+    )
+    .value_name("DIR");
+    let command = with_option(command, data.required_unless_present("port"))?;
+    let mapping = option(
+        alloc,
+        "mapping",
+        "The file of the mapping of a new folder; with --data alone",
+    )
+    .value_name("FILE");
+    with_option(command, mapping.requires_arg("data"))
 }
 
 fn replay_command<'a>(alloc: Global) -> Result<Command<'a>, AllocError> {
