@@ -6,7 +6,7 @@ import threading
 
 class Pretended:
     """Answers each request in turn by one of the answers, and later ones by `written`. An answer takes the lines of the request, and gives
-    its page, the ids that it wrote, and whether the connection ends."""
+    its page, the ids that it wrote, and whether the connection ends. Behind a page it ends as soon as the other side ends it too."""
 
     def __init__(self, *answers):
         self.answers, self.ids = [*answers], []
@@ -41,6 +41,9 @@ class Pretended:
             text, ids, ends = answer(lines)
             self.ids += ids
             connection.sendall(text)
+            if ends and text:
+                connection.shutdown(socket.SHUT_WR)
+                requests.read()
             if ends:
                 return
 
@@ -64,7 +67,7 @@ def written(lines, is_full=lambda at: False):
     """Writes each document, but for those for whose place there is no room."""
     names = [json.loads(it)["index"]["_id"] for it in lines[::2]]
     items = [{"index": {"_id": it, "error": {"reason": "WindowFull", "type": "window_full"}, "status": 429} if is_full(at) else {"_id": it, "status": 201}} for at, it in enumerate(names)]
-    return page_of_json(200, {"errors": False, "items": items, "took": 0}), [it for at, it in enumerate(names) if not is_full(at)], False
+    return page_of_json(200, {"errors": any("error" in it["index"] for it in items), "items": items, "took": 0}), [it for at, it in enumerate(names) if not is_full(at)], False
 
 
 def closed(lines):

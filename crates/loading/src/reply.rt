@@ -7,6 +7,9 @@ use std::alloc::{AllocError, Global};
 /// How many bytes of a page are shown that gives no reason.
 const MOST_SHOWN: usize = 200;
 
+/// How the body of a page begins where no item is refused: its keys stand in byte order, without spaces.
+const NONE_REFUSED: &[u8] = b"{\"errors\":false,";
+
 /// What became of an item.
 #[derive(Drop)]
 pub(crate) enum Verdict {
@@ -20,6 +23,9 @@ pub(crate) fn verdicts(
     body: &[u8],
     count: usize,
 ) -> Result<Option<Vec<Verdict>>, AllocError> {
+    if body.starts_with(NONE_REFUSED) {
+        return Ok(Some(all_done(alloc, count)?));
+    }
     let Some(value) = value_in(alloc, body)? else {
         return Ok(None);
     };
@@ -37,6 +43,14 @@ pub(crate) fn verdicts(
         }
     }
     Ok(Some(verdicts))
+}
+
+fn all_done(alloc: Global, count: usize) -> Result<Vec<Verdict>, AllocError> {
+    let mut verdicts = Vec::with_capacity(alloc, count)?;
+    for _ in 0..count {
+        verdicts.push(Verdict::Done)?;
+    }
+    Ok(verdicts)
 }
 
 /// A delete of what isn't there has status 404 and no error: it leaves what it is to leave.

@@ -83,11 +83,18 @@ where
     fn send_next(&mut self) -> Result<(), LoadFault> {
         let bulk = mem::replace(&mut self.next, Bulk::new(self.rt.alloc(), 0));
         self.make_way(&bulk)?;
-        self.send(&bulk)?;
-        let Some(before) = self.sent.replace(bulk) else {
-            return Ok(());
+        let sending = self.send(&bulk);
+        let judged = match self.sent.replace(bulk) {
+            Some(before) => self.judge_next(before),
+            None => Ok(Vec::new(self.rt.alloc())),
         };
-        let again = self.judge_next(before)?;
+        if let Err(why) = sending {
+            // Where the bulk waits no more, the page of the one before has ended the connection, and it is sent again.
+            if self.sent.is_some() {
+                return Err(self.lost(why));
+            }
+        }
+        let again = judged?;
         if again.is_empty() {
             return Ok(());
         }
@@ -128,7 +135,9 @@ where
                 return Ok(());
             };
             self.pause(bulk.tries);
-            self.send(&bulk)?;
+            if let Err(why) = self.send(&bulk) {
+                return Err(self.lost(why));
+            }
             let mut again = self.judge_next(bulk)?;
             left.append(&mut again)?;
         }
@@ -142,12 +151,9 @@ where
         }
     }
 
-    fn send(&mut self, bulk: &Bulk<'a>) -> Result<(), LoadFault> {
+    fn send(&mut self, bulk: &Bulk<'a>) -> Result<(), Broken> {
         let body = bulk.body(self.rt.alloc())?;
-        match self.connection.send(self.rt, &body) {
-            Ok(()) => Ok(()),
-            Err(why) => Err(self.lost(why)),
-        }
+        self.connection.send(self.rt, &body)
     }
 
     /// Reads the page of a bulk, and gives what is to be sent again, the last of it first.
