@@ -69,9 +69,7 @@ def times(package):
 
 def wanted_files():
     """What the package has to have: each path with its mode, and the file of the repository that it is equal to, where there is one."""
-    found = {"usr/bin/indexd": (0o755, RELEASED), UNIT: (0o644, ROOT / "packaging/debian/indexd.service")}
-    if PAGE.is_file():
-        found[MANUAL] = (0o644, None)
+    found = {"usr/bin/indexd": (0o755, RELEASED), UNIT: (0o644, ROOT / "packaging/debian/indexd.service"), MANUAL: (0o644, None)}
     found |= {f"etc/indexd/{it}": (0o644, ROOT / "packaging/debian" / it) for it in ("mapping.json", "options")}
     found |= {f"{DOCUMENTS}/{it}": (0o644, ROOT / "packaging/debian" / it) for it in ("README.Debian", "copyright")}
     documents = [ROOT / "README.md", *(it for it in (ROOT / "docs").iterdir() if it.suffix in (".md", ".png", ".svg"))]
@@ -96,8 +94,8 @@ def files():
             is_kept(f"the mode of {path}", oct(file.stat().st_mode & 0o7777), oct(mode))
             check(path, "" if source is None or file.read_bytes() == source.read_bytes() else f"it isn't {source}")
     version = ran(RELEASED, "--version").stdout.split()[1]
-    for path, text in ((MANUAL, PAGE.read_text() if PAGE.is_file() else ""), (f"{DOCUMENTS}/changelog.Debian.gz", f"indexd ({version}) ")):
-        check(f"{path} begins as it has to", "" if not text or gzip.decompress((tree / path).read_bytes()).decode().startswith(text) else "it begins otherwise")
+    for path, text in ((MANUAL, PAGE.read_text()), (f"{DOCUMENTS}/changelog.Debian.gz", f"indexd ({version}) ")):
+        check(f"{path} begins as it has to", "" if gzip.decompress((tree / path).read_bytes()).decode().startswith(text) else "it begins otherwise")
 
 
 def program():
