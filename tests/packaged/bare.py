@@ -12,7 +12,7 @@ from serving.server import free_port, is_kept
 
 SUITE = "bookworm"
 KEPT = Path(f"/tmp/indexd-bare-{SUITE}")
-MAKING_SECONDS, INSTALLING_SECONDS = 135, 60
+MAKING_SECONDS, INSTALLING_SECONDS = 120, 60
 # What is mounted or started so is gone once its command has ended, however that ends.
 APART = ("unshare", "--mount", "--pid", "--fork", "--kill-child")
 SETTINGS = {"PATH": "/usr/sbin:/usr/bin:/sbin:/bin", "LC_ALL": "C", "DEBIAN_FRONTEND": "noninteractive"}
@@ -114,7 +114,7 @@ def served(root):
     os.chown(state, USER, USER)
     (root / "var/lib/indexd").symlink_to("private/indexd")
     with service(root) as it:
-        check("the installed service starts", "" if it.listens else repr(it.process.communicate()))
+        check("the installed service starts", "" if it.listens else f"{it.said}, {it.errors_said()}")
         is_kept("a write to it is confirmed", it.answer("PUT", "/index/_doc/1?refresh=true", b'{"n":1}')[0], 201)
     finds_the_write(root, "after a kill", 1)
 

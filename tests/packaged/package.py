@@ -87,5 +87,5 @@ class Service(Server):
         except urllib.error.HTTPError as fault:
             return fault.code, json.load(fault)
         except OSError as fault:
-            return 0, str(fault)
+            return 0, {"error": str(fault)}
 

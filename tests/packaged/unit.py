@@ -76,7 +76,7 @@ def started():
         port = free_port()
         words = command_line(unpacked(), port, places)
         with Service(words, port, preexec_fn=confine) as service:
-            check(f"ExecStart: {name}", "" if service.listens else f"{words}: {service.said}")
+            check(f"ExecStart: {name}", "" if service.listens else f"{words}: {service.said}, {service.errors_said()}")
             if service.listens and name == "a first start":
                 is_kept("a write is confirmed", service.answer("PUT", "/index/_doc/1", b'{"n":1}')[0], 201)
             elif service.listens:
