@@ -3,12 +3,13 @@ import os
 import pty
 import re
 import select
+import shutil
 import subprocess
 import tempfile
 import time
 from pathlib import Path
 
-from checking import check, program
+from checking import ROOT, check, program
 from playing.program import SECONDS, front_of, not_all_right, other_output, run
 
 # Command lines: the words, the exit status, and the stream that gets a text (the other gets none).
@@ -25,6 +26,15 @@ COMMAND_LINES = [
     (["--help"], 0, "stdout"),
     (["replay", "--help"], 0, "stdout"),
     (["--version"], 0, "stdout"),
+    (["--man"], 0, "stdout"),
+    (["--man", "again"], 2, "stderr"),
+    (["draw"], 2, "stderr"),
+    (["draw", "--help"], 0, "stdout"),
+    (["load", "--help"], 0, "stdout"),
+    (["load", "a.ndjson"], 2, "stderr"),
+    (["load", "--port", "1"], 2, "stderr"),
+    (["load", "--port", "1", "--data", "a", "a.ndjson"], 2, "stderr"),
+    (["load", "--port", "1", "--mapping", "a.json", "a.ndjson"], 2, "stderr"),
 ]
 
 # What each text of help has.
@@ -101,6 +111,21 @@ def words():
         text = run(given).stdout
         lacks = [it for it in HELP if it not in text and (it != b"--version" or given == ["--help"])]
         check(f"what {' '.join(given)} says", f"it lacks {lacks}" if lacks else "")
+    check_manual()
+
+
+def check_manual():
+    """The manual page is the one in docs/, and has each option of each command."""
+    page = run(["--man"]).stdout
+    check("docs/indexd.1", other_output((ROOT / "docs/indexd.1").read_bytes(), page))
+    if not shutil.which("groff"):
+        print("skipped how the manual page looks: groff isn't installed")
+        return
+    shown = run(["-man", "-Tutf8", "-ww", "-P", "-c"], program="groff", input=page)
+    check("groff takes the manual page", front_of(shown.stderr) if shown.stderr or shown.returncode else "")
+    text = re.sub(rb"\x1b\[[0-9;]*m|.\x08", b"", shown.stdout)
+    lacks = [it for it in (b"--request-mb <N>", b"--explain", b"load --data new", b"putif C SEQ TERM ID JSON", b"indexd inspect") if it not in text]
+    check("what the manual page says", f"it lacks {lacks}" if lacks else "")
 
 
 def told():

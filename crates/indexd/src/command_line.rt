@@ -1,5 +1,6 @@
 //! What the command line asks for.
 
+use crate::loads::Loading;
 use clap::ArgMatches;
 use folder::{Dumped, Parts};
 use server::{Admission, Rule, Settings, Syncing};
@@ -29,10 +30,19 @@ pub(crate) enum Task<'a> {
     Audit(&'a str),
     /// To say what logs hold.
     Inspect(&'a [String]),
+    /// To draw a script, or the journals of a folder.
+    Draw(&'a str),
+    /// To load documents.
+    Load(Loading<'a>),
+    /// To print the manual page.
+    Manual,
 }
 
 /// What the command line asks for, or what is wrong with it.
 pub(crate) fn task_of<'a>(alloc: Global, words: &'a [String]) -> Result<Task<'a>, clap::Error> {
+    if words.len() == 2 && words[1].as_str() == "--man" {
+        return Ok(Task::Manual);
+    }
     let matches = command(alloc)?.try_get_matches_from(words)?;
     match matches.subcommand() {
         Some(("serve", options)) => {
@@ -40,6 +50,8 @@ pub(crate) fn task_of<'a>(alloc: Global, words: &'a [String]) -> Result<Task<'a>
         }
         Some(("dump", options)) => Ok(Task::Dump(dumped_of(options))),
         Some(("audit", options)) => Ok(Task::Audit(options.get_str("DIR").unwrap_or("."))),
+        Some(("draw", options)) => Ok(Task::Draw(options.get_str("FILE").unwrap_or("-"))),
+        Some(("load", options)) => Ok(Task::Load(loading_of(alloc, options)?)),
         Some(("inspect", _)) => Ok(Task::Inspect(inspected_of(words))),
         Some((_, options)) => Ok(Task::Replay(played_of(options))),
         None => Ok(Task::Replay(Played {
@@ -127,6 +139,18 @@ fn dumped_of<'a>(options: &ArgMatches<'a>) -> Dumped<'a> {
         mapping: options.get_flag("mapping"),
         parts: parts_of(options),
     }
+}
+
+fn loading_of<'a>(alloc: Global, options: &ArgMatches<'a>) -> Result<Loading<'a>, AllocError> {
+    Ok(Loading {
+        port: options.get_one::<u16>("port"),
+        data: options.get_str("data").unwrap_or("."),
+        mapping: options.get_str("mapping"),
+        index: options.get_str("index").unwrap_or("index"),
+        id: options.get_str("id"),
+        refused: options.get_str("refused").unwrap_or("load.refused"),
+        files: texts_of(alloc, options, "FILE")?,
+    })
 }
 
 /// The files that a dump is written to, where it isn't the output.

@@ -2,6 +2,8 @@
 #![tactic(auto)]
 
 mod command_line;
+mod loads;
+mod pictures;
 mod program;
 
 pub use program::{Terminals, program};

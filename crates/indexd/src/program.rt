@@ -4,6 +4,8 @@ ghost use Rattle.std.specs.Io.KnownBytes.{Appends};
 ghost use Rattle.scripts.specs.Output.{lines};
 
 use crate::command_line::{Played, Task, task_of};
+use crate::loads::run_load;
+use crate::pictures::run_draw;
 use clap::error::ErrorKind;
 use folder::{Dumped, dump, inspect, judge_folder};
 use reasons::escaped;
@@ -19,6 +21,7 @@ use std::sync::Wait;
 use std::thread::Threads;
 use std::time::Clock;
 use std::{fs, io};
+use usage::manual_page;
 
 /// The paths by which a program sees its own standard streams (Linux).
 const STANDARD_INPUT: &str = "/proc/self/fd/0";
@@ -79,6 +82,13 @@ where
         Ok(Task::Dump(dumped)) => run_dump(rt, dumped, output, errors),
         Ok(Task::Audit(folder)) => run_audit(rt, folder, terminals.errors, output, errors),
         Ok(Task::Inspect(files)) => run_inspect(rt, files, output, errors),
+        Ok(Task::Draw(file)) => run_draw(rt, file, input, output, errors),
+        Ok(Task::Load(loading)) => {
+            let status = run_load(rt, &loading, terminals.errors, output, errors);
+            drop(loading);
+            status
+        }
+        Ok(Task::Manual) => print_manual(rt.alloc(), output, errors),
         Err(error) => explain(rt.alloc(), &error, output, errors),
     }
 }
@@ -206,6 +216,26 @@ fn report<E: Write>(errors: &mut E, file: &str, fault: &ProgramFault) {
         ProgramFault::Open(error) => writeln!(errors, "indexd: {file} can't be opened: {error}"),
         ProgramFault::Replay(fault) => writeln!(errors, "indexd: {fault}"),
     };
+}
+
+/// Prints the manual page, and answers the exit status.
+fn print_manual<O: Write, E: Write>(alloc: Global, output: &mut O, errors: &mut E) -> u8
+    ensures { result < 2 }
+{
+    let printed = match manual_page(alloc) {
+        Ok(page) => match write!(output, "{page}") {
+            Ok(()) => output.flush(),
+            Err(error) => Err(error),
+        },
+        Err(refused) => Err(io::Error::from(refused)),
+    };
+    match printed {
+        Ok(()) => 0,
+        Err(error) => {
+            let _ = writeln!(errors, "indexd: the output can't be written: {error}");
+            1
+        }
+    }
 }
 
 /// Prints what the command line asked for, or what is wrong with it.

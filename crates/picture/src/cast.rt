@@ -86,7 +86,8 @@ impl Cast {
         if said.starts_with('#') {
             return self.push_step(alloc, line, 0, Mark::Note);
         }
-        let is_refused = line.printed.starts_with("refused ");
+        // A bulk prints more, where its first write is refused.
+        let is_refused = line.printed.starts_with("refused ") && line.printed.lines().count() == 1;
         let first = word_at(said, 0);
         if first == "open" && !is_refused {
             self.open(number_at(said, 1).unwrap_or(1))?;
