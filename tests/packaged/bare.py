@@ -153,9 +153,9 @@ def under_systemd(root):
     systemctl.write_text(STAND_IN)
     systemctl.chmod(0o755)
     installs = ("-i", "/indexd.deb")
-    for name, words, wanted in (("an installation", installs, ["daemon-reload", "start"]), ("an upgrade", installs, ["daemon-reload", "restart"]),
+    for name, words, wanted in (("an installation", installs, ["daemon-reload"]), ("an upgrade", installs, ["daemon-reload", "try-restart"]),
                                 ("a removal", ("--remove", "indexd"), ["stop", "daemon-reload"]), ("a purge", ("--purge", "indexd"), [])):
         said.write_text("")
         dpkg(root, *words)
-        asked = [verb for line in said.read_text().splitlines() for verb in line.split() if verb in ("start", "stop", "restart", "daemon-reload")]
+        asked = [verb for line in said.read_text().splitlines() for verb in line.split() if verb in ("start", "stop", "restart", "try-restart", "daemon-reload")]
         is_kept(f"what {name} asks of systemd", asked, wanted)
