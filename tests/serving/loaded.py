@@ -144,7 +144,7 @@ def refused_actions():
         b'{"index":{"_id":"r","routing":"x"}}\n{}\n', b'{"index":{"_id":"t"}}\n{"s":"%s"}\n' % long[8:], b'{"index":{"_id":"t"}}\n{"s":"%s"}\n' % long[7:],
         b'{"index":{"_id":"%s"}}\n' % long, b'{"index":{"_id":"\xff"}}\n', b'{"index":{"_id":"y"}}\n{"s":"\xff"}\n', good % 3]
     wanted = [
-        (3, "{", ["no JSON"]), (4, '{"n":1}', ["no action", "--id"]), (5, '{"index":{"_id":"x"},"a":1}', ["no action"]), (6, '{"index":[]}', ["no action"]), (6, "5", ["no action"]),
+        (3, "{", ["no JSON"]), (4, '{"n":1}', ["no action", "--id"]), (5, '{"index":{"_id":"x"},"a":1}', ["no action"]), (6, '{"index":[]}', ["no action"]), (7, "5", ["no action"]),
         (8, '{"index":{}}\n{"n":1}', ["_id"]), (10, '{"create":{"_id":5}}\n{"n":2}', ["_id"]), (12, '{"delete":{"_index":"books"}}', ["_id"]),
         (13, '{"update":{"_id":"u"}}\n{"doc":{}}', ["update"]), (17, '{"index":{"_id":"r","routing":"x"}}\n{}', ["routing"]),
         (21, '{"index":{"_id":"t"}}\n{"s":"%s"}' % long[7:].decode(), ["65537 bytes"]), (23, '{"index":{"_id":"%s"}}' % long.decode(), ["65556 bytes"]),
@@ -188,7 +188,7 @@ def refused_by_the_server():
         file, refused, mapping = Path(top, "some.ndjson"), Path(top, "refused.ndjson"), Path(top, "mapping.json")
         mapping.write_bytes(MAPPING)
         bad = [('{"create":{"_id":"7"}}\n{"n":7}', ["VersionConflict", "409"]), ('{"index":{"_id":"w"}}\n{"n":"x"}', ["WrongValue", "400"]), ('{"index":{"_id":"u"}}\n{"m":1}', ["Unmapped"]),
-               ('{"index":{"_id":"j"}}\n{"n":', ["NotJson"]), ('{"index":{"_id":""}}\n{}', ["IdEmpty"]), ('{"index":{"_id":"i","_index":"other"}}\n{}', ["NoIndex", "404"]),
+               ('{"index":{"_id":"j"}}\n{"n":', ["NotJson", "400", "byte 5"]), ('{"index":{"_id":""}}\n{}', ["IdEmpty"]), ('{"index":{"_id":"i","_index":"other"}}\n{}', ["NoIndex", "404"]),
                ('{"index":{"_id":"7","if_seq_no":90000,"if_primary_term":1}}\n{}', ["VersionConflict"])]
         text, wanted, line = bulk_lines(0, 900).decode(), [], 1_801
         for number, (lines, words) in enumerate(bad):
@@ -233,7 +233,7 @@ def in_order():
 
 
 def large_replies():
-    """Bulks of 1,000 items, and bulks whose replies are larger than they are."""
+    """Bulks of 1,000 items, bulks whose replies are larger than they are, and lines that come slowly."""
     with tempfile.TemporaryDirectory() as top:
         full, wide = Path(top, "full.ndjson"), Path(top, "wide.ndjson")
         full.write_bytes(bulk_lines(0, 20_000))
@@ -244,6 +244,10 @@ def large_replies():
         with Server() as server:
             is_loaded("long ids", load(server, "--id", "id", wide), 2_000)
             is_same("and each is there", counted(server), 2_000)
+        long = Path(top, "long.ndjson")
+        long.write_bytes(b"".join(b'{"index":{"_id":"%d"}}\n{"s":"%s"}\n' % (it, b"x" * 900) for it in range(5_000)))
+        with Pretended(*[written_at_length] * 5) as server:
+            is_loaded("pages that are larger than what a connection holds", load(server, long), 5_000)
         with Server("--idle-s", 1) as server:
             with subprocess.Popen(words_of_load(server, "-"), stdin=subprocess.PIPE, stdout=subprocess.PIPE, stderr=subprocess.PIPE) as slow:
                 slow.stdin.write(bulk_lines(0, 2_500))
@@ -251,6 +255,13 @@ def large_replies():
                 time.sleep(2.5)
                 said = slow.communicate(bulk_lines(2_500, 5_000))
             is_same("a load that rests longer than the server keeps a connection", (slow.returncode, *said), (0, b"loaded 5000 documents\n", b""))
+
+
+def written_at_length(lines):
+    """Writes each document, and has 10 MB of spaces in its page."""
+    text, ids, ends = written(lines)
+    body = text.partition(b"\r\n\r\n")[2] + b" " * 10_000_000
+    return b"HTTP/1.1 200 OK\r\ncontent-length: %d\r\n\r\n%s" % (len(body), body), ids, ends
 
 
 def begun_again():

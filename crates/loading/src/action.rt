@@ -146,6 +146,14 @@ fn value_of(alloc: Global, line: &str) -> Result<Reading<Value>, AllocError> {
     }
 }
 
+/// Where a document is no JSON.
+pub(crate) fn json_flaw(alloc: Global, document: &str) -> Result<Option<String>, AllocError> {
+    match value_of(alloc, document)? {
+        Reading::Good(_) => Ok(None),
+        Reading::Unfit(misfit) => Ok(Some(misfit.reason)),
+    }
+}
+
 fn unfit<T>(alloc: Global, reason: &str, has_document: bool) -> Result<Reading<T>, AllocError> {
     Ok(Reading::Unfit(Misfit {
         reason: String::from_str(alloc, reason)?,

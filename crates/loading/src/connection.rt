@@ -14,11 +14,11 @@ const MOMENT: u64 = 10;
 /// After how many moments without a byte the connection counts as lost: two minutes.
 const MOST_MOMENTS: u64 = 12_000;
 
-/// For how many milliseconds a connection may rest. A server ends one that rests for long.
+/// After how many milliseconds a connection counts as rested. A server ends one that rests for long.
 const MOST_REST: u128 = 500;
 
 /// How many bytes are read at once.
-const ROOM: usize = 65_536;
+const ROOM: usize = 262_144;
 
 /// A connection that is kept.
 #[derive(Drop)]
@@ -52,11 +52,19 @@ impl Connection {
         })
     }
 
-    /// Whether it has rested for so long that the server may have ended it.
-    pub(crate) fn is_stale<R: Clock>(&self, rt: &R) -> bool {
+    /// Whether it has rested, so that the server may have ended it.
+    pub(crate) fn has_rested<R: Clock>(&self, rt: &R) -> bool {
         match (self.used, Instant::now(rt)) {
             (Some(used), Ok(now)) => now.duration_since(used).as_millis() > MOST_REST,
             _ => false,
+        }
+    }
+
+    /// Whether the server has ended it. No page is to come.
+    pub(crate) fn has_ended(&mut self) -> bool {
+        match self.stream.read(&mut self.room) {
+            Ok(length) => length == 0,
+            Err(error) => !matches!(error.kind(), ErrorKind::WouldBlock | ErrorKind::Interrupted),
         }
     }
 
@@ -68,6 +76,7 @@ impl Connection {
     ) -> Result<(), Broken> {
         self.stream = connected(rt, port)?;
         self.came.clear();
+        self.moments = 0;
         self.used = Instant::now(rt).ok();
         Ok(())
     }

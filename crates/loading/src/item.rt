@@ -29,6 +29,14 @@ pub(crate) struct Refusal<'a> {
 }
 
 impl Item<'_> {
+    /// The document that it writes.
+    pub(crate) fn document(&self) -> &str {
+        match self.lines.split_once('\n') {
+            Some((_, document)) => document,
+            None => &self.lines,
+        }
+    }
+
     /// How many bytes it takes in a bulk.
     pub(crate) fn size(&self) -> usize {
         self.action

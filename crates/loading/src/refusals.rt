@@ -2,6 +2,7 @@
 
 use crate::fault::LoadFault;
 use crate::item::Refusal;
+use reasons::escaped;
 use serde_json::Value;
 use std::alloc::{AllocError, Global};
 use std::fs;
@@ -23,7 +24,7 @@ impl<'a> Refusals<'a> {
         rt: &R,
         path: &'a str,
     ) -> Result<Refusals<'a>, LoadFault> {
-        let name = String::from_str(rt.alloc(), path)?;
+        let name = escaped(rt.alloc(), path)?;
         match fs::metadata(rt, path) {
             Ok(found) if found.len() > 0 => return Err(LoadFault::Taken(name)),
             Ok(_) => {}
@@ -48,7 +49,7 @@ impl<'a> Refusals<'a> {
         match self.write_line(rt, line.as_bytes()) {
             Ok(()) => Ok(()),
             Err(error) => {
-                let name = String::from_str(rt.alloc(), self.path)?;
+                let name = escaped(rt.alloc(), self.path)?;
                 Err(LoadFault::Refused(name, error))
             }
         }

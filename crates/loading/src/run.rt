@@ -7,6 +7,7 @@ use crate::refusals::Refusals;
 use crate::sender::Sender;
 use crate::source::{Found, Source};
 use crate::task::{Load, Loaded};
+use reasons::escaped;
 use std::alloc::Global;
 use std::fs;
 use std::fs::File;
@@ -126,7 +127,7 @@ fn path_of(file: &str) -> &str {
 }
 
 fn unopened(alloc: Global, file: &str, error: io::Error) -> LoadFault {
-    match String::from_str(alloc, file) {
+    match escaped(alloc, file) {
         Ok(file) => LoadFault::Open(file, error),
         Err(_) => LoadFault::NoMemory,
     }
@@ -136,7 +137,7 @@ fn unread(alloc: Global, file: &str, line: u64, error: io::Error, confirmed: u64
     if error.kind() == ErrorKind::OutOfMemory {
         return LoadFault::NoMemory;
     }
-    match String::from_str(alloc, file) {
+    match escaped(alloc, file) {
         Ok(file) => LoadFault::Read {
             file,
             line,

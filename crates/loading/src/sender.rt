@@ -1,5 +1,6 @@
 //! Sending bulks, one of which is on its way while the next one is built, and judging what the server says of them.
 
+use crate::action::json_flaw;
 use crate::bulk::Bulk;
 use crate::connection::Connection;
 use crate::fault::{Broken, LoadFault};
@@ -7,6 +8,8 @@ use crate::item::{Item, Refusal};
 use crate::page::Page;
 use crate::refusals::Refusals;
 use crate::reply::{Verdict, page_reason, verdicts};
+use reasons::escaped;
+use std::alloc::{AllocError, Global};
 use std::fs::File;
 use std::net::{Net, TcpStream};
 use std::rt::Files;
@@ -102,17 +105,18 @@ where
         self.send_alone(again)
     }
 
-    /// Settles what was sent, where the bulk writes some document of it too and may not overtake it, or where the connection has rested.
+    /// Settles what was sent, where the bulk writes some document of it too and may not overtake it. The same where the connection has rested: it is begun
+    /// again if the server has ended it.
     fn make_way(&mut self, bulk: &Bulk<'a>) -> Result<(), LoadFault> {
-        let is_stale = self.connection.is_stale(self.rt);
+        let has_rested = self.connection.has_rested(self.rt);
         let meets = match &self.sent {
             Some(sent) => sent.meets(bulk),
             None => false,
         };
-        if meets || is_stale {
+        if meets || has_rested {
             self.settle()?;
         }
-        if is_stale {
+        if has_rested && self.connection.has_ended() {
             self.begin_again()?;
         }
         Ok(())
@@ -207,7 +211,18 @@ where
     }
 
     fn refuse_item(&mut self, item: Item<'a>, status: u64, reason: &str) -> Result<(), LoadFault> {
-        let reason = format!(in self.rt.alloc(); "the server refused it: {reason} ({status})")?;
+        let alloc = self.rt.alloc();
+        let place = if reason == "NotJson" {
+            json_flaw(alloc, item.document())?
+        } else {
+            None
+        };
+        let reason = match place {
+            Some(place) => format!(in alloc;
+                "the server refused it: {reason} ({status}): {place}"
+            )?,
+            None => format!(in alloc; "the server refused it: {reason} ({status})")?,
+        };
         self.refuse(&Refusal {
             place: item.place,
             reason,
@@ -258,7 +273,7 @@ where
     }
 
     fn answered(&self, page: &Page) -> LoadFault {
-        match page_reason(self.rt.alloc(), &page.body) {
+        match shown_reason(self.rt.alloc(), page) {
             Ok(reason) => LoadFault::Answered {
                 port: self.port,
                 status: page.status,
@@ -268,4 +283,9 @@ where
             Err(_) => LoadFault::NoMemory,
         }
     }
+}
+
+/// The reason that a page gives, for a terminal.
+fn shown_reason(alloc: Global, page: &Page) -> Result<String, AllocError> {
+    escaped(alloc, &page_reason(alloc, &page.body)?)
 }

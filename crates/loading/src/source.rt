@@ -139,7 +139,7 @@ impl<'a, F: Read + Drop> Source<'a, F> {
                 ""
             };
             let reason = format!(in alloc;
-                "the {what} has {size} bytes; at most {MOST_BYTES} are taken{cut}"
+                "the {what} has {size} bytes; at most 65,536 are taken{cut}"
             )?;
             return Ok(Some(reason));
         }
