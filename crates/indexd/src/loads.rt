@@ -11,10 +11,9 @@ use std::random::RandomSource;
 use std::rt::Files;
 use std::sync::Wait;
 use std::sync::atomic::{AtomicBool, Ordering};
-use std::thread;
 use std::thread::Threads;
 use std::time::{Clock, Duration};
-use std::{fmt, io};
+use std::{fmt, io, thread};
 
 /// How many milliseconds pass between two looks at whether the server listens.
 const TICK: u64 = 10;
@@ -169,7 +168,6 @@ fn load_of<'a>(loading: &'a Loading<'a>, port: u16, shows: bool) -> Load<'a> {
         files: &loading.files,
         refused: loading.refused,
         shows,
-        is_lasting: loading.port.is_none(),
     }
 }
 
@@ -265,7 +263,8 @@ where
 /// Connects until the server has ended, which waits for one connection, or nobody serves.
 fn end_server<R: Net<Stream = TcpStream> + Clock>(rt: &R, port: u16, stage: &Stage) {
     for _ in 0..u64::MAX {
-        let serves = stage.has_begun.load(Ordering::SeqCst) && !stage.has_ended.load(Ordering::SeqCst);
+        let serves = stage.has_begun.load(Ordering::SeqCst)
+            && !stage.has_ended.load(Ordering::SeqCst);
         if !serves {
             return;
         }
