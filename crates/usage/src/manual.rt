@@ -85,7 +85,7 @@ fn push_section(page: &mut String, name: &str, help: &str) -> Result<(), AllocEr
     for line in help.lines() {
         let next = form_of(line, form);
         if next == Form::Kept && form != Form::Kept {
-            page.push_str(".nf\n")?;
+            page.push_str(".PP\n.nf\n")?;
         }
         form = next;
         push_line(page, line, form)?;
