@@ -69,7 +69,7 @@ impl<'a> Bulk<'a> {
         self.items
     }
 
-    /// The same items, for which the server had no room.
+    /// Its items as a bulk that is tried once more.
     pub(crate) fn once_more(self, alloc: Global) -> Result<Bulk<'a>, AllocError> {
         let tries = self.tries;
         let mut again = Bulk::new(alloc, tries.saturating_add(1));

@@ -10,7 +10,7 @@ pub enum LoadFault {
     /// A file, and why it can't be opened.
     #[error("{0} can't be opened: {1}")]
     Open(String, io::Error),
-    #[error("{file} can't be read behind line {line}: {error}; {confirmed} documents were confirmed before")]
+    #[error("{file} can't be read after line {line}: {error}; {confirmed} documents were confirmed before")]
     Read {
         file: String,
         line: u64,

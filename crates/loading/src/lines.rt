@@ -111,7 +111,7 @@ impl<F: Read + Drop> Lines<F> {
     }
 }
 
-/// The bytes up to the first newline, and what is behind them.
+/// The bytes up to the first newline, and what follows them.
 fn first_part(there: &[u8]) -> (&[u8], Behind) {
     if there.is_empty() {
         return (there, Behind::Nothing);

@@ -105,8 +105,8 @@ where
         self.send_alone(again)
     }
 
-    /// Settles what was sent, where the bulk writes some document of it too and may not overtake it. The same where the connection has rested: it is begun
-    /// again if the server has ended it.
+    /// Settles what was sent if the bulk writes a document of it too, since it may not overtake it, or if the connection has rested. A rested connection that the
+    /// server has ended is begun again.
     fn make_way(&mut self, bulk: &Bulk<'a>) -> Result<(), LoadFault> {
         let has_rested = self.connection.has_rested(self.rt);
         let meets = match &self.sent {
@@ -244,7 +244,7 @@ where
         Ok(Vec::new(alloc))
     }
 
-    /// The same where the server ended the connection too, and didn't read what was sent behind the bulk.
+    /// Gives the halves of a bulk after which the server ended the connection, and the bulk that was sent after it, which the server didn't read.
     fn part_anew(&mut self, bulk: Bulk<'a>, page: &Page) -> Result<Vec<Bulk<'a>>, LoadFault> {
         self.begin_again()?;
         let mut again = self.part(bulk, page)?;

@@ -115,7 +115,7 @@ impl<'a, F: Read + Drop> Source<'a, F> {
         }
     }
 
-    /// Puts the document behind the line of its action, and says where it isn't taken.
+    /// Adds the document to the line of its action, and says why it isn't taken.
     fn follow(&mut self, alloc: Global, lines: &mut String) -> io::Result<Option<String>> {
         if !self.lines.advance()? {
             let reason = String::from_str(

@@ -97,7 +97,7 @@ fn paint_name<W: Write>(
     paint_text(alloc, x, y, "name", name.as_str(), out)
 }
 
-/// Where the cross of a message stands that never arrives: in the gap beside its sender, and the farther the farther its addressee is.
+/// Where the cross of a message stands that never arrives: in the gap next to its sender, and farther from it the farther its addressee is.
 fn lost_at(message: &Message, x: u64) -> u64 {
     let lanes = message.from.abs_diff(message.to);
     let way = lanes.min(4).saturating_mul(20).saturating_add(40);
