@@ -39,6 +39,7 @@ pub fn draw_journals<W: Write>(
 }
 
 /// A journal, how much of it is drawn, and the message that asks its next entry.
+#[derive(Drop)]
 struct Reader<'a> {
     node: u64,
     journal: &'a Journal,
@@ -50,20 +51,11 @@ struct Reader<'a> {
 }
 
 /// What of the journals is drawn.
+#[derive(Drop)]
 struct Merging {
     sent: Vec<Input>,
     lines: Vec<Line>,
     wrong: Option<(u64, u64)>,
-}
-
-impl Drop for Merging {
-    fn drop(self) {
-        let Merging {
-            sent: _sent,
-            lines: _lines,
-            wrong: _,
-        } = self;
-    }
 }
 
 /// The entries of all journals as lines of one script.

@@ -38,7 +38,7 @@ pub(crate) struct Loading<'a> {
 }
 
 /// Why nothing is loaded, or not all.
-#[derive(Debug, Drop)]
+#[derive(Drop)]
 enum LoadingFault {
     Load(LoadFault),
     Serve(ServeFault),
@@ -56,6 +56,7 @@ impl Display for LoadingFault {
 }
 
 /// How far the server of a folder is.
+#[derive(Drop)]
 struct Stage {
     has_begun: AtomicBool,
     has_ended: AtomicBool,
