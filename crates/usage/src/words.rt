@@ -94,7 +94,7 @@ fn with_target<'a>(alloc: Global, command: Command<'a>) -> Result<Command<'a>, A
         "The file of the mapping of a new folder; with --data alone",
     )
     .value_name("FILE");
-    with_option(command, mapping.requires_arg("data"))
+    with_option(command, mapping.conflicts_with("port"))
 }
 
 fn replay_command<'a>(alloc: Global) -> Result<Command<'a>, AllocError> {
