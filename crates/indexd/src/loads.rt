@@ -1,7 +1,7 @@
 //! Loading documents into a server that runs, or into a folder, which a server of this process has meanwhile.
 ghost use Rattle.std.specs.Prelude.{◌<◌};
 
-use loading::{Load, LoadFault, Loaded, load};
+use loading::{Ended, Load, LoadFault, Loaded, Opened, load, open};
 use server::{Admission, Rule, ServeFault, Settings, serve};
 use std::fmt::Display;
 use std::fs::File;
@@ -15,10 +15,10 @@ use std::thread::Threads;
 use std::time::{Clock, Duration};
 use std::{fmt, io, thread};
 
-/// How many milliseconds pass between two looks at whether the server listens.
+/// How many milliseconds pass between two looks.
 const TICK: u64 = 10;
 
-/// After how many looks a server that hasn't begun gets no thread.
+/// After how many looks a load that hasn't begun has no thread.
 const PATIENCE: u64 = 500;
 
 /// How many bytes unfinished requests have.
@@ -55,17 +55,17 @@ impl Display for LoadingFault {
     }
 }
 
-/// How far the server of a folder is.
+/// How far the load is, and the server of its folder.
 #[derive(Drop)]
 struct Stage {
+    /// Whether the load has a thread.
     has_begun: AtomicBool,
+    /// Whether the server has ended, or isn't begun.
     has_ended: AtomicBool,
-    /// Whether the server isn't wanted any more.
-    is_over: AtomicBool,
 }
 
 /// Loads documents, says how many, and answers the exit status: 0; 1 with one line on `errors` where a line was refused, or something failed.
-pub(crate) fn run_load<R, O: Write, E: Write>(
+pub(crate) fn run_load<R, O: Write, E: Write + Send>(
     rt: &R,
     loading: &Loading<'_>,
     shows: bool,
@@ -119,7 +119,7 @@ fn report<O: Write, E: Write>(
     1
 }
 
-fn load_all<R, E: Write>(
+fn load_all<R, E: Write + Send>(
     rt: &R,
     loading: &Loading<'_>,
     shows: bool,
@@ -144,17 +144,17 @@ where
         return load(rt, &wanted, errors).map_err(LoadingFault::Load);
     }
     let port = free_port(rt).map_err(LoadingFault::Port)?;
+    let opened = open(rt, load_of(loading, port, shows)).map_err(LoadingFault::Load)?;
     let stage = Stage {
         has_begun: AtomicBool::new(false),
         has_ended: AtomicBool::new(false),
-        is_over: AtomicBool::new(false),
     };
-    let (served, loaded) = thread::join(
+    let (ended, served) = thread::join(
         rt,
+        || send(rt, opened, &stage, errors),
         || serve_folder(rt, loading, port, &stage),
-        || load_when_served(rt, load_of(loading, port, shows), &stage, errors),
     );
-    match (served, loaded) {
+    match (served, ended.close(rt)) {
         (Err(fault), Err(_)) => Err(LoadingFault::Serve(fault)),
         (_, Ok(loaded)) => Ok(loaded),
         (Ok(()), Err(fault)) => Err(LoadingFault::Load(fault)),
@@ -199,8 +199,8 @@ where
         + Drop
         + 'static,
 {
-    stage.has_begun.store(true, Ordering::SeqCst);
-    if stage.is_over.load(Ordering::SeqCst) {
+    if !has_begun(rt, stage) {
+        stage.has_ended.store(true, Ordering::SeqCst);
         return Ok(());
     }
     let alloc = rt.alloc();
@@ -235,38 +235,35 @@ where
     served
 }
 
-/// Loads once the server listens, and then has the server end.
-fn load_when_served<R, E: Write>(
-    rt: &R,
-    wanted: Load<'_>,
-    stage: &Stage,
-    errors: &mut E,
-) -> Result<Loaded, LoadFault>
-where
-    R: Files<File = File> + Net<Stream = TcpStream> + Clock + AllocGlobal,
-{
-    let mut loaded = load(rt, &wanted, errors);
-    for tick in 0..u64::MAX {
-        let waits = matches!(&loaded, Err(LoadFault::NoServer(_, _)))
-            && !stage.has_ended.load(Ordering::SeqCst)
-            && (tick < PATIENCE || stage.has_begun.load(Ordering::SeqCst));
-        if !waits {
-            break;
+/// Whether the load has a thread. It gets one at once, or none.
+fn has_begun<R: Clock>(rt: &R, stage: &Stage) -> bool {
+    for _ in 0..PATIENCE {
+        if stage.has_begun.load(Ordering::SeqCst) {
+            return true;
         }
         thread::sleep(rt, Duration::from_millis(TICK));
-        loaded = load(rt, &wanted, errors);
     }
-    stage.is_over.store(true, Ordering::SeqCst);
-    end_server(rt, wanted.port, stage);
-    loaded
+    false
 }
 
-/// Connects until the server has ended, which waits for one connection, or nobody serves.
+/// Loads once the server listens, and then has the server end.
+fn send<'a, R: Net<Stream = TcpStream> + Clock + AllocGlobal, E: Write>(
+    rt: &'a R,
+    opened: Opened<'a>,
+    stage: &Stage,
+    errors: &mut E,
+) -> Ended<'a> {
+    stage.has_begun.store(true, Ordering::SeqCst);
+    let port = opened.port();
+    let ended = opened.send(rt, Some(&stage.has_ended), errors);
+    end_server(rt, port, stage);
+    ended
+}
+
+/// Connects until the server has ended, which waits for one connection.
 fn end_server<R: Net<Stream = TcpStream> + Clock>(rt: &R, port: u16, stage: &Stage) {
     for _ in 0..u64::MAX {
-        let serves = stage.has_begun.load(Ordering::SeqCst)
-            && !stage.has_ended.load(Ordering::SeqCst);
-        if !serves {
+        if stage.has_ended.load(Ordering::SeqCst) {
             return;
         }
         let _ = TcpStream::connect(rt, ("127.0.0.1", port));

@@ -17,5 +17,5 @@ mod source;
 mod task;
 
 pub use fault::{Broken, LoadFault};
-pub use run::load;
+pub use run::{Ended, Opened, load, open};
 pub use task::{Load, Loaded};

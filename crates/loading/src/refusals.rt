@@ -7,62 +7,59 @@ use serde_json::Value;
 use std::alloc::{AllocError, Global};
 use std::fs;
 use std::fs::File;
-use std::io::{self, ErrorKind, Write};
+use std::io::{ErrorKind, Write};
 use std::rt::Files;
 
-/// A file that is made when the first line is refused.
+/// The file, which is there while documents are loaded.
 #[derive(Drop)]
 pub(crate) struct Refusals<'a> {
     path: &'a str,
-    file: Option<File>,
+    file: File,
+    /// Whether the load made it.
+    is_made: bool,
     pub(crate) count: u64,
 }
 
 impl<'a> Refusals<'a> {
-    /// Finds that the file isn't there, or is empty.
+    /// Makes the file, or opens one that is empty.
     pub(crate) fn new<R: Files<File = File> + AllocGlobal>(
         rt: &R,
         path: &'a str,
     ) -> Result<Refusals<'a>, LoadFault> {
         let name = escaped(rt.alloc(), path)?;
-        match fs::metadata(rt, path) {
+        let is_made = match fs::metadata(rt, path) {
             Ok(found) if found.len() > 0 => return Err(LoadFault::Taken(name)),
-            Ok(_) => {}
-            Err(error) => if error.kind() != ErrorKind::NotFound {
-                return Err(LoadFault::Refused(name, error));
-            },
+            Ok(_) => false,
+            Err(error) => error.kind() == ErrorKind::NotFound,
+        };
+        match fs::create(rt, path) {
+            Ok(file) => Ok(Refusals {
+                path,
+                file,
+                is_made,
+                count: 0,
+            }),
+            Err(error) => Err(LoadFault::Refused(name, error)),
         }
-        Ok(Refusals {
-            path,
-            file: None,
-            count: 0,
-        })
     }
 
-    pub(crate) fn write<R: Files<File = File> + AllocGlobal>(
-        &mut self,
-        rt: &R,
-        refusal: &Refusal<'_>,
-    ) -> Result<(), LoadFault> {
-        let line = line_of(rt.alloc(), refusal)?;
+    pub(crate) fn write(&mut self, alloc: Global, refusal: &Refusal<'_>) -> Result<(), LoadFault> {
+        let line = line_of(alloc, refusal)?;
         self.count = self.count.saturating_add(1);
-        match self.write_line(rt, line.as_bytes()) {
+        match self.file.write_all(line.as_bytes()) {
             Ok(()) => Ok(()),
             Err(error) => {
-                let name = escaped(rt.alloc(), self.path)?;
+                let name = escaped(alloc, self.path)?;
                 Err(LoadFault::Refused(name, error))
             }
         }
     }
 
-    fn write_line<R: Files<File = File>>(&mut self, rt: &R, line: &[u8]) -> io::Result<()> {
-        if let Some(file) = &mut self.file {
-            return file.write_all(line);
+    /// Removes the file, if the load made it and nothing was refused.
+    pub(crate) fn close<R: Files>(self, rt: &R) {
+        if self.is_made && self.count == 0 {
+            let _ = fs::remove_file(rt, self.path);
         }
-        let mut made = fs::create(rt, self.path)?;
-        let written = made.write_all(line);
-        self.file = Some(made);
-        written
     }
 }
 

@@ -10,9 +10,7 @@ use crate::refusals::Refusals;
 use crate::reply::{Verdict, page_reason, verdicts};
 use reasons::escaped;
 use std::alloc::{AllocError, Global};
-use std::fs::File;
 use std::net::{Net, TcpStream};
-use std::rt::Files;
 use std::time::{Clock, Duration};
 use std::{mem, thread};
 
@@ -38,7 +36,7 @@ pub(crate) struct Sender<'a, R> {
 
 impl<'a, R> Sender<'a, R>
 where
-    R: Files<File = File> + Net<Stream = TcpStream> + Clock + AllocGlobal,
+    R: Net<Stream = TcpStream> + Clock + AllocGlobal,
 {
     pub(crate) fn new(
         rt: &'a R,
@@ -63,7 +61,11 @@ where
     }
 
     pub(crate) fn refuse(&mut self, refusal: &Refusal<'a>) -> Result<(), LoadFault> {
-        self.refusals.write(self.rt, refusal)
+        self.refusals.write(self.rt.alloc(), refusal)
+    }
+
+    pub(crate) fn into_refusals(self) -> Refusals<'a> {
+        self.refusals
     }
 
     pub(crate) fn push(&mut self, item: Item<'a>) -> Result<(), LoadFault> {
