@@ -248,7 +248,7 @@ fn has_begun<R: Clock>(rt: &R, stage: &Stage) -> bool {
 
 /// Loads once the server listens, and then has the server end.
 fn send<'a, R: Net<Stream = TcpStream> + Clock + AllocGlobal, E: Write>(
-    rt: &'a R,
+    rt: &R,
     opened: Opened<'a>,
     stage: &Stage,
     errors: &mut E,

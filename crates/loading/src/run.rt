@@ -42,11 +42,7 @@ pub struct Ended<'a> {
 
 /// Sends the documents of files to a server, and writes down the lines that it can't send or the server refuses. It may be done again after a fault or a kill,
 /// since documents are written under their ids.
-pub fn load<'a, R, E: Write>(
-    rt: &'a R,
-    load: &Load<'a>,
-    errors: &mut E,
-) -> Result<Loaded, LoadFault>
+pub fn load<R, E: Write>(rt: &R, load: &Load<'_>, errors: &mut E) -> Result<Loaded, LoadFault>
 where
     R: Files<File = File> + Net<Stream = TcpStream> + Clock + AllocGlobal,
 {
@@ -82,7 +78,7 @@ impl<'a> Opened<'a> {
     /// Sends the documents. With `has_ended` it waits for a server that doesn't listen yet, until that says that the server has ended.
     pub fn send<R, E: Write>(
         self,
-        rt: &'a R,
+        rt: &R,
         has_ended: Option<&AtomicBool>,
         errors: &mut E,
     ) -> Ended<'a>
@@ -159,7 +155,7 @@ fn send_all<'a, R, E: Write>(
     rt: &R,
     load: Load<'a>,
     files: Vec<File>,
-    sender: &mut Sender<'a, R>,
+    sender: &mut Sender<'_, 'a, R>,
     bar: &mut Bar<'_, R, E>,
 ) -> Result<(), LoadFault>
 where
@@ -184,7 +180,7 @@ fn send_file<'a, R, E: Write>(
     file: &'a str,
     from: Source<'a, File>,
     before: u64,
-    sender: &mut Sender<'a, R>,
+    sender: &mut Sender<'_, 'a, R>,
     bar: &mut Bar<'_, R, E>,
 ) -> Result<u64, LoadFault>
 where

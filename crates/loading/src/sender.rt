@@ -22,8 +22,8 @@ const PAUSE: u64 = 50;
 
 /// Sends items in the order in which they come.
 #[derive(Drop)]
-pub(crate) struct Sender<'a, R> {
-    rt: &'a R,
+pub(crate) struct Sender<'r, 'a, R> {
+    rt: &'r R,
     port: u16,
     connection: Connection,
     refusals: Refusals<'a>,
@@ -34,16 +34,16 @@ pub(crate) struct Sender<'a, R> {
     pub(crate) confirmed: u64,
 }
 
-impl<'a, R> Sender<'a, R>
+impl<'r, 'a, R> Sender<'r, 'a, R>
 where
     R: Net<Stream = TcpStream> + Clock + AllocGlobal,
 {
     pub(crate) fn new(
-        rt: &'a R,
+        rt: &'r R,
         port: u16,
         connection: Connection,
         refusals: Refusals<'a>,
-    ) -> Sender<'a, R> {
+    ) -> Sender<'r, 'a, R> {
         Sender {
             rt,
             port,
