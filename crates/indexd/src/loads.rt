@@ -140,11 +140,11 @@ where
         + 'static,
 {
     if let Some(port) = loading.port {
-        let wanted = load_of(loading, port, shows);
+        let wanted = load_of(&*loading, port, shows);
         return load(rt, &wanted, errors).map_err(LoadingFault::Load);
     }
     let port = free_port(rt).map_err(LoadingFault::Port)?;
-    let opened = open(rt, load_of(loading, port, shows)).map_err(LoadingFault::Load)?;
+    let opened = open(rt, load_of(&*loading, port, shows)).map_err(LoadingFault::Load)?;
     let stage = Stage {
         has_begun: AtomicBool::new(false),
         has_ended: AtomicBool::new(false),
@@ -161,7 +161,7 @@ where
     }
 }
 
-fn load_of<'a>(loading: &'a Loading<'a>, port: u16, shows: bool) -> Load<'a> {
+fn load_of<'l>(loading: &'l Loading<'_>, port: u16, shows: bool) -> Load<'l> {
     Load {
         port,
         index: loading.index,
