@@ -40,7 +40,7 @@ def bare():
     dpkg(root, "-i", "/indexd.deb")
     is_kept("dpkg's word on the package", inside(root, "dpkg-query", "-W", "-f", "${db:Status-Status}", "indexd").stdout, "installed")
     is_kept("dpkg's word on its files", inside(root, "dpkg", "-V", "indexd").stdout, "")
-    check("the service is enabled", "" if (root / "etc/systemd/system/multi-user.target.wants/indexd.service").is_symlink() else "there is no link to it")
+    check("the service waits for its mapping", "it is enabled" if (root / "etc/systemd/system/multi-user.target.wants/indexd.service").is_symlink() else "")
     served(root)
     upgraded(root)
     removed(root)
