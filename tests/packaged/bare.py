@@ -11,7 +11,7 @@ from packaged.package import OPTIONS, Service, command_line, failure, package, r
 from serving.server import free_port, is_kept
 
 SUITE = "bookworm"
-KEPT = Path(f"/tmp/indexd-bare-{SUITE}")
+KEPT = Path(tempfile.gettempdir()) / f"indexd-bare-{SUITE}"
 MAKING_SECONDS, INSTALLING_SECONDS = 120, 60
 # What is mounted or started so is gone once its command has ended, however that ends.
 APART = ("unshare", "--mount", "--pid", "--fork", "--kill-child")

@@ -5,7 +5,6 @@ import os
 import shlex
 import subprocess
 import tempfile
-import threading
 import urllib.error
 import urllib.request
 from pathlib import Path
@@ -71,12 +70,7 @@ class Service(Server):
     def __init__(self, words, port, **more):
         self.port = port
         self.process = subprocess.Popen(words, stdin=subprocess.DEVNULL, stdout=subprocess.PIPE, stderr=subprocess.PIPE, **more)
-        late = threading.Timer(START_SECONDS, self.process.kill)
-        late.daemon = True
-        late.start()
-        self.said = self.process.stdout.readline()
-        late.cancel()
-        self.listens = self.said == f"listening on 127.0.0.1:{port}\n".encode()
+        self.hear(START_SECONDS)
 
     def answer(self, method, path, body=None):
         """The status and the JSON of a page, status 0 where there is none."""

@@ -43,6 +43,10 @@ class Server:
             restore_signals=greatest_file is None)  # Python ignores SIGXFSZ, and a server that is to meet a full file inherits that.
         if greatest_file is not None:
             self.limit_files(greatest_file)
+        self.hear(most_seconds)
+
+    def hear(self, most_seconds):
+        """Waits for the line that says where the server listens, and kills a server that takes longer."""
         late = threading.Timer(most_seconds, self.process.kill)
         late.daemon = True
         late.start()
