@@ -20,6 +20,7 @@ def merges():
             beside_searches(f"{copies} copies whose writes share a sync", copies, Path(top) / f"together-{copies}", "--sync", "together")
     in_a_row()
     stay_few()
+    at_rest()
     lone_writes()
 
 
@@ -106,16 +107,16 @@ def in_a_row():
         check("segments of all sizes: each has its last write", "" if got == [*range(300, 400), *range(250, 300)] else repr(got)[:300])
 
 
-def took(server, documents):
-    """The median of what counting these documents takes."""
+def took(server, documents, request=COUNT, times=400):
+    """The median of what a request takes that counts these documents or finds them."""
     with Client(server) as client:
-        times = []
-        for _ in range(400):
+        clock = []
+        for _ in range(times):
             begun = time.monotonic()
-            got = client.ask(COUNT)
-            times.append(time.monotonic() - begun)
-            assert got["count"] == documents, got
-    return sorted(times)[len(times) // 2]
+            got = client.ask(request)
+            clock.append(time.monotonic() - begun)
+            assert got.get("count", got.get("hits", {}).get("total", {}).get("value")) == documents, got
+    return sorted(clock)[len(clock) // 2]
 
 
 def stay_few():
@@ -130,6 +131,31 @@ def stay_few():
                 times.append(took(server, 4_000))
         alone, merged = times[-2:]
         check(f"{copies} copies: how long a search takes behind 4,000 refreshes", "" if merged < 8 * alone else f"{merged * 1_000:.2f} ms, and {alone * 1_000:.2f} ms behind one")
+
+
+def filled(client, many, size):
+    """Fills an index with bulks of so many documents each, which no request refreshes, and returns how many documents it has."""
+    for first in range(0, many * size, size):
+        lines = b"".join(b'{"index":{"_id":"%d"}}\n{}\n' % it for it in range(first, first + size))
+        client.ask(b"POST /books/_bulk HTTP/1.1\r\ncontent-length: %d\r\n\r\n%s" % (len(lines), lines))
+    client.ask(b"POST /books/_refresh HTTP/1.1\r\n\r\n")
+    return many * size
+
+
+def at_rest():
+    """An index that many bulks filled is merged once no write comes: a deep page then takes about as long as where all documents stand in one segment."""
+    deep = b'POST /books/_search HTTP/1.1\r\ncontent-length: 13\r\n\r\n{"from":9000}'
+    for copies in (1, 2):
+        times = []
+        for many, refresh in ((1, 0), (24, 50)):
+            with Server("--copies", copies, "--refresh-ms", refresh) as server, Client(server) as client:
+                documents = filled(client, many, 24_000 // many)
+                until = time.monotonic() + 10
+                times.append(took(server, documents, deep, 50))
+                while many > 1 and times[-1] > 3 * times[0] and time.monotonic() < until:
+                    times[-1] = took(server, documents, deep, 50)
+        alone, merged = times
+        check(f"{copies} copies: how long a deep page takes at rest behind 24 bulks", "" if merged <= 3 * alone else f"{merged * 1_000:.2f} ms, and {alone * 1_000:.2f} ms in one segment")
 
 
 def lone_writes():

@@ -234,12 +234,16 @@ impl<D: LogDevice, J: IndexName> CopyCell<D, J> {
         self.publisher.publish(rt, alloc, showing)
     }
 
-    /// Begins a merge of segments that go well into one, where searches look through many, for `finish_merge`; it makes no entry.
+    /// Begins a merge of segments that go well into one, if there are more than so few, for `finish_merge`; it makes no entry.
     #[tactic(auto, using(crate::proofs::Refusing::same_published))]
-    pub fn begin_merge_beside(&mut self, alloc: Global) -> Result<Option<Merging>, AllocError>
+    pub fn begin_merge_beside(
+        &mut self,
+        alloc: Global,
+        few: usize,
+    ) -> Result<Option<Merging>, AllocError>
         ensures { self.new ≡ self.old }
     {
-        self.held.begin_merge_beside(alloc)
+        self.held.begin_merge_beside(alloc, few)
     }
 
     /// Puts the part in place that was built for it, without comparing documents; it makes no entry. Searchers look through it from the next refresh on.

@@ -101,20 +101,28 @@ impl<'w, W: Watcher, K: Drop> Clients<'w, W, K> {
 
     /// Serves connections in this lane with this service, until the last one that the limits allow has ended. The last lane refreshes the index again and again
     /// instead. It calls `show_more`, during which commands go on, and if that doesn't refresh, `refresh`, which blocks commands. Both return whether they
-    /// refreshed.
-    pub fn run<R: Wait + Clock, S: Resumable<Known = K> + Drop, P: Fn() -> bool, B: Fn() -> bool>(
+    /// refreshed. Where nothing was written in the time of a refresh, it calls `rest`, once until something is written.
+    pub fn run<
+        R: Wait + Clock,
+        S: Resumable<Known = K> + Drop,
+        P: Fn() -> bool,
+        B: Fn() -> bool,
+        E: Fn(),
+    >(
         &self,
         rt: &R,
         lane: usize,
         service: S,
         show_more: &P,
         refresh: &B,
+        rest: &E,
     ) -> io::Result<()>
         requires show_more { P.Fn.pre show_more.now tt }
         requires refresh { B.Fn.pre refresh.now tt }
+        requires rest { E.Fn.pre rest.now tt }
     {
         if lane >= self.limits.working() {
-            self.refresh_in_turn(rt, show_more, refresh);
+            self.refresh_in_turn(rt, show_more, refresh, rest);
             return Ok(());
         }
         let mut service = Noting {
@@ -365,19 +373,22 @@ impl<'w, W: Watcher, K: Drop> Clients<'w, W, K> {
         }
     }
 
-    /// Refreshes the index again and again until the server has ended: each time that its time is over, or `MANY` writes came.
-    fn refresh_in_turn<C: Clock, P: Fn() -> bool, B: Fn() -> bool>(
+    /// Refreshes the index again and again until the server has ended: each time that its time is over, or `MANY` writes came. The first time that nothing came it rests.
+    fn refresh_in_turn<C: Clock, P: Fn() -> bool, B: Fn() -> bool, E: Fn()>(
         &self,
         clock: &C,
         show_more: &P,
         refresh: &B,
+        rest: &E,
     )
         requires show_more { P.Fn.pre show_more.now tt }
         requires refresh { B.Fn.pre refresh.now tt }
+        requires rest { E.Fn.pre rest.now tt }
     {
         if self.limits.refresh == 0 {
             return;
         }
+        let mut is_resting = true;
         let mut left = self.limits.refresh;
         for _ in 0..u64::MAX {
             if self.ended.load(Ordering::SeqCst) {
@@ -387,24 +398,28 @@ impl<'w, W: Watcher, K: Drop> Clients<'w, W, K> {
             thread::sleep(clock, Duration::from_millis(tick));
             left -= tick;
             if left == 0 || self.notes.written.load(Ordering::SeqCst) >= MANY {
-                self.refresh_once(show_more, refresh);
+                let was_written = self.refresh_once(show_more, refresh);
+                if !was_written && !is_resting {
+                    rest();
+                }
+                is_resting = !was_written;
                 left = self.limits.refresh;
             }
         }
     }
 
-    /// Refreshes the index if something was written. If a refresh is refused, it is tried again when its time is over.
-    fn refresh_once<P: Fn() -> bool, B: Fn() -> bool>(&self, show_more: &P, refresh: &B)
+    /// Refreshes the index if something was written, and returns whether it was. If a refresh is refused, it is tried again when its time is over.
+    fn refresh_once<P: Fn() -> bool, B: Fn() -> bool>(&self, show_more: &P, refresh: &B) -> bool
         requires show_more { P.Fn.pre show_more.now tt }
         requires refresh { B.Fn.pre refresh.now tt }
     {
         if self.notes.written.load(Ordering::SeqCst) == 0 {
-            return;
+            return false;
         }
         // The refresh may not show what comes from now on.
         self.notes.written.store(0, Ordering::SeqCst);
         if show_more() {
-            return;
+            return true;
         }
         self.notes.refreshing.store(true, Ordering::SeqCst);
         let done = refresh();
@@ -412,6 +427,7 @@ impl<'w, W: Watcher, K: Drop> Clients<'w, W, K> {
         if !done {
             self.notes.written.fetch_add(1, Ordering::SeqCst);
         }
+        true
     }
 }
 

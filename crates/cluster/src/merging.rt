@@ -7,7 +7,7 @@ use crate::worker::Worker;
 use cell::IndexName;
 use crossbeam_channel::{Receiver, Sender};
 use engine::{Merged, Merging};
-use replica::Input;
+use replica::{FEW_AT_REST, FEW_SEGMENTS, Input};
 use std::alloc::Global;
 use std::sync::Wait;
 use translog::LogDevice;
@@ -48,6 +48,8 @@ pub(crate) struct Merges {
     to: Sender<Merging, Global>,
     /// Whether one is being built.
     is_under_way: bool,
+    /// The next one begins where there are more segments.
+    few: usize,
 }
 
 impl Merges {
@@ -55,6 +57,7 @@ impl Merges {
         Merges {
             to,
             is_under_way: false,
+            few: FEW_SEGMENTS,
         }
     }
 
@@ -65,12 +68,22 @@ impl Merges {
 }
 
 impl<D: LogDevice, G: Gate, J: IndexName> Worker<D, G, J> {
+    /// Notes before a refresh how many segments merges leave: fewer if the refresh shows nothing new, since then the copy is at rest.
+    pub(crate) fn note_rest(&mut self) {
+        self.merges.few = if self.is_open() && self.copy().is_all_shown() {
+            FEW_AT_REST
+        } else {
+            FEW_SEGMENTS
+        };
+    }
+
     /// Has a merge built where searches look through many segments and none is being built. Without memory for that the next refresh tries again.
     pub(crate) fn begin_merge<R: Wait>(&mut self, rt: &R) {
         if self.merges.is_under_way || !self.is_open() {
             return;
         }
-        if let Ok(Some(merging)) = self.cell.begin_merge(self.alloc) {
+        let few = self.merges.few;
+        if let Ok(Some(merging)) = self.cell.begin_merge(self.alloc, few) {
             self.merges.begin(rt, merging);
         }
     }

@@ -122,12 +122,16 @@ impl<D: LogDevice, J: IndexName> OwnCell<D, J> {
         self.cell.copy_searcher()
     }
 
-    /// Begins a merge of parts that go well into one, where searches look through many; it makes no entry.
+    /// Begins a merge of segments that go well into one, if there are more than so few; it makes no entry.
     #[tactic(auto, using(crate::proofs::Owned::own_same))]
-    pub(crate) fn begin_merge(&mut self, alloc: Global) -> Result<Option<Merging>, AllocError>
+    pub(crate) fn begin_merge(
+        &mut self,
+        alloc: Global,
+        few: usize,
+    ) -> Result<Option<Merging>, AllocError>
         ensures { self.new ≡ self.old }
     {
-        self.cell.begin_merge_beside(alloc)
+        self.cell.begin_merge_beside(alloc, few)
     }
 
     /// Puts the part in place that was built for it; it makes no entry.

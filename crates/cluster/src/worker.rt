@@ -159,6 +159,7 @@ impl<D: LogDevice, G: Gate, J: IndexName> Worker<D, G, J> {
             give(rt, to, Err(unsynced()));
             return;
         }
+        self.note_rest();
         self.do_asked(rt, Input::Refresh, to);
         self.begin_merge(rt);
     }

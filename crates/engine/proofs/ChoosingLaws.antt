@@ -1,18 +1,15 @@
 -- Some of the parts.
-use Rattle.std.proofs.Common.{◌≡◌, ◌<◌, ◌≤◌, ℕ, ◌+◌, ◌*◌, suc, Bool, true, false, cond, List, [], ◌∷◌, ◌++◌, length, map, filter, take, drop, get_or, refl, sym, ap, ◌∙◌, subst, arith, if◌then◌else◌, length-append}
-use Rattle.std.specs.Prelude.{min, nat_le, nat_lt, sum_by, ◌==◌, ◌&&◌, ◌||◌}
-use Rattle.std.specs.List.{list_any, AllByRecursion, AllZip}
+use Rattle.std.proofs.Common.{◌≡◌, ◌<◌, ◌≤◌, ℕ, ◌+◌, ◌^◌, Bool, true, false, cond, List, [], ◌∷◌, ◌++◌, length, map, filter, take, drop, get_or, refl, sym, ap, ◌∙◌, subst, arith, if◌then◌else◌, length-append}
+use Rattle.std.specs.Prelude.{min, nat_le, nat_lt, ◌==◌, ◌&&◌, ◌||◌}
+use Rattle.std.specs.List.{list_any, AllByRecursion}
 use Rattle.std.proofs.lemmas.List.Folds.{list_any-append}
 use Rattle.std.proofs.lemmas.Bool.Decides.{nat_tests}
 use Rattle.std.proofs.lemmas.List.Elements.{filter-append}
-use Rattle.std.proofs.lemmas.List.Sums.{sum_by-cons, sum_by_push}
-use Rattle.std.proofs.lemmas.List.{append-nil, length-map, length_push, map-append, take-append-drop}
+use Rattle.std.proofs.lemmas.List.{append-nil, length-map, length-take, length_push, map-append, take-append-drop, take-append-le, take_all}
 use Rattle.doc.specs.Mapping.{MappingData}
-use Rattle.op.specs.Documents.{Documents}
-use Rattle.engine.specs.Choosing.{ChoiceData, chosen_with, goes}
-use Rattle.engine.specs.Live.{counted, is_small, live_of, small_count, FitOneMerge}
+use Rattle.engine.specs.Live.{is_within, live_of, numbers_within}
 use Rattle.engine.specs.Parts.{PartData, all_published, documents_of_parts, published_of, woven, AreParts}
-use Rattle.engine.specs.Published.{Published, greatest, is_numbered, numbered, AreDistinct}
+use Rattle.engine.specs.Published.{Published, greatest, is_numbered, mergeable_count, numbered, AreDistinct}
 use Rattle.engine.proofs.LivingLaws.{filter-parts}
 use Rattle.engine.proofs.SwapLaws.{taken-push}
 
@@ -52,28 +49,42 @@ none-woven (p ∷ ps) none = absurd (omega (arith, none))
 pub published-long : (ps : List PartData) → length (all_published ps) ≡ length ps
 published-long ps = length-map ps published_of
 
--- ---- small parts
+-- ---- parts that a merge may take
 
 abbrev one_if : Bool → ℕ
 one_if b = cond b 1 0
 
-abbrev pub small_part : PartData → Bool
-small_part p = is_small (published_of p) p.documents
+abbrev pub is_below : PartData → Bool
+is_below p = nat_lt p.number greatest
 
-abbrev pub smalls : List PartData → ℕ
-smalls ps = small_count (all_published ps) (documents_of_parts ps)
+abbrev pub mergeables : List PartData → ℕ
+mergeables ps = mergeable_count (all_published ps)
 
-smalls-push : (ps : List PartData) (x : PartData) → smalls (ps ++ x ∷ []) ≡ smalls ps + cond (small_part x) 1 0
-smalls-push [] x = elim (small_part x) as (λ b. cond b 1 0 + 0 ≡ 0 + cond b 1 0) [ true ↦ refl | false ↦ refl ]
-smalls-push (p ∷ ps) x = let rest = smalls-push ps x in elim (small_part p) as (λ b. cond b 1 0 + smalls (ps ++ x ∷ []) ≡ (cond b 1 0 + smalls ps) + cond (small_part x) 1 0) [ true ↦ omega (arith, rest) | false ↦ omega (arith, rest) ]
+abbrev below_in : List PartData → List Published
+below_in ps = filter (λ (s : Published). nat_lt s.number greatest) (all_published ps)
+
+mergeables-push : (ps : List PartData) (x : PartData) → mergeables (ps ++ x ∷ []) ≡ mergeables ps + one_if (is_below x)
+mergeables-push [] x = elim (is_below x) as (λ b. length (cond b (published_of x ∷ []) []) ≡ 0 + cond b 1 0) [ true ↦ refl | false ↦ refl ]
+mergeables-push (p ∷ ps) x =
+    let rest = mergeables-push ps x in
+    elim (is_below p) as (λ b. length (cond b (published_of p ∷ below_in (ps ++ x ∷ [])) (below_in (ps ++ x ∷ []))) ≡ length (cond b (published_of p ∷ below_in ps) (below_in ps)) + one_if (is_below x)) [ true ↦ omega (arith, rest) | false ↦ rest ]
 
 -- one part more
-pub smalls-more : (ps : List PartData) (i : ℕ) (x : PartData) → i < length ps → x ≡ get_or ps i x → smalls (take (i + 1) ps) ≡ smalls (take i ps) + cond (small_part x) 1 0
-smalls-more ps i x lt is = ap smalls (taken-push ps i x lt is) ∙ smalls-push (take i ps) x
+pub mergeables-more : (ps : List PartData) (i : ℕ) (x : PartData) → i < length ps → x ≡ get_or ps i x → mergeables (take (i + 1) ps) ≡ mergeables (take i ps) + cond (is_below x) 1 0
+mergeables-more ps i x lt is = ap mergeables (taken-push ps i x lt is) ∙ mergeables-push (take i ps) x
 
-pub smalls-few : (ps : List PartData) → smalls ps ≤ length ps
-smalls-few [] = omega arith
-smalls-few (p ∷ ps) = let rest = smalls-few ps in elim (small_part p) as (λ b. cond b 1 0 + smalls ps ≤ suc (length ps)) [ true ↦ omega (arith, rest) | false ↦ omega (arith, rest) ]
+-- the numbers of those in which no more documents are live
+abbrev pub numbers_of : ℕ → List PartData → List ℕ
+numbers_of most ps = numbers_within most (all_published ps) (documents_of_parts ps)
+
+numbers-push : (most : ℕ) (ps : List PartData) (x : PartData) → numbers_of most (ps ++ x ∷ []) ≡ numbers_of most ps ++ cond (is_within most (published_of x) x.documents) (x.number ∷ []) []
+numbers-push most [] x = refl
+numbers-push most (p ∷ ps) x =
+    let rest = numbers-push most ps x in
+    elim (is_within most (published_of p) p.documents) as (λ b. cond b (p.number ∷ numbers_of most (ps ++ x ∷ [])) (numbers_of most (ps ++ x ∷ [])) ≡ cond b (p.number ∷ numbers_of most ps) (numbers_of most ps) ++ cond (is_within most (published_of x) x.documents) (x.number ∷ []) []) [
+      | true ↦ ap (λ ns. p.number ∷ ns) rest
+      | false ↦ rest
+    ]
 
 -- ---- parts that bear a number
 
@@ -141,37 +152,29 @@ both_true : (a b : Bool) → (a && b) ≡ true → (a ≡ true) × (b ≡ true)
 both_true true b is = (refl, is)
 both_true false b is = cc
 
-five_true : (a b c d e : Bool) → (a && (b && (c && (d && e)))) ≡ true → (a ≡ true) × (b ≡ true) × (c ≡ true) × (d ≡ true) × (e ≡ true)
-five_true true true true true true is = (refl, refl, refl, refl, refl)
-five_true true true true true false is = cc
-five_true true true true false e is = cc
-five_true true true false d e is = cc
-five_true true false c d e is = cc
-five_true false b c d e is = cc
-
 and_true : (a b : Bool) → a ≡ true → b ≡ true → (a && b) ≡ true
 and_true true b p q = q
 and_true false b p q = cc
 
-abbrev AllSmall : List PartData → Type 0
-AllSmall ps = AllByRecursion (λ p. small_part p ≡ true) ps
+abbrev AllBelow : List PartData → Type 0
+AllBelow ps = AllByRecursion (λ p. is_below p ≡ true) ps
 
-small-push : (ps : List PartData) (x : PartData) → AllSmall ps → small_part x ≡ true → AllSmall (ps ++ x ∷ [])
-small-push [] x all is = (is, tt)
-small-push (p ∷ ps) x all is = (all.0, small-push ps x all.1 is)
+below-push : (ps : List PartData) (x : PartData) → AllBelow ps → is_below x ≡ true → AllBelow (ps ++ x ∷ [])
+below-push [] x all is = (is, tt)
+below-push (p ∷ ps) x all is = (all.0, below-push ps x all.1 is)
 
 abbrev has_number : ℕ → List PartData → Bool
 has_number k ps = list_any (λ n. n == k) (map (λ (p : PartData). p.number) ps)
 
--- a number of small parts is borne by one of them, and isn't the greatest
-borne-small : (k : ℕ) (ps : List PartData) → AllSmall ps → has_number k ps ≡ true → (k < greatest) × (1 ≤ borne k ps)
-borne-small k [] all any = cc
-borne-small k (p ∷ ps) all any = by_test (λ there. borne-small k ps all.1 there) (p.number == k) refl any
+-- a number of such parts is borne by one of them, and isn't the greatest
+borne-below : (k : ℕ) (ps : List PartData) → AllBelow ps → has_number k ps ≡ true → (k < greatest) × (1 ≤ borne k ps)
+borne-below k [] all any = cc
+borne-below k (p ∷ ps) all any = by_test (λ there. borne-below k ps all.1 there) (p.number == k) refl any
   where
     by_test : (has_number k ps ≡ true → (k < greatest) × (1 ≤ borne k ps)) → (b : Bool) → (p.number == k) ≡ b → (b || has_number k ps) ≡ true → (k < greatest) × (1 ≤ borne k (p ∷ ps))
     by_test rest true is any =
         let same : p.number ≡ k = grind (arith, nat_tests, is) in
-        let less : nat_lt p.number greatest ≡ true = (both_true (nat_lt p.number greatest) (nat_le (length p.documents) 32768) all.0).0 in
+        let less = all.0 in
         let below : p.number < greatest = grind (arith, nat_tests, less) in
         let here : is_chosen (k ∷ []) p ≡ true = subst (λ n. is_chosen (n ∷ []) p ≡ true) same (bears p) in
         (omega (arith, below, same), subst (λ b. 1 ≤ length (cond b (p ∷ chosen_of (k ∷ []) ps) (chosen_of (k ∷ []) ps))) (sym here) (omega arith))
@@ -181,136 +184,109 @@ borne-small k (p ∷ ps) all any = by_test (λ there. borne-small k ps all.1 the
 
 -- ---- a choice
 
--- what is chosen of parts: as many as go together, and two where two are small and all sizes are taken
-pub record IsChoice (most : ℕ) (ps : List PartData) (c : ChoiceData) : Type 0 where
-  pub same : map (λ (p : PartData). p.number) (chosen_of c.numbers ps) ≡ c.numbers
-  pub small : AllByRecursion (λ (p : PartData). is_small (published_of p) p.documents ≡ true) (chosen_of c.numbers ps)
-  pub live : c.live ≡ sum_by (λ (p : PartData). length p.documents) (chosen_of c.numbers ps)
-  pub put : c.put ≡ sum_by (λ (p : PartData). counted (published_of p)) (chosen_of c.numbers ps)
-  pub few : length c.numbers ≤ 10
-  pub few_live : c.live ≤ 65536
-  pub few_put : c.put ≤ 262144
-  pub each_live : c.live ≤ 32768 * length c.numbers
-  pub each_put : c.put ≤ 131072 * length c.numbers
-  pub two : most ≡ 32768 → min 2 (small_count (all_published ps) (documents_of_parts ps)) ≤ length c.numbers
+-- what is chosen of parts: the first ten in which no more documents are live, or of all
+pub record IsChoice (most : ℕ) (ps : List PartData) (ns : List ℕ) : Type 0 where
+  pub same : map (λ (p : PartData). p.number) (chosen_of ns ps) ≡ ns
+  pub below : AllByRecursion (λ (p : PartData). nat_lt p.number greatest ≡ true) (chosen_of ns ps)
+  pub are : ns ≡ take 10 (numbers_within most (all_published ps) (documents_of_parts ps))
+  pub all : most ≡ 18446744073709551615 → length ns ≡ min 10 (mergeable_count (all_published ps))
 
-pub choice-none : (most : ℕ) (ps : List PartData) (c : ChoiceData) → c ≡ record { numbers = []; live = 0; put = 0 } → IsChoice most (take 0 ps) c
-choice-none most ps c is = subst (λ (c : ChoiceData). IsChoice most [] c) (sym is) (record {
-  same = refl;
-  small = tt;
-  live = refl;
-  put = refl;
-  few = omega arith;
-  few_live = omega arith;
-  few_put = omega arith;
-  each_live = omega arith;
-  each_put = omega arith;
-  two = λ all. omega arith;
-})
+pub choice-none : (most : ℕ) (ps : List PartData) → IsChoice most (take 0 ps) []
+choice-none most ps = record { same = refl; below = tt; are = refl; all = λ each. omega arith }
 
-module _ (most : ℕ) (ps : List PartData) (x : PartData) (c : ChoiceData) (once : Once (ps ++ x ∷ [])) (so_far : IsChoice most ps c) where
+module _ (most : ℕ) (ps : List PartData) (x : PartData) (ns : List ℕ) (once : Once (ps ++ x ∷ [])) (so_far : IsChoice most ps ns) (short : length x.documents < 2 ^ 32) where
   abbrev before : List PartData
-  before = chosen_of c.numbers ps
+  before = chosen_of ns ps
 
-  abbrev with_it : ChoiceData
-  with_it = record { numbers = c.numbers ++ x.number ∷ []; live = c.live + length x.documents; put = c.put + counted (published_of x) }
+  abbrev with_it : List ℕ
+  with_it = ns ++ x.number ∷ []
 
-  parts_of-goes : goes most c x ≡ true → (small_part x ≡ true) × (length x.documents ≤ most) × (length c.numbers < 10) × (c.live + length x.documents ≤ 65536) × (c.put + counted (published_of x) ≤ 262144)
-  parts_of-goes is =
-      let each = five_true (small_part x) (nat_le (length x.documents) most) (nat_lt (length c.numbers) 10) (nat_le (c.live + length x.documents) 65536) (nat_le (c.put + counted (published_of x)) 262144) is in
-      let size = each.1 in
-      let room = each.2 in
-      let live = each.3 in
-      let put = each.4 in
-      (each.0, grind (arith, nat_tests, size), grind (arith, nat_tests, room), grind (arith, nat_tests, live), grind (arith, nat_tests, put))
+  abbrev fits : Bool
+  fits = is_within most (published_of x) x.documents
 
-  few_documents : small_part x ≡ true → length x.documents ≤ 32768
-  few_documents is = let size = (both_true (nat_lt x.number greatest) (nat_le (length x.documents) 32768) is).1 in grind (arith, nat_tests, size)
+  few : length ns ≤ 10
+  few = omega (arith, ap length so_far.are, length-take 10 (numbers_of most ps))
 
-  few_counted : counted (published_of x) ≤ 131072
-  few_counted = omega arith
-
-  module _ (is : goes most c x ≡ true) where
-    facts : (small_part x ≡ true) × (length x.documents ≤ most) × (length c.numbers < 10) × (c.live + length x.documents ≤ 65536) × (c.put + counted (published_of x) ≤ 262144)
-    facts = parts_of-goes is
+  module _ (room : length ns < 10) (is : fits ≡ true) where
+    less : is_below x ≡ true
+    less = (both_true (is_below x) (nat_le (length x.documents) most) is).0
 
     new : borne x.number ps ≤ 0
     new =
-        let below = (both_true (nat_lt x.number greatest) (nat_le (length x.documents) 32768) facts.0).0 in
-        let less : x.number < greatest = grind (arith, nat_tests, below) in
-        omega (arith, borne-push ps x, once x.number less)
+        let below = less in
+        let lt : x.number < greatest = grind (arith, nat_tests, below) in
+        omega (arith, borne-push ps x, once x.number lt)
 
-    more : chosen_of with_it.numbers (ps ++ x ∷ []) ≡ before ++ x ∷ []
+    more : chosen_of with_it (ps ++ x ∷ []) ≡ before ++ x ∷ []
     more =
-        filter-append (is_chosen with_it.numbers) ps (x ∷ [])
-        ∙ ap (λ (qs : List PartData). qs ++ chosen_of with_it.numbers (x ∷ [])) (unborne c.numbers x.number ps new)
-        ∙ ap (λ b. before ++ cond b (x ∷ []) []) (chosen-push c.numbers x.number x ∙ or_true (is_chosen c.numbers x) (is_chosen (x.number ∷ []) x) (bears x))
+        filter-append (is_chosen with_it) ps (x ∷ [])
+        ∙ ap (λ (qs : List PartData). qs ++ chosen_of with_it (x ∷ [])) (unborne ns x.number ps new)
+        ∙ ap (λ b. before ++ cond b (x ∷ []) []) (chosen-push ns x.number x ∙ or_true (is_chosen ns x) (is_chosen (x.number ∷ []) x) (bears x))
+
+    -- there are no others so far
+    whole : ns ≡ numbers_of most ps
+    whole = so_far.are ∙ take_all 10 (numbers_of most ps) (omega (arith, ap length so_far.are, length-take 10 (numbers_of most ps), room))
+
+    pushed : numbers_of most (ps ++ x ∷ []) ≡ with_it
+    pushed = numbers-push most ps x ∙ ap (λ b. numbers_of most ps ++ cond b (x.number ∷ []) []) is ∙ ap (λ (ms : List ℕ). ms ++ x.number ∷ []) (sym whole)
 
     pub choice-goes : IsChoice most (ps ++ x ∷ []) with_it
     choice-goes = record {
       same = ap (map (λ (p : PartData). p.number)) more ∙ map-append (λ (p : PartData). p.number) before (x ∷ []) ∙ ap (λ (ns : List ℕ). ns ++ x.number ∷ []) so_far.same;
-      small = subst AllSmall (sym more) (small-push before x so_far.small facts.0);
-      live = ap (λ n. n + length x.documents) so_far.live ∙ sym (ap (sum_by (λ (p : PartData). length p.documents)) more ∙ sum_by_push (λ (p : PartData). length p.documents) before x);
-      put = ap (λ n. n + counted (published_of x)) so_far.put ∙ sym (ap (sum_by (λ (p : PartData). counted (published_of p))) more ∙ sum_by_push (λ (p : PartData). counted (published_of p)) before x);
-      few = omega (arith, length_push c.numbers x.number, facts.2);
-      few_live = facts.3;
-      few_put = facts.4;
-      each_live = omega (arith, length_push c.numbers x.number, so_far.each_live, few_documents facts.0);
-      each_put = omega (arith, length_push c.numbers x.number, so_far.each_put, few_counted);
-      two = λ all. omega (arith, length_push c.numbers x.number, so_far.two all, smalls-push ps x, ap one_if facts.0);
+      below = subst AllBelow (sym more) (below-push before x so_far.below less);
+      are = sym (ap (take 10) pushed ∙ take_all 10 with_it (omega (arith, length_push ns x.number, room)));
+      all = λ each. omega (arith, length_push ns x.number, so_far.all each, mergeables-push ps x, ap one_if less, room);
     }
 
-  must : most ≡ 32768 → length c.numbers < 2 → small_part x ≡ true → goes most c x ≡ true
-  must all few small =
-      let size = few_documents small in
-      let a : nat_le (length x.documents) most ≡ true = grind (arith, nat_tests, size, all) in
-      let b : nat_lt (length c.numbers) 10 ≡ true = grind (arith, nat_tests, few) in
-      let live : c.live + length x.documents ≤ 65536 = omega (arith, so_far.each_live, size, few) in
-      let put : c.put + counted (published_of x) ≤ 262144 = omega (arith, so_far.each_put, few_counted, few) in
-      let d : nat_le (c.live + length x.documents) 65536 ≡ true = grind (arith, nat_tests, live) in
-      let e : nat_le (c.put + counted (published_of x)) 262144 ≡ true = grind (arith, nat_tests, put) in
-      and_true _ _ small (and_true _ _ a (and_true _ _ b (and_true _ _ d e)))
-
-  module _ (not_is : goes most c x ≡ false) where
-    not_chosen : (b : Bool) → is_chosen c.numbers x ≡ b → b ≡ false
+  module _ (not_goes : (length ns < 10 → fits ≡ true → ⊥)) where
+    not_chosen : (b : Bool) → is_chosen ns x ≡ b → b ≡ false
     not_chosen false is = refl
     not_chosen true is =
-        let found = borne-small x.number before so_far.small (ap (λ (ns : List ℕ). list_any (λ n. n == x.number) ns) so_far.same ∙ is) in
-        absurd (omega (arith, found.1, filter_fewer (is_chosen (x.number ∷ [])) (is_chosen c.numbers) ps, borne-push ps x, once x.number found.0))
+        let found = borne-below x.number before so_far.below (ap (λ (ns : List ℕ). list_any (λ n. n == x.number) ns) so_far.same ∙ is) in
+        absurd (omega (arith, found.1, filter_fewer (is_chosen (x.number ∷ [])) (is_chosen ns) ps, borne-push ps x, once x.number found.0))
 
-    no_more : chosen_of c.numbers (ps ++ x ∷ []) ≡ before
+    no_more : chosen_of ns (ps ++ x ∷ []) ≡ before
     no_more =
-        filter-append (is_chosen c.numbers) ps (x ∷ [])
-        ∙ ap (λ b. before ++ cond b (x ∷ []) []) (not_chosen (is_chosen c.numbers x) refl)
+        filter-append (is_chosen ns) ps (x ∷ [])
+        ∙ ap (λ b. before ++ cond b (x ∷ []) []) (not_chosen (is_chosen ns x) refl)
         ∙ append-nil before
 
-    still_two : most ≡ 32768 → (b : Bool) → small_part x ≡ b → min 2 (smalls ps + cond b 1 0) ≤ length c.numbers
-    still_two all false is = omega (arith, so_far.two all)
-    still_two all true is = enough (nat_lt (length c.numbers) 2) refl
+    -- ten are chosen, or it doesn't fit
+    still : (b : Bool) → fits ≡ b → ns ≡ take 10 (numbers_of most ps ++ cond b (x.number ∷ []) [])
+    still false is = so_far.are ∙ ap (take 10) (sym (append-nil (numbers_of most ps)))
+    still true is = full (nat_lt (length ns) 10) refl
       where
-        enough : (b : Bool) → nat_lt (length c.numbers) 2 ≡ b → min 2 (smalls ps + 1) ≤ length c.numbers
-        enough true lt = let few : length c.numbers < 2 = grind (arith, nat_tests, lt) in let yes = must all few is in cc
-        enough false ge = let many : 2 ≤ length c.numbers = grind (arith, nat_tests, ge) in omega (arith, many)
+        full : (b : Bool) → nat_lt (length ns) 10 ≡ b → ns ≡ take 10 (numbers_of most ps ++ x.number ∷ [])
+        full true lt = let room : length ns < 10 = grind (arith, nat_tests, lt) in absurd (not_goes room is)
+        full false ge =
+            let many : 10 ≤ length ns = grind (arith, nat_tests, ge) in
+            so_far.are ∙ sym (take-append-le 10 (numbers_of most ps) (x.number ∷ []) (omega (arith, ap length so_far.are, length-take 10 (numbers_of most ps), many)))
 
-    pub choice-stays : IsChoice most (ps ++ x ∷ []) c
+    -- where all sizes are taken ten are chosen, or a merge may not take it
+    each_still : most ≡ 18446744073709551615 → (b : Bool) → is_below x ≡ b → length ns ≡ min 10 (mergeables ps + cond b 1 0)
+    each_still each false is = omega (arith, so_far.all each)
+    each_still each true is = full (nat_lt (length ns) 10) refl
+      where
+        full : (b : Bool) → nat_lt (length ns) 10 ≡ b → length ns ≡ min 10 (mergeables ps + 1)
+        full true lt =
+            let room : length ns < 10 = grind (arith, nat_tests, lt) in
+            let size : nat_le (length x.documents) most ≡ true = grind (arith, nat_tests, each, short) in
+            absurd (not_goes room (and_true (is_below x) (nat_le (length x.documents) most) is size))
+        full false ge = let many : 10 ≤ length ns = grind (arith, nat_tests, ge) in omega (arith, many, so_far.all each)
+
+    pub choice-stays : IsChoice most (ps ++ x ∷ []) ns
     choice-stays = record {
       same = ap (map (λ (p : PartData). p.number)) no_more ∙ so_far.same;
-      small = subst AllSmall (sym no_more) so_far.small;
-      live = so_far.live ∙ sym (ap (sum_by (λ (p : PartData). length p.documents)) no_more);
-      put = so_far.put ∙ sym (ap (sum_by (λ (p : PartData). counted (published_of p))) no_more);
-      few = so_far.few;
-      few_live = so_far.few_live;
-      few_put = so_far.few_put;
-      each_live = so_far.each_live;
-      each_put = so_far.each_put;
-      two = λ all. subst (λ n. min 2 n ≤ length c.numbers) (sym (smalls-push ps x)) (still_two all (small_part x) refl);
+      below = subst AllBelow (sym no_more) so_far.below;
+      are = still fits refl ∙ sym (ap (take 10) (numbers-push most ps x));
+      all = λ each. each_still each (is_below x) refl ∙ sym (ap (λ n. min 10 n) (mergeables-push ps x));
     }
 
 -- one part more
-pub choice-more : (most : ℕ) (ps : List PartData) (i : ℕ) (x : PartData) (c d : ChoiceData) → AreDistinct (all_published ps) → i < length ps → x ≡ get_or ps i x
-    → d ≡ chosen_with most c x → IsChoice most (take i ps) c → IsChoice most (take (i + 1) ps) d
-choice-more most ps i x c d distinct lt is now so_far =
-    subst (λ (qs : List PartData). IsChoice most qs d) (sym pushed) (subst (λ (d : ChoiceData). IsChoice most (take i ps ++ x ∷ []) d) (sym now) (by_test (goes most c x) refl))
+pub choice-more : (most : ℕ) (ps : List PartData) (i : ℕ) (x : PartData) (ns ms : List ℕ) → AreDistinct (all_published ps) → i < length ps → x ≡ get_or ps i x → length x.documents < 2 ^ 32
+    → ms ≡ (if nat_lt (length ns) 10 && is_within most (published_of x) x.documents then ns ++ x.number ∷ [] else ns) → IsChoice most (take i ps) ns → IsChoice most (take (i + 1) ps) ms
+choice-more most ps i x ns ms distinct lt is short now so_far =
+    subst (λ (qs : List PartData). IsChoice most qs ms) (sym pushed) (subst (λ (ms : List ℕ). IsChoice most (take i ps ++ x ∷ []) ms) (sym now) (by_tests (nat_lt (length ns) 10) (is_within most (published_of x) x.documents) refl refl))
   where
     pushed : take (i + 1) ps ≡ take i ps ++ x ∷ []
     pushed = taken-push ps i x lt is
@@ -318,32 +294,12 @@ choice-more most ps i x c d distinct lt is now so_far =
     once : Once (take i ps ++ x ∷ [])
     once = subst Once pushed (once-take (i + 1) ps distinct)
 
-    by_test : (b : Bool) → goes most c x ≡ b → IsChoice most (take i ps ++ x ∷ []) (if b then record { numbers = c.numbers ++ x.number ∷ []; live = c.live + length x.documents; put = c.put + counted (published_of x) } else c)
-    by_test true is = choice-goes most (take i ps) x c once so_far is
-    by_test false is = choice-stays most (take i ps) x c once so_far is
+    by_tests : (a b : Bool) → nat_lt (length ns) 10 ≡ a → is_within most (published_of x) x.documents ≡ b → IsChoice most (take i ps ++ x ∷ []) (if a && b then ns ++ x.number ∷ [] else ns)
+    by_tests true true room fits = let lt : length ns < 10 = grind (arith, nat_tests, room) in choice-goes most (take i ps) x ns once so_far short lt fits
+    by_tests true false room fits = choice-stays most (take i ps) x ns once so_far short (λ lt is. cc)
+    by_tests false b room fits = choice-stays most (take i ps) x ns once so_far short (λ lt is. grind (arith, nat_tests, room, lt))
 
-sum-mapped : {A B : Type 0} (f : A → B) (g : B → ℕ) (xs : List A) → sum_by g (map f xs) ≡ sum_by (λ x. g (f x)) xs
-sum-mapped f g [] = refl
-sum-mapped f g (x ∷ xs) = sum_by-cons g (f x) (map f xs) ∙ ap (λ n. g (f x) + n) (sum-mapped f g xs) ∙ sym (sum_by-cons (λ x. g (f x)) x xs)
-
-zipped : (ps : List PartData) → AllSmall ps → AllZip (λ s l. is_small s l ≡ true) (all_published ps) (documents_of_parts ps)
-zipped [] all = tt
-zipped (p ∷ ps) all = (all.0, zipped ps all.1)
-
-module _ (most : ℕ) (ps : List PartData) (c : ChoiceData) (is : IsChoice most ps c) where
-  long : length (chosen_of c.numbers ps) ≡ length c.numbers
-  long = sym (length-map (chosen_of c.numbers ps) (λ (p : PartData). p.number)) ∙ ap length is.same
-
+module _ (most : ℕ) (ps : List PartData) (ns : List ℕ) (is : IsChoice most ps ns) where
   -- as many segments bear the numbers as there are numbers
-  pub choice-long : length c.numbers ≡ length (numbered c.numbers (all_published ps))
-  choice-long = sym long ∙ sym (published-long (chosen_of c.numbers ps)) ∙ ap length (chosen-published c.numbers ps)
-
-  pub choice-fits : FitOneMerge (numbered c.numbers (all_published ps)) (live_of c.numbers (all_published ps) (documents_of_parts ps))
-  choice-fits =
-      subst (λ (ls : List Documents). FitOneMerge (numbered c.numbers (all_published ps)) ls) (chosen-live c.numbers ps)
-      (subst (λ (ss : List Published). FitOneMerge ss (documents_of_parts (chosen_of c.numbers ps))) (chosen-published c.numbers ps) (record {
-        few = omega (arith, published-long (chosen_of c.numbers ps), long, is.few);
-        small = zipped (chosen_of c.numbers ps) is.small;
-        live = omega (arith, sum-mapped (λ (p : PartData). p.documents) (λ (l : Documents). length l) (chosen_of c.numbers ps), is.live, is.few_live);
-        put = omega (arith, sum-mapped published_of counted (chosen_of c.numbers ps), is.put, is.few_put);
-      }))
+  pub choice-long : length ns ≡ length (numbered ns (all_published ps))
+  choice-long = sym (sym (length-map (chosen_of ns ps) (λ (p : PartData). p.number)) ∙ ap length is.same) ∙ sym (published-long (chosen_of ns ps)) ∙ ap length (chosen-published ns ps)

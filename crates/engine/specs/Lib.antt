@@ -7,7 +7,6 @@ pub mod Answer
 pub mod Published
 pub mod Live
 pub mod Parts
-pub mod Choosing
 pub mod Shown
 pub mod Contents
 pub mod Staged

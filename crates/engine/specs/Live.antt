@@ -1,6 +1,5 @@
 -- The documents that are live in segments.
-use Rattle.std.specs.Prelude.{ℕ, ◌≡◌, ◌<◌, ◌≤◌, ◌+◌, ◌&&◌, Bool, true, not, All, List, [], ◌∷◌, fold, if◌then◌else◌, length, map, min, nat_le, nat_lt, sum_by}
-use Rattle.std.specs.List.{AllZip}
+use Rattle.std.specs.Prelude.{ℕ, ◌≡◌, ◌<◌, ◌&&◌, Bool, true, not, All, List, [], ◌∷◌, fold, if◌then◌else◌, length, map, nat_le, nat_lt, take}
 use Rattle.std.specs.FinMap.Entries.{put, where_key}
 use Rattle.doc.specs.Id.{Id, id_cmp}
 use Rattle.op.specs.Documents.{Documents}
@@ -47,23 +46,17 @@ changed_live is_changed new ls = new.documents ∷ map (unchanged is_changed) ls
 abbrev pub changed_segments : (Id → Bool) → Published → List Published → List Documents → List Published
 changed_segments is_changed new ss ls = living (new ∷ ss) (changed_live is_changed new ls)
 
--- whether a segment is small: few documents are live in it, and a merge may take it
-abbrev pub is_small : Published → Documents → Bool
-is_small s l = nat_lt s.number greatest && nat_le (length l) 32768
+-- whether a merge may take a segment, and no more documents are live in it than so many
+abbrev pub is_within : ℕ → Published → Documents → Bool
+is_within most s l = nat_lt s.number greatest && nat_le (length l) most
 
--- how many segments are small, where this is live in all
-abbrev pub small_count : List Published → List Documents → ℕ
-small_count [] ls = 0
-small_count (s ∷ ss) [] = 0
-small_count (s ∷ ss) (l ∷ ls) = (if is_small s l then 1 else 0) + small_count ss ls
+-- the numbers of these segments, where this is live in all
+abbrev pub numbers_within : ℕ → List Published → List Documents → List ℕ
+numbers_within most [] ls = []
+numbers_within most (s ∷ ss) [] = []
+numbers_within most (s ∷ ss) (l ∷ ls) = if is_within most s l then s.number ∷ numbers_within most ss ls else numbers_within most ss ls
 
--- how many documents that were put into a segment count where segments go into one
-abbrev pub counted : Published → ℕ
-counted s = min (length s.documents) 131072
-
--- segments that go well into one: small ones, ten at most, with a bound on the documents that are live in them and on those that were put into them
-pub record FitOneMerge (ss : List Published) (ls : List Documents) : Type 0 where
-  pub few : length ss ≤ 10
-  pub small : AllZip (λ s l. is_small s l ≡ true) ss ls
-  pub live : sum_by (λ l. length l) ls ≤ 65536
-  pub put : sum_by counted ss ≤ 262144
+-- segments that go well into one: the first ten in which no more documents are live than so many
+pub record GoTogether (ns : List ℕ) (ss : List Published) (ls : List Documents) : Type 0 where
+  pub most : ℕ
+  pub are : ns ≡ take 10 (numbers_within most ss ls)

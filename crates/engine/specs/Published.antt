@@ -22,6 +22,10 @@ next_after n = min (n + 1) greatest
 abbrev pub AreBelow : ℕ → List Published → Type 0
 AreBelow next ss = next < greatest → All (λ s. s.number < next) ss
 
+-- how many segments a merge may take: those that don't bear the greatest number
+abbrev pub mergeable_count : List Published → ℕ
+mergeable_count ss = length (filter (λ s. nat_lt s.number greatest) ss)
+
 -- whether a merge takes these segments: there are two or more, and none bears the greatest number
 abbrev pub are_taken : List Published → Bool
 are_taken ss = nat_le 2 (length ss) && list_all (λ s. nat_lt s.number greatest) ss

@@ -1,31 +1,15 @@
 //! Which parts a merge takes.
-ghost use Rattle.std.specs.Prelude.{◌≡◌, ◌≤◌, ◌<◌, ◌+◌, ◌++◌, ◌∷◌, ◌==◌, [], filter, length, if◌then◌else◌, IfOk, OnOk};
+ghost use Rattle.std.specs.Prelude.{◌≡◌, ◌≤◌, ◌<◌, ◌^◌, ◌++◌, ◌∷◌, ◌&&◌, ◌==◌, [], filter, length, min, nat_lt, take, if◌then◌else◌, IfOk, OnOk};
 ghost use Rattle.std.specs.List.{list_any};
-ghost use Rattle.engine.specs.Choosing.{choice_of, chosen_with, goes};
-ghost use Rattle.engine.specs.Live.{counted, is_small, live_of, small_count, FitOneMerge};
+ghost use Rattle.engine.specs.Live.{is_within, numbers_within, GoTogether};
 ghost use Rattle.engine.specs.Parts.{all_published, documents_of_parts, published_of};
-ghost use Rattle.engine.specs.Published.{is_numbered, numbered, AreDistinct};
+ghost use Rattle.engine.specs.Published.{greatest, is_numbered, mergeable_count, numbered, AreDistinct};
 
 use crate::part::Part;
 use std::alloc::{AllocError, Global};
 
-/// So many small segments stay side by side.
-pub(crate) const FEW_SMALL: usize = 16;
-
-/// Where no more documents are live in a segment it is small.
-const SMALL: usize = 32_768;
-
 /// No more segments go into one at once.
 const MOST_AT_ONCE: usize = 10;
-
-/// They have no more live documents: until these are put together no other merge begins.
-const MOST_LIVE: usize = 65_536;
-
-/// No more documents were put into them: writes wait while these are compared, at its end.
-const MOST_PUT: usize = 262_144;
-
-/// No more of one segment count. So any two small ones go into one, and a segment whose documents are mostly dead goes, too, however large it was.
-const MOST_COUNTED: usize = 131_072;
 
 /// Segments of no more live documents are of the smallest size.
 const SMALLEST: usize = 16;
@@ -33,8 +17,8 @@ const SMALLEST: usize = 16;
 /// How many times as large the segments of the next size are.
 const GROWTH: usize = 8;
 
-/// How many sizes there are below that of all small segments.
-const SIZES: usize = 4;
+/// How many sizes there are: a segment has fewer than 2^32 documents.
+const SIZES: usize = 11;
 
 /// So many segments of one size go into one before larger ones do. The more there are, the less often a document is written again.
 const ENOUGH: usize = 4;
@@ -75,109 +59,111 @@ fn is_one_of(numbers: &[u64], number: u64) -> bool
     numbers.contains(&number)
 }
 
-/// How many parts are small.
-pub(crate) fn count_small(parts: &[Part]) -> usize
-    ensures { result ≡ small_count (all_published parts.now) (documents_of_parts parts.now) }
+/// How many parts a merge may take.
+pub(crate) fn count_mergeable(parts: &[Part]) -> usize
+    ensures { result ≡ mergeable_count (all_published parts.now) }
 {
     let mut count = 0;
     for part in parts {
-        if is_small(part) {
+        if is_mergeable(part) {
             count += 1;
         }
     }
     count
 }
 
-fn is_small(part: &Part) -> bool
-    ensures { result ≡ is_small (published_of part.now) part.now.documents }
+/// Whether a merge may take a part.
+fn is_mergeable(part: &Part) -> bool
+    ensures { result ≡ nat_lt part.now.number greatest }
 {
-    part.number() < u64::MAX && part.live_len() <= SMALL
+    part.number() < u64::MAX
 }
 
-/// The numbers of parts of the smallest size of which there are enough, or else of small ones; of the newest, where there are many.
-pub(crate) fn smallest_numbers(alloc: Global, parts: &[Part]) -> Result<Vec<u64>, AllocError>
+/// The numbers of parts that go well into one: of the smallest size of which there are enough and of smaller ones, or else of the smallest parts.
+pub(crate) fn numbers_to_merge(alloc: Global, parts: &[Part]) -> Result<Vec<u64>, AllocError>
     requires distinct { AreDistinct (all_published parts.now) }
-    requires two { 2 ≤ small_count (all_published parts.now) (documents_of_parts parts.now) }
-    ensures fit { IfOk result (λ v. FitOneMerge (numbered v.items (all_published parts.now)) (live_of v.items (all_published parts.now) (documents_of_parts parts.now))) }
+    requires two { 2 ≤ mergeable_count (all_published parts.now) }
+    ensures fit { IfOk result (λ v. GoTogether v.items (all_published parts.now) (documents_of_parts parts.now)) }
     ensures there { IfOk result (λ v. 2 ≤ length (numbered v.items (all_published parts.now))) }
     ensures few { IfOk result (λ v. length v.items ≤ 10) }
 {
+    let numbers = numbers_within(alloc, parts, size_to_merge(parts))?;
+    if numbers.len() >= 2 {
+        return Ok(numbers);
+    }
+    let numbers = numbers_within(alloc, parts, usize::MAX)?;
+    Ok(numbers)
+}
+
+/// The most live documents of a segment that goes into the next merge.
+fn size_to_merge(parts: &[Part]) -> usize {
+    let mut most = SMALLEST;
+    let mut smaller: usize = 0;
+    for _ in 0..SIZES {
+        let count = count_within(parts, most);
+        if count >= smaller.saturating_add(ENOUGH) {
+            return most;
+        }
+        smaller = count;
+        most = most.saturating_mul(GROWTH);
+    }
+    smallest_size(parts)
+}
+
+/// The least size that two parts don't exceed.
+fn smallest_size(parts: &[Part]) -> usize {
     let mut most = SMALLEST;
     for _ in 0..SIZES {
-        let numbers = numbers_within(alloc, parts, most)?;
-        if numbers.len() >= ENOUGH {
-            return Ok(numbers);
+        if count_within(parts, most) >= 2 {
+            return most;
         }
         most = most.saturating_mul(GROWTH);
     }
-    let numbers = numbers_within(alloc, parts, SMALL)?;
-    Ok(numbers)
+    usize::MAX
 }
 
-/// The numbers of parts that are to go into one, and what counts of these.
-#[derive(Drop)]
-struct Choice {
-    numbers: Vec<u64>,
-    live: usize,
-    put: usize,
-}
-
-/// The numbers of the first small parts that have no more live documents and go together.
-fn numbers_within(alloc: Global, parts: &[Part], most: usize) -> Result<Vec<u64>, AllocError>
-    requires { AreDistinct (all_published parts.now) }
-    ensures fit { IfOk result (λ v. FitOneMerge (numbered v.items (all_published parts.now)) (live_of v.items (all_published parts.now) (documents_of_parts parts.now))) }
-    ensures same { IfOk result (λ v. length v.items ≡ length (numbered v.items (all_published parts.now))) }
-    ensures few { IfOk result (λ v. length v.items ≤ 10) }
-    ensures two { most ≡ 32768 → 2 ≤ small_count (all_published parts.now) (documents_of_parts parts.now) → IfOk result (λ v. 2 ≤ length v.items) }
-{
-    let mut chosen = Choice {
-        numbers: Vec::new(alloc),
-        live: 0,
-        put: 0,
-    };
+/// How many parts that a merge may take have no more live documents.
+fn count_within(parts: &[Part], most: usize) -> usize {
+    let mut count: usize = 0;
     for part in parts {
-        push_within(&mut chosen, part, most)?;
+        if is_within(part, most) {
+            count = count.saturating_add(1);
+        }
     }
-    let Choice {
-        numbers,
-        live: _,
-        put: _,
-    } = chosen;
-    Ok(numbers)
+    count
 }
 
-/// Adds a part of no more live documents, if it goes with the others.
-fn push_within(chosen: &mut Choice, part: &Part, most: usize) -> Result<(), AllocError>
-    requires live { chosen.old.live ≤ 65536 }
-    requires put { chosen.old.put ≤ 262144 }
-    ensures { OnOk result (choice_of chosen.new ≡ chosen_with most (choice_of chosen.old) part.now) }
-{
-    if goes(chosen, part, most) {
-        chosen.numbers.push(part.number())?;
-        chosen.live += part.live_len();
-        chosen.put += counted(part);
-    }
-    Ok(())
-}
-
-/// Whether a part of no more live documents goes with the others.
-fn goes(chosen: &Choice, part: &Part, most: usize) -> bool
-    requires live { chosen.now.live ≤ 65536 }
-    requires put { chosen.now.put ≤ 262144 }
-    ensures { result ≡ goes most (choice_of chosen.now) part.now }
+/// Whether a merge may take a part, and it has no more live documents.
+fn is_within(part: &Part, most: usize) -> bool
+    ensures is { result ≡ is_within most (published_of part.now) part.now.documents }
+    ensures few { length part.now.documents < 2 ^ 32 }
 {
     let live = part.live_len();
-    is_small(part)
-        && live <= most
-        && chosen.numbers.len() < MOST_AT_ONCE
-        && chosen.live + live <= MOST_LIVE
-        && chosen.put + counted(part) <= MOST_PUT
+    is_mergeable(part) && live <= most
 }
 
-/// How many documents that were put into a part count.
-fn counted(part: &Part) -> usize
-    ensures is { result ≡ counted (published_of part.now) }
-    ensures few { result ≤ 131072 }
+/// The numbers of the first parts that a merge may take and that have no more live documents, ten at most.
+fn numbers_within(alloc: Global, parts: &[Part], most: usize) -> Result<Vec<u64>, AllocError>
+    requires { AreDistinct (all_published parts.now) }
+    ensures are { IfOk result (λ v. v.items ≡ take 10 (numbers_within most (all_published parts.now) (documents_of_parts parts.now))) }
+    ensures same { IfOk result (λ v. length v.items ≡ length (numbered v.items (all_published parts.now))) }
+    ensures all { most ≡ 18446744073709551615 → IfOk result (λ v. length v.items ≡ min 10 (mergeable_count (all_published parts.now))) }
 {
-    part.weight().min(MOST_COUNTED)
+    let mut numbers = Vec::new(alloc);
+    for part in parts {
+        push_within(&mut numbers, part, most)?;
+    }
+    Ok(numbers)
+}
+
+/// Adds the number of a part, if a merge may take it, it has no more live documents, and there is room.
+fn push_within(numbers: &mut Vec<u64>, part: &Part, most: usize) -> Result<(), AllocError>
+    ensures pushed { OnOk result (numbers.new.items ≡ (if nat_lt (length numbers.old.items) 10 && is_within most (published_of part.now) part.now.documents then numbers.old.items ++ part.now.number ∷ [] else numbers.old.items)) }
+    ensures few { length part.now.documents < 2 ^ 32 }
+{
+    let fits = is_within(part, most);
+    if numbers.len() < MOST_AT_ONCE && fits {
+        numbers.push(part.number())?;
+    }
+    Ok(())
 }

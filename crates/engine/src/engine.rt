@@ -1,5 +1,5 @@
 //! The documents of one copy.
-ghost use Rattle.std.specs.Prelude.{◌≡◌, ◌↔◌, ◌++◌, ◌∷◌, ◌<◌, ◌≤◌, ◌^◌, [], true, false, All, filter, length, is_some, None, IsTrue, IfOk, IfSome, OnOk, OnErr};
+ghost use Rattle.std.specs.Prelude.{◌≡◌, ◌↔◌, ◌++◌, ◌∷◌, ◌<◌, ◌≤◌, ◌^◌, [], true, false, All, filter, length, max, is_some, None, IsTrue, IfOk, IfSome, OnOk, OnErr};
 ghost use Rattle.std.specs.Option.{option_copied, option_map};
 ghost use Rattle.std.specs.Arc.{arc_value};
 ghost use Rattle.doc.specs.Id.{Id};
@@ -12,8 +12,8 @@ ghost use Rattle.engine.specs.Found.{found_document};
 ghost use Rattle.engine.specs.Last.{last_of};
 ghost use Rattle.segment.specs.Builds.{Builds};
 ghost use Rattle.engine.specs.Contents.{contents_of, opened_engine, segments_of};
-ghost use Rattle.engine.specs.Live.{changed_live, changed_segments, is_live, live_of, small_count, woven, AreLive, FitOneMerge};
-ghost use Rattle.engine.specs.Published.{next_after, numbered, taken_of, AreBelow, AreGone, HasMerged, IsFronted, IsSwapped};
+ghost use Rattle.engine.specs.Live.{changed_live, changed_segments, is_live, live_of, woven, AreLive, GoTogether};
+ghost use Rattle.engine.specs.Published.{mergeable_count, next_after, numbered, taken_of, AreBelow, AreGone, HasMerged, IsFronted, IsSwapped};
 ghost use Rattle.engine.specs.SnapshotChange.{changed, is_written, next_segment, ArePublished, IsNumbered, IsRefreshed, IsSnapshotChange, OnlyOps};
 ghost use Rattle.engine.specs.Staged.{put_in, records_of, IsStagedFrom};
 
@@ -351,15 +351,15 @@ impl Engine {
         }
     }
 
-    /// The numbers of small segments that go well into one, where searches look through many of them.
-    pub fn to_merge(&self, alloc: Global) -> Result<Option<Vec<u64>>, AllocError>
-        ensures none { IfOk result (λ o. o ≡ None → small_count self.now.published self.now.live ≤ 16) }
-        ensures some { IfOk result (λ o. IfSome o (λ v. 16 < small_count self.now.published self.now.live)) }
+    /// The numbers of segments that go well into one, if a merge may take more of them than so few; one always stays.
+    pub fn to_merge(&self, alloc: Global, few: usize) -> Result<Option<Vec<u64>>, AllocError>
+        ensures none { IfOk result (λ o. o ≡ None → mergeable_count self.now.published ≤ max 1 few) }
+        ensures some { IfOk result (λ o. IfSome o (λ v. max 1 few < mergeable_count self.now.published)) }
         ensures there { IfOk result (λ o. IfSome o (λ v. 2 ≤ length (numbered v.items self.now.published))) }
         ensures few { IfOk result (λ o. IfSome o (λ v. length v.items ≤ 10)) }
-        ensures fit { IfOk result (λ o. IfSome o (λ v. FitOneMerge (numbered v.items self.now.published) (live_of v.items self.now.published self.now.live))) }
+        ensures fit { IfOk result (λ o. IfSome o (λ v. GoTogether v.items self.now.published self.now.live)) }
     {
-        self.showing.to_merge(alloc)
+        self.showing.to_merge(alloc, few)
     }
 
     /// How many segments searches look through.

@@ -1,5 +1,5 @@
 //! What searches look through.
-ghost use Rattle.std.specs.Prelude.{◌≡◌, ◌<◌, ◌≤◌, ◌+◌, ◌^◌, true, false, None, All, map, take, drop, filter, length, IfOk, IfSome};
+ghost use Rattle.std.specs.Prelude.{◌≡◌, ◌<◌, ◌≤◌, ◌+◌, ◌^◌, true, false, None, All, map, take, drop, filter, length, max, IfOk, IfSome};
 ghost use Rattle.std.specs.Arc.{arc_value};
 ghost use Rattle.std.specs.FinMap.Entries.{is_sorted};
 ghost use Rattle.doc.specs.Id.{Id, id_cmp};
@@ -11,14 +11,14 @@ ghost use Rattle.engine.specs.Answer.{is_found};
 ghost use Rattle.engine.specs.Entry.{entry_view};
 ghost use Rattle.engine.specs.Parts.{all_published, documents_of_parts, has_id, is_among, is_living, merged, without, woven, AllInOrder, AreParts};
 ghost use Rattle.engine.specs.Lessened.{all_before, IsLessened};
-ghost use Rattle.engine.specs.Live.{changed_live, changed_segments, is_live, live_of, living, small_count, FitOneMerge};
-ghost use Rattle.engine.specs.Published.{numbered, AreDistinct, AreGone, AreTold, IsReplaced};
+ghost use Rattle.engine.specs.Live.{changed_live, changed_segments, is_live, live_of, living, GoTogether};
+ghost use Rattle.engine.specs.Published.{mergeable_count, numbered, AreDistinct, AreGone, AreTold, IsReplaced};
 ghost use Rattle.engine.specs.Before.{first_of_each};
 ghost use Rattle.engine.specs.Shown.{seen_all, shown_view};
 ghost use Rattle.engine.specs.Slot.{ops, AreHeld};
 
 use crate::block::{Block, Shown, shown_of};
-use crate::choosing::{FEW_SMALL, count_small, parts_numbered, push_if, smallest_numbers};
+use crate::choosing::{count_mergeable, numbers_to_merge, parts_numbered, push_if};
 use crate::documents::{Entry, documents_of};
 use crate::lessened::{Lessened, parts_left};
 use crate::merging::{merge, merge_owned};
@@ -143,19 +143,19 @@ impl PartList {
         Ok(PartList { mapping, parts })
     }
 
-    /// The numbers of small parts that go well into one, where there are many.
-    pub(crate) fn to_merge(&self, alloc: Global) -> Result<Option<Vec<u64>>, AllocError>
+    /// The numbers of parts that go well into one, if there are more than so few.
+    pub(crate) fn to_merge(&self, alloc: Global, few: usize) -> Result<Option<Vec<u64>>, AllocError>
         requires { AreDistinct self.now.published }
-        ensures none { IfOk result (λ o. o ≡ None → small_count self.now.published self.now.live ≤ 16) }
-        ensures some { IfOk result (λ o. IfSome o (λ v. 16 < small_count self.now.published self.now.live)) }
+        ensures none { IfOk result (λ o. o ≡ None → mergeable_count self.now.published ≤ max 1 few) }
+        ensures some { IfOk result (λ o. IfSome o (λ v. max 1 few < mergeable_count self.now.published)) }
         ensures there { IfOk result (λ o. IfSome o (λ v. 2 ≤ length (numbered v.items self.now.published))) }
         ensures few { IfOk result (λ o. IfSome o (λ v. length v.items ≤ 10)) }
-        ensures fit { IfOk result (λ o. IfSome o (λ v. FitOneMerge (numbered v.items self.now.published) (live_of v.items self.now.published self.now.live))) }
+        ensures fit { IfOk result (λ o. IfSome o (λ v. GoTogether v.items self.now.published self.now.live)) }
     {
-        if count_small(&self.parts) <= FEW_SMALL {
+        if count_mergeable(&self.parts) <= few.max(1) {
             return Ok(None);
         }
-        let numbers = smallest_numbers(alloc, &self.parts)?;
+        let numbers = numbers_to_merge(alloc, &self.parts)?;
         Ok(Some(numbers))
     }
 

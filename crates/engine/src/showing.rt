@@ -1,5 +1,5 @@
 //! What searches show, with the segments that they look through.
-ghost use Rattle.std.specs.Prelude.{◌≡◌, ◌∷◌, ◌<◌, ◌≤◌, [], true, false, All, None, filter, length, map, IfOk, IfSome};
+ghost use Rattle.std.specs.Prelude.{◌≡◌, ◌∷◌, ◌<◌, ◌≤◌, [], true, false, All, None, filter, length, map, max, IfOk, IfSome};
 ghost use Rattle.std.specs.Arc.{arc_value};
 ghost use Rattle.std.specs.FinMap.Entries.{is_sorted};
 ghost use Rattle.doc.specs.Id.{Id, id_cmp};
@@ -10,8 +10,8 @@ ghost use Rattle.engine.specs.Contents.{segments_shown};
 ghost use Rattle.engine.specs.Entry.{entry_view};
 ghost use Rattle.engine.specs.Parts.{all_published, has_id, is_among, merge_of, merged, shown_through, without, IsMade};
 ghost use Rattle.engine.specs.Lessened.{all_before, IsLessened};
-ghost use Rattle.engine.specs.Live.{changed_live, changed_segments, is_live, live_of, small_count, woven, FitOneMerge};
-ghost use Rattle.engine.specs.Published.{are_taken, next_after, numbered, taken_of, AreBelow, AreDistinct, AreGone, AreKnown, AreTold, HasMerged, IsBegun, IsSwapped};
+ghost use Rattle.engine.specs.Live.{changed_live, changed_segments, is_live, live_of, woven, GoTogether};
+ghost use Rattle.engine.specs.Published.{are_taken, mergeable_count, next_after, numbered, taken_of, AreBelow, AreDistinct, AreGone, AreKnown, AreTold, HasMerged, IsBegun, IsSwapped};
 ghost use Rattle.engine.specs.Slot.{ops, AreHeld};
 
 use crate::block::Block;
@@ -182,15 +182,15 @@ impl Showing {
         copies_of(alloc, parts)
     }
 
-    /// The numbers of small parts that go well into one, where there are many.
-    pub(crate) fn to_merge(&self, alloc: Global) -> Result<Option<Vec<u64>>, AllocError>
-        ensures none { IfOk result (λ o. o ≡ None → small_count self.now.published self.now.live ≤ 16) }
-        ensures some { IfOk result (λ o. IfSome o (λ v. 16 < small_count self.now.published self.now.live)) }
+    /// The numbers of parts that go well into one, if there are more than so few.
+    pub(crate) fn to_merge(&self, alloc: Global, few: usize) -> Result<Option<Vec<u64>>, AllocError>
+        ensures none { IfOk result (λ o. o ≡ None → mergeable_count self.now.published ≤ max 1 few) }
+        ensures some { IfOk result (λ o. IfSome o (λ v. max 1 few < mergeable_count self.now.published)) }
         ensures there { IfOk result (λ o. IfSome o (λ v. 2 ≤ length (numbered v.items self.now.published))) }
         ensures few { IfOk result (λ o. IfSome o (λ v. length v.items ≤ 10)) }
-        ensures fit { IfOk result (λ o. IfSome o (λ v. FitOneMerge (numbered v.items self.now.published) (live_of v.items self.now.published self.now.live))) }
+        ensures fit { IfOk result (λ o. IfSome o (λ v. GoTogether v.items self.now.published self.now.live)) }
     {
-        let numbers = self.parts.to_merge(alloc)?;
+        let numbers = self.parts.to_merge(alloc, few)?;
         Ok(numbers)
     }
 

@@ -329,12 +329,16 @@ impl<D: LogDevice, J: RegistryName> Held<D, J> {
         self.copy.is_synced()
     }
 
-    /// Begins a merge of segments that go well into one, where searches look through many, for `finish_merge`; it makes no entry.
+    /// Begins a merge of segments that go well into one, if there are more than so few, for `finish_merge`; it makes no entry.
     #[tactic(auto, using(crate::proofs::Calls::held_merged))]
-    pub fn begin_merge_beside(&mut self, alloc: Global) -> Result<Option<Merging>, AllocError>
+    pub fn begin_merge_beside(
+        &mut self,
+        alloc: Global,
+        few: usize,
+    ) -> Result<Option<Merging>, AllocError>
         ensures { self.new ≡ self.old }
     {
-        self.copy.begin_merge_beside(alloc)
+        self.copy.begin_merge_beside(alloc, few)
     }
 
     /// Puts the segment in place that was built for it, as the copy does; it makes no entry.

@@ -1,10 +1,10 @@
 -- What searches look through after a step.
 use Rattle.std.proofs.Common.{◌≡◌, ◌∙◌, ◌<◌, ◌≤◌, length, ℕ, Bool, true, false, List, [], Result, Ok, Err, refl, sym, ap, subst}
-use Rattle.std.specs.Prelude.{◌↔◌, IfOk, OnErr, OnOk, is_some}
+use Rattle.std.specs.Prelude.{◌↔◌, IfOk, OnErr, OnOk, is_some, max}
 use Rattle.op.specs.declared.record.Record.{Record}
 use Rattle.engine.specs.Contents.{Contents, EngineData, contents_of, segments_of}
-use Rattle.engine.specs.Live.{live_of, small_count, woven, FitOneMerge}
-use Rattle.engine.specs.Published.{MergeData, Segments, numbered, taken_of, AreGone, IsSwapped}
+use Rattle.engine.specs.Live.{live_of, woven, GoTogether}
+use Rattle.engine.specs.Published.{MergeData, Segments, mergeable_count, numbered, taken_of, AreGone, IsSwapped}
 use Rattle.engine.specs.SnapshotChange.{ShowsMore}
 use Rattle.replica.specs.declared.fault.CopyFault.{CopyFault}
 use Rattle.replica.specs.declared.input.Input.{Input}
@@ -78,10 +78,10 @@ refused_stays (Ok o) old mid new kept same = tt
 refused_stays (Err e) old mid new kept same = same ∙ kept
 
 -- a merge of some segments, where these are many
-pub next_merge : (s : Segments) (m : MergeData) (numbers : List ℕ) → 16 < small_count s.published s.live → 2 ≤ length (numbered numbers s.published) → length numbers ≤ 10
-    → FitOneMerge (numbered numbers s.published) (live_of numbers s.published s.live)
-    → m ≡ record { taken = taken_of (numbered numbers s.published); mapping = s.mapping; documents = woven (live_of numbers s.published s.live) } → IsNextMerge s m
-next_merge s m numbers many some few fit is = record { many = many; numbers = numbers; is = is; some = some; few = few; fit = fit }
+pub next_merge : (few : ℕ) (s : Segments) (m : MergeData) (numbers : List ℕ) → max 1 few < mergeable_count s.published → 2 ≤ length (numbered numbers s.published) → length numbers ≤ 10
+    → GoTogether numbers s.published s.live
+    → m ≡ record { taken = taken_of (numbered numbers s.published); mapping = s.mapping; documents = woven (live_of numbers s.published s.live) } → IsNextMerge few s m
+next_merge few s m numbers many some ten fit is = record { many = many; numbers = numbers; is = is; some = some; ten = ten; fit = fit }
 
 -- a swap of the engine is one of the copy
 pub swap_of : {E : Type 0} (r : Result Bool E) (m : MergeData) (e f : EngineData) (c d : Copy) → d ≡ c → IfOk r (λ b. (b ≡ true) ↔ (AreGone e.published m.taken → m.taken ≡ []))

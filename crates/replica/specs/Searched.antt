@@ -1,12 +1,12 @@
 -- A copy with the segments that searches of it look through.
-use Rattle.std.specs.Prelude.{◌≡◌, ◌↔◌, ◌<◌, ◌≤◌, ℕ, Bool, true, false, List, [], ◌∷◌, length}
+use Rattle.std.specs.Prelude.{◌≡◌, ◌↔◌, ◌<◌, ◌≤◌, ℕ, Bool, true, false, List, [], ◌∷◌, length, max}
 use Rattle.doc.specs.Mapping.{MappingData}
 use Rattle.op.specs.declared.record.Record.{Record}
 use Rattle.op.specs.Documents.{documents}
 use Rattle.op.specs.Records.{operations}
 use Rattle.engine.specs.Contents.{EngineData}
-use Rattle.engine.specs.Live.{live_of, small_count, woven, FitOneMerge}
-use Rattle.engine.specs.Published.{Published, Segments, MergeData, next_after, numbered, taken_of, AreGone, IsSwapped}
+use Rattle.engine.specs.Live.{live_of, woven, GoTogether}
+use Rattle.engine.specs.Published.{Published, Segments, MergeData, mergeable_count, next_after, numbered, taken_of, AreGone, IsSwapped}
 use Rattle.engine.specs.SnapshotChange.{IsNumbered, IsRefreshed, OnlyOps, ShowsMore}
 use Rattle.engine.specs.Staged.{StagedData, put_in}
 use Rattle.replica.specs.Copy.{Copy}
@@ -59,14 +59,14 @@ pub record IsRefreshTo (point : ℕ) (old new : Searched) : Type 0 where
   pub copy : new.copy ≡ record old.copy { point = point }
   pub shows : ShowsMore point (engine_of old) (engine_of new)
 
--- a merge of some of many small segments, that go well into one
-pub record IsNextMerge (s : Segments) (m : MergeData) : Type 0 where
-  pub many : 16 < small_count s.published s.live
+-- a merge of segments that go well into one, where a merge may take more than so few
+pub record IsNextMerge (few : ℕ) (s : Segments) (m : MergeData) : Type 0 where
+  pub many : max 1 few < mergeable_count s.published
   pub numbers : List ℕ
   pub is : m ≡ record { taken = taken_of (numbered numbers s.published); mapping = s.mapping; documents = woven (live_of numbers s.published s.live) }
   pub some : 2 ≤ length (numbered numbers s.published)
-  pub few : length numbers ≤ 10
-  pub fit : FitOneMerge (numbered numbers s.published) (live_of numbers s.published s.live)
+  pub ten : length numbers ≤ 10
+  pub fit : GoTogether numbers s.published s.live
 
 -- a merge was put in place of those of its segments that are there, or none is there, and the segments stay
 pub record IsSwapOf (m : MergeData) (old new : Searched) (is_there : Bool) : Type 0 where
@@ -76,8 +76,8 @@ pub record IsSwapOf (m : MergeData) (old new : Searched) (is_there : Bool) : Typ
   pub none : m.taken ≡ [] → new.segments ≡ old.segments
   pub stays : is_there ≡ false → new.segments ≡ old.segments
 
--- a merge of many small segments was made and put in place
+-- a merge of many segments was made and put in place
 pub record HasMergedNext (old new : Searched) : Type 0 where
   pub merge : MergeData
-  pub is_next : IsNextMerge old.segments merge
+  pub is_next : IsNextMerge 16 old.segments merge
   pub swap : IsSwapOf merge old new true

@@ -74,6 +74,7 @@ where
                 desk,
                 &|| show_more(rt, shard),
                 &|| refresh_one(rt, shard),
+                &|| shard.rest(rt),
             )
         },
     )?;
@@ -168,6 +169,7 @@ where
                 group,
                 &|| false,
                 &|| refresh_all(rt, alloc, index, &chairs[lane % CHAIRS]),
+                &|| rest_all(rt, alloc, index, &chairs[lane % CHAIRS]),
             )
         },
     )?;
@@ -205,6 +207,16 @@ fn refresh_all<R: Wait, D: LogDevice, J: IndexName>(
     let reply = group.call(Command::Refresh);
     drop(group);
     !matches!(reply, Reply::Refused(_))
+}
+
+/// Refreshes all copies of an index at rest: that shows nothing new, and each copy merges its segments until few are left.
+fn rest_all<R: Wait, D: LogDevice, J: IndexName>(
+    rt: &R,
+    alloc: Global,
+    index: &Index<'_, D, J>,
+    chair: &Chair<J>,
+) {
+    let _is_refreshed = refresh_all(rt, alloc, index, chair);
 }
 
 fn chairs_of<R: Wait, D: LogDevice, J: IndexName>(rt: &R, client: &Client<D, J>) -> [Chair<J>; 8] {

@@ -18,6 +18,7 @@ use engine::{Merged, Merging, Prebuilt, Snapshot, Unshown};
 use front::command::Command;
 use front::reply::{Refusal, Reply};
 use front::{Resumable, Service};
+use replica::{FEW_AT_REST, FEW_SEGMENTS};
 use segment::Segment;
 use std::alloc::{AllocError, Global};
 use std::marker::Model;
@@ -151,6 +152,15 @@ fn or_refused(reply: Result<Reply, AllocError>) -> Reply
     }
 }
 
+/// What is known of merges.
+#[derive(Drop)]
+struct Merges {
+    /// Whether one is being built.
+    is_under_way: bool,
+    /// The next one begins where there are more segments.
+    few: usize,
+}
+
 /// An order to the thread that builds merges.
 #[derive(Drop)]
 enum Order {
@@ -173,8 +183,7 @@ pub struct SharedShard<D: LogDevice, N: HistoryName> {
     door: Mutex<()>,
     seen: Mutex<Option<Seen<D, N>>>,
     begun: Reached<D, N>,
-    /// Whether a merge is being built.
-    is_merging: Mutex<bool>,
+    merges: Mutex<Merges>,
     to_merger: Sender<Order, Global>,
     orders: Receiver<Order, Global>,
 }
@@ -189,7 +198,7 @@ impl<D: LogDevice, N: HistoryName> Drop for SharedShard<D, N> {
             door: _door,
             seen: _seen,
             begun: _begun,
-            is_merging: _is_merging,
+            merges: _merges,
             to_merger: _to_merger,
             orders: _orders,
         } = self;
@@ -214,7 +223,10 @@ impl<D: LogDevice, N: HistoryName> SharedShard<D, N> {
             door: Mutex::new(()),
             seen: Mutex::new(seen),
             begun,
-            is_merging: Mutex::new(false),
+            merges: Mutex::new(Merges {
+                is_under_way: false,
+                few: FEW_SEGMENTS,
+            }),
             to_merger,
             orders,
         })
@@ -283,7 +295,7 @@ impl<D: LogDevice, N: HistoryName> SharedShard<D, N> {
         let told = held.call(known, asked);
         drop(self.show(rt, &*held));
         if refreshes {
-            self.begin_merge(rt, &mut *held);
+            self.merge_to(rt, &mut *held, FEW_SEGMENTS);
         }
         told
     }
@@ -359,7 +371,7 @@ impl<D: LogDevice, N: HistoryName> SharedShard<D, N> {
             return None;
         }
         let before = self.show(rt, &*held);
-        self.begin_merge(rt, &mut *held);
+        self.merge_to(rt, &mut *held, FEW_SEGMENTS);
         Some(before)
     }
 
@@ -377,16 +389,36 @@ impl<D: LogDevice, N: HistoryName> SharedShard<D, N> {
         before
     }
 
-    /// Has a merge built if searches look through many segments and no merge is being built. If memory runs out for that, the next refresh tries again.
+    /// Has segments merged until few are left. It is for an index at rest: each merge writes documents again.
+    pub fn rest<R: Wait>(&self, rt: &R) {
+        let mut held = self.enter(rt);
+        self.merge_to(rt, &mut *held, FEW_AT_REST);
+    }
+
+    /// Has segments merged, one merge after another, until there are no more than so few.
+    fn merge_to<R: Wait>(&self, rt: &R, kept: &mut Kept<D, N>, few: usize)
+        ensures { kept.new ≡ kept.old }
+    {
+        self.note_few(rt, few);
+        self.begin_merge(rt, kept);
+    }
+
+    /// Notes how many segments merges leave from now on.
+    fn note_few<R: Wait>(&self, rt: &R, few: usize) {
+        let mut merges = self.merges.lock(rt);
+        merges.few = few;
+    }
+
+    /// Has a merge built if there are more segments than merges leave and none is being built. If memory runs out for that, the next refresh tries again.
     fn begin_merge<R: Wait>(&self, rt: &R, kept: &mut Kept<D, N>)
         ensures { kept.new ≡ kept.old }
     {
-        let mut is_merging = self.is_merging.lock(rt);
-        if *is_merging {
+        let mut merges = self.merges.lock(rt);
+        if merges.is_under_way {
             return;
         }
-        if let Ok(Some(merging)) = kept.begin_merge() {
-            *is_merging = self.to_merger.send(rt, Order::Build(merging)).is_ok();
+        if let Ok(Some(merging)) = kept.begin_merge(merges.few) {
+            merges.is_under_way = self.to_merger.send(rt, Order::Build(merging)).is_ok();
         }
     }
 
@@ -429,8 +461,8 @@ impl<D: LogDevice, N: HistoryName> SharedShard<D, N> {
 
     /// Notes that no merge is being built any more.
     fn note_built<R: Wait>(&self, rt: &R) {
-        let mut is_merging = self.is_merging.lock(rt);
-        *is_merging = false;
+        let mut merges = self.merges.lock(rt);
+        merges.is_under_way = false;
     }
 }
 

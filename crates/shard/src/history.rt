@@ -278,11 +278,11 @@ impl<D: LogDevice, N: HistoryName> Kept<D, N> {
         self.shard.snapshot()
     }
 
-    /// Begins a merge of segments that fit well into one, if searches look through many. The index stays as it is.
-    pub(crate) fn begin_merge(&mut self) -> Result<Option<Merging>, AllocError>
+    /// Begins a merge of segments that go well into one, if there are more than so few. The index stays as it is.
+    pub(crate) fn begin_merge(&mut self, few: usize) -> Result<Option<Merging>, AllocError>
         ensures { self.new ≡ self.old }
     {
-        self.shard.begin_merge()
+        self.shard.begin_merge(few)
     }
 
     /// Puts the merged segment in place, and returns whether it is there now. What the index has and shows stays.

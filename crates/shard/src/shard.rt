@@ -122,11 +122,11 @@ impl<D: LogDevice> Shard<D> {
         self.copy.is_logged();
     }
 
-    /// Begins a merge of segments that fit well into one, if searches look through many. The index stays as it is.
-    pub(crate) fn begin_merge(&mut self) -> Result<Option<Merging>, AllocError>
+    /// Begins a merge of segments that go well into one, if there are more than so few. The index stays as it is.
+    pub(crate) fn begin_merge(&mut self, few: usize) -> Result<Option<Merging>, AllocError>
         ensures { self.new ≡ self.old }
     {
-        self.copy.begin_merge_beside(self.alloc)
+        self.copy.begin_merge_beside(self.alloc, few)
     }
 
     /// Puts the merged segment in place, and returns whether it is there now. What the index has and shows stays.

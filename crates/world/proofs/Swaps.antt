@@ -2,12 +2,11 @@
 use Rattle.std.proofs.lemmas.Bool.Decides.{nat_tests}
 use Rattle.std.proofs.Common.{◌≡◌, ◌<◌, arith, length, subst, ℕ, zero, suc, ◌==◌, Bool, true, false, List, [], ◌∷◌, set, get_or, Option, Some, None, refl, sym, ap, ◌∙◌, if◌then◌else◌}
 use Rattle.std.specs.Prelude.{◌≤◌, option_map, IfSome}
-use Rattle.engine.specs.Live.{small_count}
-use Rattle.engine.specs.Published.{MergeData}
+use Rattle.engine.specs.Published.{MergeData, mergeable_count}
 use Rattle.replica.specs.Copy.{Copy}
 use Rattle.replica.specs.Logged.{Logged, searched}
 use Rattle.replica.specs.Searched.{Searched, HasMergedNext, IsSwapOf}
-use Rattle.world.specs.Nodes.{copies_of, merge_of, node_in, nodes_of, with_node, AreOpen, HasFewSmall, HasMergedAt, IsSwapAt}
+use Rattle.world.specs.Nodes.{copies_of, merge_of, node_in, nodes_of, with_node, AreOpen, HasFewSegments, HasMergedAt, IsSwapAt}
 use Rattle.world.specs.World.{copy_in}
 use Rattle.world.proofs.Places.{IsFirst, first_is, open_at, open_put}
 
@@ -74,14 +73,14 @@ merged_at ls id i old new first is copy merged = record {
   left = node_put ls id i new first (ap (λ (c : Copy). c.id) copy ∙ named ls id i old first is);
 }
 
--- few are small at it
-pub few_at : (ls : List Logged) (id i : ℕ) (old : Logged) → IsFirst ls id i → old ≡ get_or ls i old → small_count old.segments.published old.segments.live ≤ 16 → HasFewSmall id (nodes_of ls)
+-- there are few at it
+pub few_at : (ls : List Logged) (id i : ℕ) (old : Logged) → IsFirst ls id i → old ≡ get_or ls i old → mergeable_count old.segments.published ≤ 16 → HasFewSegments id (nodes_of ls)
 few_at ls id i old first is few =
-    subst (λ (o : Option Searched). IfSome o (λ s. small_count s.segments.published s.segments.live ≤ 16)) (sym (node_found ls id i old first ∙ ap (λ (l : Logged). let o : Option Searched = Some (searched l) in o) (sym is))) few
+    subst (λ (o : Option Searched). IfSome o (λ s. mergeable_count s.segments.published ≤ 16)) (sym (node_found ls id i old first ∙ ap (λ (l : Logged). let o : Option Searched = Some (searched l) in o) (sym is))) few
 
 -- there is none with the id
-pub few_of_none : (ss : List Searched) (id : ℕ) → node_in ss id ≡ None → HasFewSmall id ss
-few_of_none ss id none = subst (λ (o : Option Searched). IfSome o (λ s. small_count s.segments.published s.segments.live ≤ 16)) (sym none) tt
+pub few_of_none : (ss : List Searched) (id : ℕ) → node_in ss id ≡ None → HasFewSegments id ss
+few_of_none ss id none = subst (λ (o : Option Searched). IfSome o (λ s. mergeable_count s.segments.published ≤ 16)) (sym none) tt
 
 -- where nothing is put in place the copies are as they were
 pub kept_nodes : (ls : List Logged) (id i : ℕ) (new : Logged) → IsFirst ls id i → new ≡ get_or ls i new → nodes_of (set ls i new) ≡ nodes_of ls

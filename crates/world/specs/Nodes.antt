@@ -6,8 +6,7 @@ use Rattle.op.specs.declared.message.Msg.{Msg}
 use Rattle.op.specs.Documents.{documents}
 use Rattle.op.specs.Records.{shown}
 use Rattle.replica.specs.Copy.{Copy}
-use Rattle.engine.specs.Live.{small_count}
-use Rattle.engine.specs.Published.{MergeData, taken_of}
+use Rattle.engine.specs.Published.{MergeData, mergeable_count, taken_of}
 use Rattle.replica.specs.Logged.{Logged, searched}
 use Rattle.replica.specs.Searched.{Searched, HasMergedNext, IsSwapOf}
 use Rattle.replica.specs.Step.{Step}
@@ -52,7 +51,7 @@ pub record IsSwapAt (id : ℕ) (m : MergeData) (old new : List Searched) (is_the
   pub swapped : IsSwapOf m at after is_there
   pub left : new ≡ with_node old after
 
--- a merge of many small segments was made and put in place at the copy with an id; the others are as they were
+-- a merge of many segments was made and put in place at the copy with an id; the others are as they were
 pub record HasMergedAt (id : ℕ) (old new : List Searched) : Type 0 where
   pub at : Searched
   pub after : Searched
@@ -60,9 +59,9 @@ pub record HasMergedAt (id : ℕ) (old new : List Searched) : Type 0 where
   pub merged : HasMergedNext at after
   pub left : new ≡ with_node old after
 
--- where there is a copy with an id, few of its segments are small
-abbrev pub HasFewSmall : ℕ → List Searched → Type 0
-HasFewSmall id ss = IfSome (node_in ss id) (λ s. small_count s.segments.published s.segments.live ≤ 16)
+-- where there is a copy with an id, searches of it look through few segments that a merge may take
+abbrev pub HasFewSegments : ℕ → List Searched → Type 0
+HasFewSegments id ss = IfSome (node_in ss id) (λ s. mergeable_count s.segments.published ≤ 16)
 
 -- no log has failed
 abbrev pub AreOpen : List Logged → Type 0

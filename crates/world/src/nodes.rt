@@ -6,7 +6,7 @@ ghost use Rattle.master.specs.Decide.{master_step};
 ghost use Rattle.master.specs.Fault.{fault_of, is_log};
 ghost use Rattle.world.specs.declared.event.EventAnswer.TheVariants.{RefusedByMaster};
 ghost use Rattle.replica.specs.Logged.{searched};
-ghost use Rattle.world.specs.Nodes.{merge_of, node_in, HasFewSmall, HasMergedAt, IsFollowed, IsSwapAt};
+ghost use Rattle.world.specs.Nodes.{merge_of, node_in, HasFewSegments, HasMergedAt, IsFollowed, IsSwapAt};
 ghost use Rattle.world.specs.World.{answering, at_copy, at_master, copy_in, decided, decided_in, deliver, deliver_torn, message_at, new_world, request_of, torn_at, world_step, after_decision};
 
 mod copies;
@@ -210,7 +210,7 @@ impl Nodes {
     pub(crate) fn merge_next(&mut self, alloc: Global, id: u32) -> Result<bool, AllocError>
         ensures world { self.new.world ≡ self.old.world }
         ensures merged { IfOk result (λ b. b ≡ true → HasMergedAt id self.old.nodes self.new.nodes) }
-        ensures few { IfOk result (λ b. b ≡ false → HasFewSmall id self.old.nodes) }
+        ensures few { IfOk result (λ b. b ≡ false → HasFewSegments id self.old.nodes) }
         ensures none { IfOk result (λ b. b ≡ false → self.new.nodes ≡ self.old.nodes) }
         ensures err { OnErr result (self.new.nodes ≡ self.old.nodes) }
     {

@@ -5,7 +5,7 @@ ghost use Rattle.query.specs.View.{query_view};
 ghost use Rattle.engine.specs.Shown.{hits_view};
 ghost use Rattle.replica.specs.Logged.{searched};
 ghost use Rattle.world.specs.Held.{HasInSyncCopies, Held};
-ghost use Rattle.world.specs.Nodes.{merge_of, node_in, HasFewSmall, HasMergedAt, IsSwapAt};
+ghost use Rattle.world.specs.Nodes.{merge_of, node_in, HasFewSegments, HasMergedAt, IsSwapAt};
 ghost use Rattle.world.specs.Reached.{IsRefusedRun};
 ghost use Rattle.world.specs.Search.{search_in};
 ghost use Rattle.world.specs.World.{answering, copy_in, new_world, world_of, world_step};
@@ -95,7 +95,7 @@ impl World {
     pub fn merge_next(&mut self, alloc: Global, copy: u32) -> Result<bool, AllocError>
         ensures world { self.new.world ≡ self.old.world }
         ensures merged { IfOk result (λ b. b ≡ true → HasMergedAt copy self.old.nodes self.new.nodes) }
-        ensures few { IfOk result (λ b. b ≡ false → HasFewSmall copy self.old.nodes) }
+        ensures few { IfOk result (λ b. b ≡ false → HasFewSegments copy self.old.nodes) }
         ensures none { IfOk result (λ b. b ≡ false → self.new.nodes ≡ self.old.nodes) }
         ensures err { OnErr result (self.new.nodes ≡ self.old.nodes) }
     {

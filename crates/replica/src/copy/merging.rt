@@ -1,7 +1,6 @@
 //! Merges of what searches look through, and refreshes that are built beside the copy. They are no steps.
-ghost use Rattle.std.specs.Prelude.{◌≡◌, ◌≤◌, false, true, None, length, IfOk, IfSome, OnErr};
-ghost use Rattle.engine.specs.Live.{small_count};
-ghost use Rattle.engine.specs.Published.{taken_of, HasMerged};
+ghost use Rattle.std.specs.Prelude.{◌≡◌, ◌≤◌, false, true, None, length, max, IfOk, IfSome, OnErr};
+ghost use Rattle.engine.specs.Published.{mergeable_count, taken_of, HasMerged};
 ghost use Rattle.op.specs.Documents.{documents};
 ghost use Rattle.op.specs.Records.{shown};
 ghost use Rattle.replica.specs.Logged.{searched};
@@ -21,11 +20,10 @@ impl<D: LogDevice> Copy<D> {
         self.state.begin_merge()
     }
 
-    /// Begins a merge of some of the segments that searches look through, where many of these are small: of those that go well into one. It is no step of
-    /// the copy, which stays as it is.
+    /// Begins a merge of segments that go well into one, if searches look through many. It is no step of the copy, which stays as it is.
     pub fn begin_next_merge(&self, alloc: Global) -> Result<Option<Merging>, AllocError>
-        ensures none { IfOk result (λ o. o ≡ None → small_count self.now.segments.published self.now.segments.live ≤ 16) }
-        ensures some { IfOk result (λ o. IfSome o (IsNextMerge self.now.segments)) }
+        ensures none { IfOk result (λ o. o ≡ None → mergeable_count self.now.segments.published ≤ 16) }
+        ensures some { IfOk result (λ o. IfSome o (IsNextMerge 16 self.now.segments)) }
         ensures mapping { IfOk result (λ o. IfSome o (λ m. m.mapping ≡ self.now.copy.mapping)) }
     {
         self.state.begin_next_merge(alloc)
@@ -36,7 +34,7 @@ impl<D: LogDevice> Copy<D> {
         ensures rest { self.new ≡ record self.old { segments = self.new.segments } }
         ensures merged { IfOk result (λ b. b ≡ true → HasMergedNext (searched self.old) (searched self.new)) }
         ensures none { IfOk result (λ b. b ≡ false → self.new ≡ self.old) }
-        ensures few { IfOk result (λ b. b ≡ false → small_count self.old.segments.published self.old.segments.live ≤ 16) }
+        ensures few { IfOk result (λ b. b ≡ false → mergeable_count self.old.segments.published ≤ 16) }
         ensures err { OnErr result (self.new ≡ self.old) }
     {
         match self.state.begin_next_merge(alloc)? {
@@ -59,14 +57,19 @@ impl<D: LogDevice> Copy<D> {
         self.state.swap_merged(alloc, merged)
     }
 
-    /// Begins such a merge for `finish_merge`. It is no step of the copy, which stays as it is, but that a merge which was begun so before can't be finished any more.
-    pub fn begin_merge_beside(&mut self, alloc: Global) -> Result<Option<Merging>, AllocError>
+    /// Begins such a merge for `finish_merge`, if a merge may take more segments than so few. It is no step of the copy, which stays as it is, but that a merge which was begun
+    /// so before can't be finished any more.
+    pub fn begin_merge_beside(
+        &mut self,
+        alloc: Global,
+        few: usize,
+    ) -> Result<Option<Merging>, AllocError>
         ensures same { self.new ≡ self.old }
-        ensures none { IfOk result (λ o. o ≡ None → small_count self.old.segments.published self.old.segments.live ≤ 16) }
-        ensures some { IfOk result (λ o. IfSome o (IsNextMerge self.old.segments)) }
+        ensures none { IfOk result (λ o. o ≡ None → mergeable_count self.old.segments.published ≤ max 1 few) }
+        ensures some { IfOk result (λ o. IfSome o (IsNextMerge few self.old.segments)) }
         ensures mapping { IfOk result (λ o. IfSome o (λ m. m.mapping ≡ self.old.copy.mapping)) }
     {
-        self.state.begin_merge_beside(alloc)
+        self.state.begin_merge_beside(alloc, few)
     }
 
     /// Puts the segment in place that was built for the merge begun last so, as `swap_merged` does, but without comparing documents, however many they are. Where none

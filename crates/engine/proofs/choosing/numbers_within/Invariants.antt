@@ -1,8 +1,7 @@
 use Rattle.std.proofs.Common.{take}
-use Rattle.engine.specs.Choosing.{choice_of}
 use Rattle.engine.proofs.ChoosingLaws.{IsChoice}
 use Rattle.engine.proofs.choosing.numbers_within.Given as goal
 
 -- what is chosen of the parts so far
 abbrev pub invariant-loop-part : goal.invariant-loop-part
-invariant-loop-part l = IsChoice l.most (take l.part-index l.parts) (choice_of l.chosen)
+invariant-loop-part l = IsChoice l.most (take l.part-index l.parts) l.numbers.items

@@ -8,6 +8,6 @@ pub returns-in_ok-begin_merge_of-in-Some-clause-some : goal.returns-in_ok-begin_
 returns-in_ok-begin_merge_of-in-Some-clause-some c =
     let told = c.in_ok-numbers.ensures in
     let m = c.in_ok-begin_merge_of-in-Some.field-0 in
-    subst (λ (s : Searched). IsNextMerge s.segments m) c.self.view_is
-    (next_merge (segments_of c.self.inside.engine) m c.in-Some.numbers.items (rw c.in-Some.is at told.some) (rw c.in-Some.is at told.there) (rw c.in-Some.is at told.few) (rw c.in-Some.is at told.fit)
+    subst (λ (s : Searched). IsNextMerge 16 s.segments m) c.self.view_is
+    (next_merge 16 (segments_of c.self.inside.engine) m c.in-Some.numbers.items (rw c.in-Some.is at told.some) (rw c.in-Some.is at told.there) (rw c.in-Some.is at told.few) (rw c.in-Some.is at told.fit)
     (rw c.deref.ensures.value at c.in_ok-begin_merge_of-in-Some.ensures))

@@ -1,7 +1,7 @@
 use Rattle.std.proofs.Common.{◌≡◌, ◌<◌, length, set, None, Some, sym, ap, subst, arith}
 use Rattle.replica.specs.Copy.{Copy}
 use Rattle.replica.specs.Logged.{Logged}
-use Rattle.world.specs.Nodes.{copies_of, nodes_of, WorldData, HasFewSmall, HasMergedAt}
+use Rattle.world.specs.Nodes.{copies_of, nodes_of, WorldData, HasFewSegments, HasMergedAt}
 use Rattle.world.specs.World.{place_in}
 use Rattle.world.proofs.Places.{is_first, first_within, none_found}
 use Rattle.world.proofs.Doing.{stays_there}
@@ -41,11 +41,11 @@ returns-in_ok-is_merged-in-Some-clause-few c =
     let ls = c.self.inside.copies.items in
     let place : place_in (copies_of ls) c.args.id ≡ Some c.in-Some.place = rw (← c.deref.ensures.value) (sym c.in-Some.ensures) in
     let old = c.index_mut.result.now in
-    λ left. subst (λ (n : WorldData). HasFewSmall c.args.id n.nodes) c.self.view_is
+    λ left. subst (λ (n : WorldData). HasFewSegments c.args.id n.nodes) c.self.view_is
     (few_at ls c.args.id c.in-Some.place old (is_first ls c.args.id c.in-Some.place place) c.index_mut.ensures.value (c.in_ok-is_merged-in-Some.ensures.few left))
 
 pub returns-in-None-clause-few : goal.returns-in-None-clause-few
 returns-in-None-clause-few c =
     let ls = c.self.inside.copies.items in
     let place : place_in (copies_of ls) c.args.id ≡ None = rw (← c.deref.ensures.value) (sym c.in-None.ensures) in
-    λ left. subst (λ (n : WorldData). HasFewSmall c.args.id n.nodes) c.self.view_is (few_of_none (nodes_of ls) c.args.id (no_node ls c.args.id (none_found ls c.args.id place)))
+    λ left. subst (λ (n : WorldData). HasFewSegments c.args.id n.nodes) c.self.view_is (few_of_none (nodes_of ls) c.args.id (no_node ls c.args.id (none_found ls c.args.id place)))
