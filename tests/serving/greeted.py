@@ -6,7 +6,7 @@ import tempfile
 from pathlib import Path
 
 from checking import check, shown
-from serving.pages import PUT, get_of, page_names, put_of
+from serving.pages import PUT, bodies, get_of, page_names, put_of
 from serving.server import SECONDS, Server, other
 
 PYTHON = "/usr/bin/python3"
@@ -153,6 +153,7 @@ def greeted():
         heads(server)
         waits(server)
         idle_parameters(server)
+        loose_bulks(server)
     with Server() as server:
         server.ask(PUT)
         ungreeted(server)
@@ -214,6 +215,31 @@ def waits(server):
         check(request.split(b" HTTP")[0].decode(), "" if page_names(got) == [(400, "BadParameter")] else shown(got))
 
 
+def bulk_of(lines):
+    return b"POST /books/_bulk HTTP/1.1\r\ncontent-length: %d\r\n\r\n%s" % (len(lines), lines)
+
+
+# Bulks as other programs write them, and the status of each item.
+LOOSE = (
+    (b'\n\r\n{"index":{"_id":"l1"}}\n{"year":1}\n\n\r\n{"create":{"_id":"l2"}}\r\n{"year":2}\r\n\r\n{"delete":{"_id":"l1"}}\n\n\r\n', [201, 201, 200]),
+    (b'{"index":{"_type":"_doc","_id":"l3"}}\n{"year":3}\n{"delete":{"_id":"l3","_type":"_doc","_index":"books"}}\n', [201, 200]),
+    (b'{"index":{"_id":"l4"}}\n\n{"index":{"_id":"l4"}}\n{"year":4}\n', [400, 201]))
+# Bulks that are refused as a whole.
+BAD_BULKS = (b"\n", b"\n\r\n\n", b" \n", b'{"delete":{"_id":"l"}}\n \n', b'{"delete":{"_id":"l"}}\n\r', b'{"index":{"_id":"l"}}\n', b'{"delete":{"_id":"l","_type":"book"}}\n',
+             b'{"delete":{"_id":"l","_type":""}}\n', b'{"delete":{"_id":"l","_type":1}}\n', b'{"delete":{"_id":"l","_type":null}}\n', b'{"delete":{"_id":"l","_Type":"_doc"}}\n')
+
+
+def loose_bulks(server):
+    """Empty lines before an action line and at the end are read over, and so is the type `_doc`. An empty line in the place of a document is its source."""
+    for lines, wanted in LOOSE:
+        got = server.ask(bulk_of(lines))
+        items = [list(it.values())[0] for it in bodies(got)[0].get("items", [])]
+        check(f"the bulk {lines!r}", "" if [it["status"] for it in items] == wanted else shown(got))
+    for lines in BAD_BULKS:
+        got = server.ask(bulk_of(lines))
+        check(f"the bulk {lines!r}", "" if page_names(got) == [(400, "BadBulk")] else shown(got))
+
+
 # What the high-level client for Java sends with each search and each write.
 OF_SEARCH = (b"typed_keys=true&max_concurrent_shard_requests=5&ignore_unavailable=false&expand_wildcards=open&allow_no_indices=true&ignore_throttled=true"
              b"&search_type=query_then_fetch&batched_reduce_size=512&ccs_minimize_roundtrips=true")
@@ -245,13 +271,18 @@ def ungreeted(server):
         check(f"{request.split(b' HTTP')[0].decode()} without --greet", "" if good else shown(got))
 
 
+    for lines in (*(it for it, _ in LOOSE[:2]), *BAD_BULKS):
+        got = server.ask(bulk_of(lines))
+        check(f"the bulk {lines!r} without --greet", "" if page_names(got) == [(400, "BadBulk")] else shown(got))
+
+
 def reasons():
     """With --explain too, a line has why what the request is turned into is refused."""
     with Server("--greet", "--explain") as server:
         asked = (b"GET / HTTP/1.1\r\n\r\n", b"HEAD /books HTTP/1.1\r\n\r\n", put_of(b"1?refresh=wait_for", b"{}"), b"HEAD /other HTTP/1.1\r\n\r\n", put_of(b"1?refresh=wait_for", b"{"),
-                 b"GET /books/_source/1 HTTP/1.1\r\n\r\n")
+                 b"GET /books/_source/1 HTTP/1.1\r\n\r\n", bulk_of(b'\n{"index":{"_id":"1"}}\n{}\n\n\r\n{"index":{"_id":""}}\n{}\n'))
         for request in asked:
             server.ask(request)
-        said = server.errors_said(3)
-        good = len(said) == 3 and "there is no such path" in said[2] and "HEAD /other: another index" in said[0] and "PUT /books/_doc/1?refresh=wait_for: " in said[1] and "parameter" not in said[1]
+        said = server.errors_said(4)
+        good = len(said) == 4 and "POST /books/_bulk: line 6: " in said[3] and "there is no such path" in said[2] and "HEAD /other: another index" in said[0] and "PUT /books/_doc/1?refresh=wait_for: " in said[1] and "parameter" not in said[1]
         check("why requests are refused", "" if good else repr(said))

@@ -153,22 +153,23 @@ abbrev pub one_of : Result Command Fault → Result Asked Fault
 one_of (Ok c) = Ok (one c)
 one_of (Err f) = Err f
 
-abbrev pub asked_of : MappingData → Endpoint → Method → List ℕ → Parameters → List ℕ → Option (List ℕ) → Result Asked Fault
-asked_of mapping Bulk m id p body named = many_of (is_true p.refresh) (items_in named body)
-asked_of mapping Document m id p body named = one_of (command_of mapping Document m id p body)
-asked_of mapping Create m id p body named = one_of (command_of mapping Create m id p body)
-asked_of mapping Search m id p body named = one_of (command_of mapping Search m id p body)
-asked_of mapping Count m id p body named = one_of (command_of mapping Count m id p body)
-asked_of mapping Refresh m id p body named = one_of (command_of mapping Refresh m id p body)
-asked_of mapping Promote m id p body named = one_of (command_of mapping Promote m id p body)
+abbrev pub asked_of : Bool → MappingData → Endpoint → Method → List ℕ → Parameters → List ℕ → Option (List ℕ) → Result Asked Fault
+asked_of greets mapping Bulk m id p body named = many_of (is_true p.refresh) (items_in greets named body)
+asked_of greets mapping Document m id p body named = one_of (command_of mapping Document m id p body)
+asked_of greets mapping Create m id p body named = one_of (command_of mapping Create m id p body)
+asked_of greets mapping Search m id p body named = one_of (command_of mapping Search m id p body)
+asked_of greets mapping Count m id p body named = one_of (command_of mapping Count m id p body)
+asked_of greets mapping Refresh m id p body named = one_of (command_of mapping Refresh m id p body)
+asked_of greets mapping Promote m id p body named = one_of (command_of mapping Promote m id p body)
 
--- what a request asks, or its first fault, in the order of the route, the index, the method, the parameters, the id, the body
-unfoldable pub ask : List ℕ → MappingData → Request → Result Asked Fault
-ask index mapping r = do
+-- what a request asks of a server that greets or of one that doesn't, or its first fault, in the order of the route, the index, the method, the parameters,
+-- the id, the body
+unfoldable pub ask : Bool → List ℕ → MappingData → Request → Result Asked Fault
+ask greets index mapping r = do
   route ← route_of (cut_at 63 (origin_of r.target)).0
   served ← check (is_served index route.index) no_index
   allowed ← check (is_allowed route.endpoint (method_of r.method)) (bad_method route.endpoint)
   id ← id_text (text_of route.id)
   p ← parameters_of (or_nothing (cut_at 63 (origin_of r.target)).1)
   fit ← check (fits route.endpoint (method_of r.method) p) bad_parameter
-  asked_of mapping route.endpoint (method_of r.method) id p r.body (items_index index route.index)
+  asked_of greets mapping route.endpoint (method_of r.method) id p r.body (items_index index route.index)

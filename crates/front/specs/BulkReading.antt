@@ -1,5 +1,5 @@
 -- The lines of a bulk.
-use Rattle.std.specs.Prelude.{ℕ, ◌^◌, ◌==◌, ◌||◌, Bool, true, false, List, [], ◌∷◌, ◌++◌, bytes_eq, codes, nat_lt, length, Option, Some, None, Result, Ok, Err, if◌then◌else◌}
+use Rattle.std.specs.Prelude.{ℕ, ◌^◌, ◌==◌, ◌&&◌, ◌||◌, Bool, true, false, List, [], ◌∷◌, ◌++◌, bytes_eq, codes, nat_lt, length, Option, Some, None, Result, Ok, Err, if◌then◌else◌}
 use Rattle.std.specs.List.{slice_split}
 use Rattle.serde_json.specs.Data.{unsigned, negative, float, Data, null, boolean, number, string, array, object, Members, no_members, member}
 use Rattle.serde_json.specs.Find.{get}
@@ -77,8 +77,19 @@ action_of name =
     else (if bytes_eq name (codes "create") then Ok Create
     else (if bytes_eq name (codes "delete") then Ok Delete else Err bad_bulk))
 
-abbrev pub is_line_key : List ℕ → Bool
-is_line_key k = bytes_eq k (codes "_id") || bytes_eq k (codes "_index") || bytes_eq k (codes "if_seq_no") || bytes_eq k (codes "if_primary_term")
+-- a server that greets knows the key by which older client libraries name a type
+abbrev pub is_line_key : Bool → List ℕ → Bool
+is_line_key greets k = bytes_eq k (codes "_id") || bytes_eq k (codes "_index") || bytes_eq k (codes "if_seq_no") || bytes_eq k (codes "if_primary_term") || (greets && bytes_eq k (codes "_type"))
+
+-- the one type that there is, if a type is named
+abbrev pub is_known_type : Option Data → Bool
+is_known_type None = true
+is_known_type (Some null) = false
+is_known_type (Some (boolean b)) = false
+is_known_type (Some (number n)) = false
+is_known_type (Some (string s)) = bytes_eq s (codes "_doc")
+is_known_type (Some (array ds)) = false
+is_known_type (Some (object ms)) = false
 
 abbrev pub value_or_bad : Option Data → Result Data Fault
 value_or_bad None = Err bad_bulk
@@ -88,14 +99,15 @@ abbrev pub line_value : Option (List ℕ) → Result Data Fault
 line_value None = Err bad_bulk
 line_value (Some text) = value_or_bad (read text)
 
-unfoldable pub line_of : Option (List ℕ) → List ℕ → Result Line Fault
-line_of path line = do
+unfoldable pub line_of : Bool → Option (List ℕ) → List ℕ → Result Line Fault
+line_of greets path line = do
   d ← line_value (text_of line)
   ms ← members_of d
   x ← only ms
   a ← action_of x.0
   keys ← members_of x.1
-  known ← check (all_keys is_line_key keys) bad_bulk
+  known ← check (all_keys (is_line_key greets) keys) bad_bulk
+  typed ← check (is_known_type (get (codes "_type") x.1)) bad_bulk
   id ← text_in (get (codes "_id") x.1)
   index ← text_or path (get (codes "_index") x.1)
   seq ← number_in (get (codes "if_seq_no") x.1)
@@ -116,14 +128,24 @@ abbrev pub begun_or_whole : Line → Bool → Option Line × List Item
 begun_or_whole l true = (Some l, [])
 begun_or_whole l false = (None, item_of l [] ∷ [])
 
--- takes one more line
-abbrev pub took : Option (List ℕ) → Option Line → List ℕ → Result (Option Line × List Item) Fault
-took path (Some l) source = Ok (None, item_of l source ∷ [])
-took path None line = line_of path line >>= λ l. Ok (begun_or_whole l (takes_source l.action))
+-- whether a line is empty; it may end with "\r\n"
+abbrev pub is_blank : List ℕ → Bool
+is_blank line = length line == 0 || bytes_eq line (codes "\r")
+
+abbrev pub began : Bool → Option (List ℕ) → List ℕ → Result (Option Line × List Item) Fault
+began greets path line = line_of greets path line >>= λ l. Ok (begun_or_whole l (takes_source l.action))
+
+-- takes one more line; a server that greets reads over an empty one where an action line may stand
+abbrev pub took : Bool → Option (List ℕ) → Option Line → List ℕ → Result (Option Line × List Item) Fault
+took greets path (Some l) source = Ok (None, item_of l source ∷ [])
+took greets path None line = if greets && is_blank line then Ok (None, []) else began greets path line
 
 -- takes one more line, with the items before it in front
-abbrev pub took_more : Option (List ℕ) → Option Line → List ℕ → List Item → Result (Option Line × List Item) Fault
-took_more path s line front = took path s line >>= λ t. Ok (t.0, front ++ t.1)
+abbrev pub took_more : Bool → Option (List ℕ) → Option Line → List ℕ → List Item → Result (Option Line × List Item) Fault
+took_more greets path s line front = took greets path s line >>= λ t. Ok (t.0, front ++ t.1)
+
+abbrev pub begun_more : Bool → Option (List ℕ) → List ℕ → List Item → Result (Option Line × List Item) Fault
+begun_more greets path line front = began greets path line >>= λ t. Ok (t.0, front ++ t.1)
 
 -- nothing follows the last newline, and no line waits for its source
 abbrev pub ended : Option Line → List ℕ → Result (List Item) Fault
@@ -131,18 +153,26 @@ ended (Some l) rest = Err bad_bulk
 ended None rest = if length rest == 0 then Ok [] else Err bad_bulk
 
 -- the items of the parts between newlines
-abbrev pub items_from : Option (List ℕ) → Option Line → List (List ℕ) → Result (List Item) Fault
-items_from path s [] = Err bad_bulk
-items_from path s (last ∷ []) = ended s last
-items_from path s (line ∷ p ∷ ps) = took path s line >>= λ t. items_from path t.0 (p ∷ ps) >>= λ items. Ok (t.1 ++ items)
+abbrev pub items_from : Bool → Option (List ℕ) → Option Line → List (List ℕ) → Result (List Item) Fault
+items_from greets path s [] = Err bad_bulk
+items_from greets path s (last ∷ []) = ended s last
+items_from greets path s (line ∷ p ∷ ps) = took greets path s line >>= λ t. items_from greets path t.0 (p ∷ ps) >>= λ items. Ok (t.1 ++ items)
 
 -- the items of the parts between newlines, with the items before them in front
-abbrev pub items_more : Option (List ℕ) → Option Line → List (List ℕ) → List Item → Result (List Item) Fault
-items_more path s parts front = items_from path s parts >>= λ items. Ok (front ++ items)
+abbrev pub items_more : Bool → Option (List ℕ) → Option Line → List (List ℕ) → List Item → Result (List Item) Fault
+items_more greets path s parts front = items_from greets path s parts >>= λ items. Ok (front ++ items)
 
 abbrev pub ended_more : Option Line → List ℕ → List Item → Result (List Item) Fault
 ended_more s rest front = ended s rest >>= λ items. Ok (front ++ items)
 
--- the items of a body, which must not be empty
-unfoldable pub items_in : Option (List ℕ) → List ℕ → Result (List Item) Fault
-items_in path body = if length body == 0 then Err bad_bulk else items_from path None (slice_split (λ b. b == 10) body)
+-- there is an item
+abbrev pub some_items : List Item → Result (List Item) Fault
+some_items [] = Err bad_bulk
+some_items (i ∷ is) = Ok (i ∷ is)
+
+abbrev pub ended_whole : Option Line → List ℕ → List Item → Result (List Item) Fault
+ended_whole s rest front = ended_more s rest front >>= some_items
+
+-- the items of a body, of which there is one at least
+unfoldable pub items_in : Bool → Option (List ℕ) → List ℕ → Result (List Item) Fault
+items_in greets path body = items_from greets path None (slice_split (λ b. b == 10) body) >>= some_items

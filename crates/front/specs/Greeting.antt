@@ -83,7 +83,7 @@ handled_work (Err f) work = refused f
 handled_work (Ok u) work = work
 
 unfoldable pub turned_work : List ℕ → MappingData → Request → Work
-turned_work index mapping r = worked index mapping (ask index mapping (turned_request r))
+turned_work index mapping r = worked index mapping (ask true index mapping (turned_request r))
 
 -- what is done for a request
 abbrev pub greeted_work : List ℕ → MappingData → Request → Work

@@ -20,7 +20,7 @@ pub record Rule : Type 0 where
 
 abbrev pub work_if : Bool → List ℕ → MappingData → Request → Work
 work_if true index mapping r = greeted_work index mapping r
-work_if false index mapping r = worked index mapping (ask index mapping r)
+work_if false index mapping r = worked index mapping (ask false index mapping r)
 
 abbrev pub page_if : Bool → List ℕ → Request → List ℕ → List ℕ
 page_if true index r page = greeted_page index r page

@@ -1,5 +1,5 @@
 -- What a request asks, and its page.
-use Rattle.std.specs.Prelude.{ℕ, Bool, List, [], ◌∷◌, Result, Ok, Err}
+use Rattle.std.specs.Prelude.{ℕ, Bool, false, List, [], ◌∷◌, Result, Ok, Err}
 use Rattle.doc.specs.Mapping.{MappingData}
 use Rattle.front.specs.Asking.{ask}
 use Rattle.front.specs.Bulk.{bulk_commands, to_writes, behind_writes, bulk_texts, bulk_refusal, bulk_page}
@@ -23,7 +23,7 @@ worked index mapping (Ok (many wanted items)) = bulk index mapping wanted items
 
 abbrev pub work_of : List ℕ → MappingData → Standing → Work
 work_of index mapping (bad f) = refused (of_head f)
-work_of index mapping (good r) = worked index mapping (ask index mapping r)
+work_of index mapping (good r) = worked index mapping (ask false index mapping r)
 
 abbrev pub commands : Work → List Command
 commands (refused f) = []

@@ -31,15 +31,16 @@ pub(crate) enum Asked<'b> {
     Many(bool, Vec<Item<'b>>),
 }
 
-/// What a request asks, or its first fault. Faults are looked for in the order `NoRoute`, `NoIndex`, `BadMethod`, `BadParameter`, the id, the body.
+/// What a request asks of a server that greets or of one that doesn't, or its first fault. Faults are looked for in the order `NoRoute`, `NoIndex`, `BadMethod`, `BadParameter`, the id, the body.
 #[tactic(auto, unfolding(crate::specs::Asking::ask))]
 pub(crate) fn ask<'b>(
     alloc: Global,
+    greets: bool,
     index: &str,
     mapping: &Mapping,
     request: &'b Request,
 ) -> Result<Asked<'b>, RequestFault>
-    ensures { Gives fault_of asked_view result (spec.ask index.now mapping.now (request_view request.now)) }
+    ensures { Gives fault_of asked_view result (spec.ask greets index.now mapping.now (request_view request.now)) }
 {
     let (path, parameters) = cut_at(origin_of(&request.target), b'?');
     let route = route_of(alloc, path)?;
@@ -52,6 +53,7 @@ pub(crate) fn ask<'b>(
     let named = items_index(index, &route.index);
     asked_of(
         alloc,
+        greets,
         mapping,
         route.endpoint,
         method,
@@ -71,6 +73,7 @@ fn items_index<'a>(index: &'a str, named: &Option<Vec<u8>>) -> Option<&'a str>
 
 fn asked_of<'b>(
     alloc: Global,
+    greets: bool,
     mapping: &Mapping,
     endpoint: Endpoint,
     method: Method,
@@ -80,11 +83,11 @@ fn asked_of<'b>(
     named: Option<&str>,
 ) -> Result<Asked<'b>, RequestFault>
     ensures { Gives fault_of asked_view result
-        (spec.asked_of mapping.now endpoint method id.now parameters body.now (option_copied named.entry)) }
+        (spec.asked_of greets mapping.now endpoint method id.now parameters body.now (option_copied named.entry)) }
 {
     match endpoint {
         Endpoint::Bulk => {
-            let items = items_in(alloc, named, body)?;
+            let items = items_in(alloc, greets, named, body)?;
             Ok(Asked::Many(is_true(parameters.refresh), items))
         }
         _ => Ok(Asked::One(command_of(alloc, mapping, endpoint, method, id, parameters, body)?)),

@@ -2,8 +2,9 @@
 
 use crate::admission::admit;
 use crate::asking::{Asked, ask};
-use crate::bulk::{Action, Item, item_write};
+use crate::bulk::{Item, item_write};
 use crate::greeting::{Welcome, check_handled, turned_request, welcome_of};
+use crate::lines::is_blank;
 use crate::request_fault::RequestFault;
 use crate::rule::Rule;
 use doc::{DocFault, Mapping};
@@ -45,7 +46,7 @@ fn admitted_reasons(
     if greets {
         greeted_reasons(alloc, index, mapping, request)
     } else {
-        reasons_in(alloc, index, mapping, request)
+        reasons_in(alloc, false, index, mapping, request)
     }
 }
 
@@ -72,7 +73,7 @@ fn handled_reasons(
     match check_handled(alloc, request) {
         Ok(()) => {
             let turned = turned_request(alloc, request)?;
-            reasons_in(alloc, index, mapping, &turned)
+            reasons_in(alloc, true, index, mapping, &turned)
         }
         Err(fault) => one_reason(alloc, index, mapping, &fault, &request.body),
     }
@@ -80,16 +81,17 @@ fn handled_reasons(
 
 fn reasons_in(
     alloc: Global,
+    greets: bool,
     index: &str,
     mapping: &Mapping,
     request: &Request,
 ) -> Result<Vec<String>, AllocError> {
-    match ask(alloc, index, mapping, request) {
+    match ask(alloc, greets, index, mapping, request) {
         Ok(Asked::One(command)) => {
             drop(command);
             Ok(Vec::new(alloc))
         }
-        Ok(Asked::Many(_, items)) => item_reasons(alloc, index, mapping, &items),
+        Ok(Asked::Many(_, items)) => item_reasons(alloc, index, mapping, &items, &request.body),
         Err(fault) => one_reason(alloc, index, mapping, &fault, &request.body),
     }
 }
@@ -106,29 +108,33 @@ fn one_reason(
     Ok(reasons)
 }
 
-/// Why items are refused. Each item has one line, and one more for its source if it indexes or creates.
+/// Why items are refused. Each item has one line, and one more for its source if it indexes or creates. Empty lines may stand between items.
 fn item_reasons<'b>(
     alloc: Global,
     index: &str,
     mapping: &Mapping,
     items: &[Item<'b>],
+    body: &[u8],
 ) -> Result<Vec<String>, AllocError> {
     let mut reasons = Vec::new(alloc);
-    let mut line = 1u64;
-    for item in items {
+    let mut items = items.iter();
+    let mut line = 0u64;
+    let mut is_source = false;
+    for text in body.split(|&b| b == b'\n') {
+        line = line.saturating_add(1);
+        if is_source || is_blank(text) {
+            is_source = false;
+            continue;
+        }
+        let Some(item) = items.next() else {
+            break;
+        };
+        is_source = item.action.takes_source();
         if let Some(why) = item_reason(alloc, index, mapping, item, line)? {
             reasons.push(why)?;
         }
-        line = line.saturating_add(lines_of(item.action));
     }
     Ok(reasons)
-}
-
-fn lines_of(action: Action) -> u64 {
-    match action {
-        Action::Index | Action::Create => 2,
-        Action::Delete => 1,
-    }
 }
 
 fn item_reason<'b>(

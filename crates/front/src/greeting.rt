@@ -87,7 +87,7 @@ fn answer_turned<S: Service>(
     ensures fields { S.fields service.new ≡ S.fields service.old }
 {
     let turned = turned_request(alloc, request)?;
-    answer_request(alloc, service, &turned)
+    answer_request(alloc, true, service, &turned)
 }
 
 /// Whether an endpoint has the path, and has it where no type is, or the first fault.

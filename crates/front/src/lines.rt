@@ -1,5 +1,5 @@
-//! The lines of a bulk: action lines, and a source line after each `index` or `create`.
-ghost use Rattle.std.specs.Prelude.{◌≡◌, map, string_bytes, option_map, option_copied, None, Ok};
+//! The lines of a bulk: action lines, and a source line after each `index` or `create`. A server that greets reads over empty lines and the type `_doc`.
+ghost use Rattle.std.specs.Prelude.{◌≡◌, map, string_bytes, option_map, option_copied, Ok};
 ghost use Rattle.serde_json.specs.Read.{read};
 ghost use Rattle.serde_json.specs.View.{view, members_view};
 ghost use Rattle.doc.specs.Mapping.{all_keys};
@@ -49,7 +49,7 @@ impl Line {
 }
 
 impl Action {
-    fn takes_source(self) -> bool
+    pub(crate) fn takes_source(self) -> bool
         ensures { result ≡ spec.takes_source self }
     {
         match self {
@@ -61,15 +61,21 @@ impl Action {
 
 /// What an action line says. If it names no index, the index of the path is taken.
 #[tactic(auto, unfolding(crate::specs::BulkReading::line_of))]
-fn line_of(alloc: Global, path: Option<&str>, line: &[u8]) -> Result<Line, RequestFault>
-    ensures { Gives fault_of line_view result (spec.line_of (option_copied path.entry) line.now) }
+fn line_of(
+    alloc: Global,
+    greets: bool,
+    path: Option<&str>,
+    line: &[u8],
+) -> Result<Line, RequestFault>
+    ensures { Gives fault_of line_view result (spec.line_of greets (option_copied path.entry) line.now) }
 {
     let value = line_value(alloc, line)?;
     let members = members_of(&value)?;
     let (name, said) = only(members)?;
     let action = action_of(name)?;
     let keys = members_of(said)?;
-    check_keys(keys)?;
+    check_keys(greets, keys)?;
+    check_type(said.get("_type"))?;
     let id = text_in(alloc, said.get("_id"))?;
     let index = text_or(alloc, path, said.get("_index"))?;
     let seq = number_in(said.get("if_seq_no"))?;
@@ -137,21 +143,37 @@ fn action_of(name: &str) -> Result<Action, RequestFault>
     }
 }
 
-fn check_keys(members: &Map<String, Value>) -> Result<(), RequestFault>
-    ensures { Gives fault_of (λ u. u) result (check (all_keys spec.is_line_key (members_view members.now.entries)) bad_bulk) }
+fn check_keys(greets: bool, members: &Map<String, Value>) -> Result<(), RequestFault>
+    ensures { Gives fault_of (λ u. u) result (check (all_keys (spec.is_line_key greets) (members_view members.now.entries)) bad_bulk) }
 {
     for (name, _) in members {
-        if !is_line_key(name.as_str()) {
+        if !is_line_key(greets, name.as_str()) {
             return Err(RequestFault::BadBulk);
         }
     }
     Ok(())
 }
 
-fn is_line_key(name: &str) -> bool
-    ensures { result ≡ spec.is_line_key name.now }
+fn is_line_key(greets: bool, name: &str) -> bool
+    ensures { result ≡ spec.is_line_key greets name.now }
 {
     matches!(name, "_id" | "_index" | "if_seq_no" | "if_primary_term")
+        || (greets && name == "_type")
+}
+
+/// Checks that a type is `_doc`, if there is one.
+fn check_type(value: Option<&Value>) -> Result<(), RequestFault>
+    ensures { Gives fault_of (λ u. u) result (check (spec.is_known_type (option_map (λ v. view v.now) value.entry)) bad_bulk) }
+{
+    match value {
+        None => Ok(()),
+        Some(Value::String(text)) => if text.as_str() == "_doc" {
+            Ok(())
+        } else {
+            Err(RequestFault::BadBulk)
+        },
+        Some(_) => Err(RequestFault::BadBulk),
+    }
 }
 
 fn text_in(alloc: Global, value: Option<&Value>) -> Result<String, RequestFault>
@@ -209,33 +231,46 @@ fn condition_in(
 /// Takes one more line, and returns the action line that waits for its source then, if any.
 fn take_line<'b>(
     alloc: Global,
+    greets: bool,
     path: Option<&str>,
     waiting: Option<Line>,
     line: &'b [u8],
     items: &mut Vec<Item<'b>>,
 ) -> Result<Option<Line>, RequestFault>
     ensures { Gives fault_of (λ w. (option_map line_view w, map item_view items.new.items)) result
-        (spec.took_more (option_copied path.entry) (option_map line_view waiting) line.now (map item_view items.old.items)) }
+        (spec.took_more greets (option_copied path.entry) (option_map line_view waiting) line.now (map item_view items.old.items)) }
 {
     match waiting {
         Some(begun) => {
             items.push(begun.with(line))?;
             Ok(None)
         }
-        None => begin_line(alloc, path, line, items),
+        None => if greets && is_blank(line) {
+            Ok(None)
+        } else {
+            begin_line(alloc, greets, path, line, items)
+        },
     }
+}
+
+/// Whether a line is empty. It may end with "\r\n".
+pub(crate) fn is_blank(line: &[u8]) -> bool
+    ensures { result ≡ spec.is_blank line.now }
+{
+    line.is_empty() || line == b"\r".as_slice()
 }
 
 fn begin_line<'b>(
     alloc: Global,
+    greets: bool,
     path: Option<&str>,
     line: &'b [u8],
     items: &mut Vec<Item<'b>>,
 ) -> Result<Option<Line>, RequestFault>
     ensures { Gives fault_of (λ w. (option_map line_view w, map item_view items.new.items)) result
-        (spec.took_more (option_copied path.entry) None line.now (map item_view items.old.items)) }
+        (spec.begun_more greets (option_copied path.entry) line.now (map item_view items.old.items)) }
 {
-    let begun = line_of(alloc, path, line)?;
+    let begun = line_of(alloc, greets, path, line)?;
     if begun.action.takes_source() {
         return Ok(Some(begun));
     }
@@ -247,14 +282,12 @@ fn begin_line<'b>(
 #[tactic(auto, unfolding(crate::specs::BulkReading::items_in))]
 pub(crate) fn items_in<'b>(
     alloc: Global,
+    greets: bool,
     path: Option<&str>,
     body: &'b [u8],
 ) -> Result<Vec<Item<'b>>, RequestFault>
-    ensures { Gives fault_of (λ items. map item_view items.items) result (spec.items_in (option_copied path.entry) body.now) }
+    ensures { Gives fault_of (λ items. map item_view items.items) result (spec.items_in greets (option_copied path.entry) body.now) }
 {
-    if body.is_empty() {
-        return Err(RequestFault::BadBulk);
-    }
     let mut items = Vec::new(alloc);
     let mut waiting: Option<Line> = None;
     let mut rest = body;
@@ -263,7 +296,7 @@ pub(crate) fn items_in<'b>(
         let Some(after) = after else {
             return ended(waiting, line, items);
         };
-        waiting = take_line(alloc, path, waiting, line, &mut items)?;
+        waiting = take_line(alloc, greets, path, waiting, line, &mut items)?;
         rest = after;
     }
 }
@@ -274,9 +307,9 @@ fn ended<'b>(
     items: Vec<Item<'b>>,
 ) -> Result<Vec<Item<'b>>, RequestFault>
     ensures { Gives fault_of (λ items. map item_view items.items) result
-        (spec.ended_more (option_map line_view waiting) rest.now (map item_view items.entry.items)) }
+        (spec.ended_whole (option_map line_view waiting) rest.now (map item_view items.entry.items)) }
 {
-    if waiting.is_some() || !rest.is_empty() {
+    if waiting.is_some() || !rest.is_empty() || items.is_empty() {
         return Err(RequestFault::BadBulk);
     }
     Ok(items)

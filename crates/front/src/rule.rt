@@ -22,7 +22,7 @@ const PRODUCT: &str = "\r\nx-elastic-product: Elasticsearch";
 #[derive(Drop)]
 pub struct Rule {
     /// Whether requests are answered as the client libraries of Elasticsearch expect: `GET /` gets a greeting, a HEAD gets the head of the page of its GET, and
-    /// `refresh=wait_for` is done like `refresh=true`.
+    /// `refresh=wait_for` is done like `refresh=true`. A bulk may have empty lines, and name the type `_doc`.
     pub greets: bool,
     pub admission: Admission,
 }
@@ -138,7 +138,7 @@ fn answer_if<S: Service>(
     if greets {
         greet_request(alloc, service, request)
     } else {
-        answer_request(alloc, service, request)
+        answer_request(alloc, false, service, request)
     }
 }
 

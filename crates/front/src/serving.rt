@@ -65,24 +65,26 @@ pub fn answer<S: Service>(
 {
     match whole {
         Whole::Broken(fault) => Ok(fault_page(alloc, &RequestFault::Head(*fault))?),
-        Whole::Asked(request) => answer_request(alloc, service, request),
+        Whole::Asked(request) => answer_request(alloc, false, service, request),
     }
 }
 
+/// Does what a request asks of a server that greets or of one that doesn't, and returns the page of the replies.
 pub(crate) fn answer_request<S: Service>(
     alloc: Global,
+    greets: bool,
     service: &mut S,
     request: &Request,
 ) -> Result<String, StreamFault>
     ensures ok { IfOk result (λ page. spec.Answered S.answers (S.name service.old)
-        (worked (S.name service.old) (S.fields service.old) (ask (S.name service.old) (S.fields service.old) (read.request_view request.now))) service.old (string_bytes page) service.new) }
+        (worked (S.name service.old) (S.fields service.old) (ask greets (S.name service.old) (S.fields service.old) (read.request_view request.now))) service.old (string_bytes page) service.new) }
     ensures err { OnErr result (spec.Begun S.answers
-        (worked (S.name service.old) (S.fields service.old) (ask (S.name service.old) (S.fields service.old) (read.request_view request.now))) service.old service.new) }
+        (worked (S.name service.old) (S.fields service.old) (ask greets (S.name service.old) (S.fields service.old) (read.request_view request.now))) service.old service.new) }
     ensures cause { IfErr result (λ e. e ≡ NoMemory) }
     ensures name { S.name service.new ≡ S.name service.old }
     ensures fields { S.fields service.new ≡ S.fields service.old }
 {
-    match ask(alloc, service.index(), service.mapping(), request) {
+    match ask(alloc, greets, service.index(), service.mapping(), request) {
         Ok(Asked::One(command)) => do_command(alloc, service, command),
         Ok(Asked::Many(refresh, items)) => do_bulk(alloc, service, refresh, &items),
         Err(fault) => if fault.is_memory() {
