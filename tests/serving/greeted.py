@@ -154,6 +154,7 @@ def greeted():
         waits(server)
         idle_parameters(server)
         loose_bulks(server)
+        pages_in_targets(server)
     with Server() as server:
         server.ask(PUT)
         ungreeted(server)
@@ -240,6 +241,31 @@ def loose_bulks(server):
         check(f"the bulk {lines!r}", "" if page_names(got) == [(400, "BadBulk")] else shown(got))
 
 
+def search_of(query, body=b"", method=b"POST"):
+    return b"%s /books/_search%s HTTP/1.1\r\ncontent-length: %d\r\n\r\n%s" % (method, query and b"?" + query, len(body), body)
+
+
+# Pages in the targets of searches, the bodies beside them, and the bodies that ask for the same.
+PAGED = ((b"size=2", b"", b'{"size":2}'), (b"size=2&from=1", b"", b'{"from":1,"size":2}'), (b"from=1&pretty&timeout=1s", b"", b'{"from":1}'), (b"size=0", b"{}", b'{"size":0}'),
+         (b"size=0002", b"", b'{"size":2}'), (b"size=10000", b"", b'{"size":10000}'), (b"from=9999&size=1", b"", b'{"from":9999,"size":1}'), (b"size=10001", b"", b'{"size":10001}'),
+         (b"from=9991", b"", b'{"from":9991}'), (b"size=1", b'{"size":3,"from":1}', b'{"from":1,"size":1}'), (b"size=2&from=0", b'{"from":20000}', b'{"size":2}'), (b"size=1", b"[]", b"[]"),
+         (b"size=1", b'{"query":{"nothing":{}}}', b'{"query":{"nothing":{}}}'), (b"from=1", b'{"query":{"match_all":{}},"from":0}', b'{"from":1}'))
+
+
+def pages_in_targets(server):
+    """`size` and `from` in the target of a search count as those of its body, and before them. Elsewhere, and where they are no numbers, they are refused."""
+    server.ask(*(put_of(b"p%d?refresh=true" % it, b"{}") for it in range(5)))
+    for query, body, same in PAGED:
+        for method in (b"GET", b"POST"):
+            check(f"a search with {query.decode()} and {body!r}", other(server.ask(search_of(query, body, method)), server.ask(search_of(b"", same))))
+    for query in (b"size=-1", b"size=1.5", b"size=x", b"size=", b"size", b"size=1&size=1", b"from=1&from=2", b"from=99999999999999999999", b"Size=1"):
+        got = server.ask(search_of(query))
+        check(f"a search with {query.decode()}", "" if page_names(got) == [(400, "BadParameter")] else shown(got))
+    for request in (b"GET /?size=1", b"GET /books/_count?size=1", b"GET /books/_doc/1?from=0", b"POST /books/_refresh?size=1", b"POST /books/_bulk?size=1", b"DELETE /books/_doc/1?size=1"):
+        got = server.ask(request + b" HTTP/1.1\r\n\r\n")
+        check(request.decode(), "" if page_names(got) == [(400, "BadParameter")] else shown(got))
+
+
 # What the high-level client for Java sends with each search and each write.
 OF_SEARCH = (b"typed_keys=true&max_concurrent_shard_requests=5&ignore_unavailable=false&expand_wildcards=open&allow_no_indices=true&ignore_throttled=true"
              b"&search_type=query_then_fetch&batched_reduce_size=512&ccs_minimize_roundtrips=true")
@@ -271,6 +297,9 @@ def ungreeted(server):
         check(f"{request.split(b' HTTP')[0].decode()} without --greet", "" if good else shown(got))
 
 
+    for query in (b"size=1", b"from=0", b"pretty&size=1"):
+        got = server.ask(search_of(query))
+        check(f"a search with {query.decode()} without --greet", "" if page_names(got) == [(400, "BadParameter")] else shown(got))
     for lines in (*(it for it, _ in LOOSE[:2]), *BAD_BULKS):
         got = server.ask(bulk_of(lines))
         check(f"the bulk {lines!r} without --greet", "" if page_names(got) == [(400, "BadBulk")] else shown(got))

@@ -1,6 +1,6 @@
 -- What a request asks.
 use Rattle.std.specs.Prelude.{ℕ, ◌^◌, ◌==◌, ◌&&◌, ◌||◌, not, nat_lt, Bool, true, false, codes, length, is_some, is_none, List, Option, Some, None, Result, Ok, Err, if◌then◌else◌}
-use Rattle.serde_json.specs.Data.{Data}
+use Rattle.serde_json.specs.Data.{unsigned, Data, null, boolean, number, string, array, object, put}
 use Rattle.serde_json.specs.Read.{read}
 use Rattle.doc.specs.Document.{DocData, doc_of}
 use Rattle.doc.specs.Fault as doc
@@ -49,19 +49,31 @@ abbrev pub is_true : Option Bool → Bool
 is_true None = false
 is_true (Some b) = b
 
+-- whether these parameters may come with this method at this endpoint, the page of a search aside
+abbrev pub suits : Endpoint → Method → Parameters → Bool
+suits Document Get p = has_none p
+suits Document Delete p = is_none p.create && has_both p
+suits Document Put p = has_both p && not (is_true p.create && is_some p.seq)
+suits Document Post p = has_both p && not (is_true p.create && is_some p.seq)
+suits Document Other p = false
+suits Create m p = is_none p.create && is_none p.seq && is_none p.term
+suits Bulk m p = is_none p.create && is_none p.seq && is_none p.term
+suits Search m p = has_none p
+suits Count m p = has_none p
+suits Refresh m p = has_none p
+suits Promote m p = has_none p
+
+abbrev pub has_no_page : Parameters → Bool
+has_no_page p = is_none p.size && is_none p.from
+
+-- the page of a search may stand in its target, if the server greets
+abbrev pub takes_page : Bool → Endpoint → Bool
+takes_page greets Search = greets
+takes_page greets k = false
+
 -- whether these parameters may come with this method at this endpoint
-abbrev pub fits : Endpoint → Method → Parameters → Bool
-fits Document Get p = has_none p
-fits Document Delete p = is_none p.create && has_both p
-fits Document Put p = has_both p && not (is_true p.create && is_some p.seq)
-fits Document Post p = has_both p && not (is_true p.create && is_some p.seq)
-fits Document Other p = false
-fits Create m p = is_none p.create && is_none p.seq && is_none p.term
-fits Bulk m p = is_none p.create && is_none p.seq && is_none p.term
-fits Search m p = has_none p
-fits Count m p = has_none p
-fits Refresh m p = has_none p
-fits Promote m p = has_none p
+abbrev pub fits : Bool → Endpoint → Method → Parameters → Bool
+fits greets k m p = (has_no_page p || takes_page greets k) && suits k m p
 
 abbrev pub condition_of : Option ℕ → Option ℕ → Option Condition
 condition_of (Some seq) (Some term) = Some (record { seq = seq; term = term })
@@ -107,10 +119,21 @@ get_of id = do
   i ← in_doc (id_of id)
   Ok (get i)
 
-unfoldable pub search_of : MappingData → List ℕ → Result Command Fault
-search_of mapping body = do
+-- an object with a member that is a number, if there is one
+abbrev pub with_number : List ℕ → Option ℕ → Data → Data
+with_number key None d = d
+with_number key (Some n) null = null
+with_number key (Some n) (boolean b) = boolean b
+with_number key (Some n) (number x) = number x
+with_number key (Some n) (string s) = string s
+with_number key (Some n) (array ds) = array ds
+with_number key (Some n) (object ms) = object (put key (number (unsigned n)) ms)
+
+-- the page in the target stands for that of the body
+unfoldable pub search_of : MappingData → Parameters → List ℕ → Result Command Fault
+search_of mapping p body = do
   d ← value_of body
-  q ← in_query (body_of mapping d)
+  q ← in_query (body_of mapping (with_number (codes "size") p.size (with_number (codes "from") p.from d)))
   Ok (search q.0 q.1)
 
 unfoldable pub count_of : MappingData → List ℕ → Result Command Fault
@@ -134,7 +157,7 @@ command_of mapping Document Put id p body = put_of mapping (is_true p.create) id
 command_of mapping Document Post id p body = put_of mapping (is_true p.create) id p body
 command_of mapping Document Other id p body = Err (bad_method Document)
 command_of mapping Create m id p body = put_of mapping true id p body
-command_of mapping Search m id p body = search_of mapping body
+command_of mapping Search m id p body = search_of mapping p body
 command_of mapping Count m id p body = count_of mapping body
 command_of mapping Refresh m id p body = Ok refresh
 command_of mapping Promote m id p body = promote_of id
@@ -171,5 +194,5 @@ ask greets index mapping r = do
   allowed ← check (is_allowed route.endpoint (method_of r.method)) (bad_method route.endpoint)
   id ← id_text (text_of route.id)
   p ← parameters_of (or_nothing (cut_at 63 (origin_of r.target)).1)
-  fit ← check (fits route.endpoint (method_of r.method) p) bad_parameter
+  fit ← check (fits greets route.endpoint (method_of r.method) p) bad_parameter
   asked_of greets mapping route.endpoint (method_of r.method) id p r.body (items_index index route.index)

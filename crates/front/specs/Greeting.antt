@@ -11,7 +11,7 @@ use Rattle.front.specs.declared.greeting.Welcome.TheVariants.{Nothing, Greeting,
 use Rattle.front.specs.declared.page.Status.TheVariants as status
 use Rattle.front.specs.declared.target.Endpoint.{Endpoint}
 use Rattle.front.specs.declared.target.Endpoint.TheVariants.{Document}
-use Rattle.front.specs.Asking.{ask, or_nothing, has_none}
+use Rattle.front.specs.Asking.{ask, or_nothing, has_none, has_no_page}
 use Rattle.front.specs.Fault.{Fault, no_route, no_index, bad_parameter, type_in_path, no_handler}
 use Rattle.front.specs.Page.{response, fault_page, before_empty}
 use Rattle.front.specs.Target.{Route, check, origin_of, route_of, parameters_of}
@@ -111,7 +111,7 @@ welcome_at index r (Some part) =
 -- these requests may have the parameters that a GET of a document may have
 abbrev pub fitting : List ℕ → Welcome → Result Welcome Fault
 fitting query Nothing = Ok Nothing
-fitting query w = parameters_of query >>= λ p. check (has_none p) bad_parameter >>= λ fit. Ok w
+fitting query w = parameters_of query >>= λ p. check (has_none p && has_no_page p) bad_parameter >>= λ fit. Ok w
 
 -- what a request asks for that no command answers, or its first fault
 unfoldable pub welcome_of : List ℕ → Request → Result Welcome Fault

@@ -110,14 +110,20 @@ once (Some old) new = Err bad_parameter
 once None None = Err bad_parameter
 once None (Some a) = Ok (Some a)
 
+abbrev pub with_number : Parameters → List ℕ → Option ℕ → Result Parameters Fault
+with_number p name n =
+    if bytes_eq name (codes "if_seq_no") then (once p.seq n >>= λ x. Ok (record p { seq = x }))
+    else (if bytes_eq name (codes "if_primary_term") then (once p.term n >>= λ x. Ok (record p { term = x }))
+    else (if bytes_eq name (codes "size") then (once p.size n >>= λ x. Ok (record p { size = x }))
+    else (if bytes_eq name (codes "from") then (once p.from n >>= λ x. Ok (record p { from = x }))
+    else Err bad_parameter)))
+
 abbrev pub with_parameter : Parameters → List ℕ → List ℕ → Result Parameters Fault
 with_parameter p name value =
     if bytes_eq name (codes "pretty") then (once p.pretty (Some true) >>= λ x. Ok (record p { pretty = x }))
     else (if bytes_eq name (codes "refresh") then (once p.refresh (refresh_of value) >>= λ x. Ok (record p { refresh = x }))
     else (if bytes_eq name (codes "op_type") then (once p.create (create_of value) >>= λ x. Ok (record p { create = x }))
-    else (if bytes_eq name (codes "if_seq_no") then (once p.seq (number_of value) >>= λ x. Ok (record p { seq = x }))
-    else (if bytes_eq name (codes "if_primary_term") then (once p.term (number_of value) >>= λ x. Ok (record p { term = x }))
-    else Err bad_parameter))))
+    else with_number p name (number_of value)))
 
 abbrev pub text_of : List ℕ → List ℕ
 text_of bytes = utf8_lossy (decode bytes)
@@ -127,7 +133,7 @@ with_parameters p [] = Ok p
 with_parameters p (x ∷ xs) = with_parameter p (text_of x.0) (text_of x.1) >>= λ q. with_parameters q xs
 
 abbrev pub no_parameters : Parameters
-no_parameters = record { pretty = None; refresh = None; create = None; seq = None; term = None }
+no_parameters = record { pretty = None; refresh = None; create = None; seq = None; term = None; size = None; from = None }
 
 -- the parameters of a query string
 abbrev pub parameters_of : List ℕ → Result Parameters Fault

@@ -1,5 +1,5 @@
 //! What a request asks, or its first fault.
-ghost use Rattle.std.specs.Prelude.{◌≡◌, option_copied, option_map};
+ghost use Rattle.std.specs.Prelude.{◌≡◌, option_copied, option_map, IfOk};
 ghost use Rattle.serde_json.specs.Read.{read};
 ghost use Rattle.serde_json.specs.View.{view};
 ghost use Rattle.doc.specs.Outcome.{Gives};
@@ -21,7 +21,7 @@ use crate::target::{Endpoint, Method, Parameters, origin_of, route_of};
 use doc::{Doc, DocId, Mapping};
 use query::{CountBody, QueryFault, SearchBody};
 use serde_json::Value;
-use std::alloc::Global;
+use std::alloc::{AllocError, Global};
 use wire::{Request, cut_at, number_of, text_of};
 
 /// What a request asks: one command, or many writes and whether a refresh follows them.
@@ -49,7 +49,7 @@ pub(crate) fn ask<'b>(
     check_allowed(route.endpoint, method)?;
     let id = id_text(&route.id)?;
     let parameters = parameters_of(alloc, or_nothing(parameters))?;
-    check_fits(route.endpoint, method, parameters)?;
+    check_fits(greets, route.endpoint, method, parameters)?;
     let named = items_index(index, &route.index);
     asked_of(
         alloc,
@@ -118,13 +118,14 @@ fn check_allowed(endpoint: Endpoint, method: Method) -> Result<(), RequestFault>
 }
 
 fn check_fits(
+    greets: bool,
     endpoint: Endpoint,
     method: Method,
     parameters: Parameters,
 ) -> Result<(), RequestFault>
-    ensures { Gives fault_of (λ u. u) result (target.check (spec.fits endpoint method parameters) bad_parameter) }
+    ensures { Gives fault_of (λ u. u) result (target.check (spec.fits greets endpoint method parameters) bad_parameter) }
 {
-    if fits(endpoint, method, parameters) {
+    if fits(greets, endpoint, method, parameters) {
         Ok(())
     } else {
         Err(RequestFault::BadParameter)
@@ -172,9 +173,23 @@ fn is_true(flag: Option<bool>) -> bool
     }
 }
 
-/// Whether these parameters may come with this method at this endpoint.
-fn fits(endpoint: Endpoint, method: Method, parameters: Parameters) -> bool
-    ensures { result ≡ spec.fits endpoint method parameters }
+pub(crate) fn has_no_page(parameters: Parameters) -> bool
+    ensures { result ≡ spec.has_no_page parameters }
+{
+    parameters.size.is_none() && parameters.from.is_none()
+}
+
+/// Whether these parameters may come with this method at this endpoint. If the server greets, the page of a search may stand in its target.
+fn fits(greets: bool, endpoint: Endpoint, method: Method, parameters: Parameters) -> bool
+    ensures { result ≡ spec.fits greets endpoint method parameters }
+{
+    (has_no_page(parameters) || (greets && endpoint == Endpoint::Search))
+        && suits(endpoint, method, parameters)
+}
+
+/// Whether these parameters may come with this method at this endpoint, the page of a search aside.
+fn suits(endpoint: Endpoint, method: Method, parameters: Parameters) -> bool
+    ensures { result ≡ spec.suits endpoint method parameters }
 {
     match endpoint {
         Endpoint::Document => fits_document(method, parameters),
@@ -188,7 +203,7 @@ fn fits(endpoint: Endpoint, method: Method, parameters: Parameters) -> bool
 }
 
 fn fits_document(method: Method, parameters: Parameters) -> bool
-    ensures { result ≡ spec.fits Endpoint.Document method parameters }
+    ensures { result ≡ spec.suits Endpoint.Document method parameters }
 {
     match method {
         Method::Get => has_none(parameters),
@@ -222,7 +237,7 @@ fn command_of(
     match endpoint {
         Endpoint::Document => document_command(alloc, mapping, method, id, parameters, body),
         Endpoint::Create => put_of(alloc, mapping, true, id, parameters, body),
-        Endpoint::Search => search_of(alloc, mapping, body),
+        Endpoint::Search => search_of(alloc, mapping, parameters, body),
         Endpoint::Count => count_of(alloc, mapping, body),
         Endpoint::Refresh => Ok(Command::Refresh),
         Endpoint::Promote => promote_of(id),
@@ -307,12 +322,37 @@ fn stored(create: bool, document: Doc) -> Change
 }
 
 #[tactic(auto, unfolding(crate::specs::Asking::search_of))]
-fn search_of(alloc: Global, mapping: &Mapping, body: &[u8]) -> Result<Command, RequestFault>
-    ensures { Gives fault_of command_view result (spec.search_of mapping.now body.now) }
+fn search_of(
+    alloc: Global,
+    mapping: &Mapping,
+    parameters: Parameters,
+    body: &[u8],
+) -> Result<Command, RequestFault>
+    ensures { Gives fault_of command_view result (spec.search_of mapping.now parameters body.now) }
 {
     let value = value_of(alloc, body)?;
+    let value = with_number(alloc, value, "from", parameters.from)?;
+    let value = with_number(alloc, value, "size", parameters.size)?;
     let body = SearchBody::read(alloc, mapping, &value)?;
     Ok(Command::Search(body))
+}
+
+/// An object with a member that is a number, if there is one. Another value stays as it is.
+fn with_number(
+    alloc: Global,
+    value: Value,
+    key: &str,
+    number: Option<u64>,
+) -> Result<Value, AllocError>
+    ensures { IfOk result (λ v. view v ≡ spec.with_number key.now number (view value)) }
+{
+    match (number, value) {
+        (Some(number), Value::Object(mut members)) => {
+            members.insert(String::from_str(alloc, key)?, Value::from(number))?;
+            Ok(Value::Object(members))
+        }
+        (_, value) => Ok(value),
+    }
 }
 
 #[tactic(auto, unfolding(crate::specs::Asking::count_of))]

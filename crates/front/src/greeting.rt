@@ -8,7 +8,7 @@ ghost use Rattle.front.specs.Greeting as spec;
 ghost use Rattle.front.specs.Rule.{Turned};
 ghost use Rattle.front.specs.Serving.{Answered, Begun};
 
-use crate::asking::{has_none, or_nothing};
+use crate::asking::{has_no_page, has_none, or_nothing};
 use crate::page::{Status, at_empty, fault_page, response};
 use crate::parameters::parameters_of;
 use crate::request_fault::RequestFault;
@@ -303,7 +303,8 @@ fn fitting(alloc: Global, query: &[u8], welcome: Welcome) -> Result<Welcome, Req
     if welcome == Welcome::Nothing {
         return Ok(welcome);
     }
-    if has_none(parameters_of(alloc, query)?) {
+    let parameters = parameters_of(alloc, query)?;
+    if has_none(parameters) && has_no_page(parameters) {
         Ok(welcome)
     } else {
         Err(RequestFault::BadParameter)

@@ -79,13 +79,33 @@ fn with_parameter(
                 ..parameters
             })
         }
+        _ => with_number(parameters, name, number_of(value)),
+    }
+}
+
+fn with_number(
+    parameters: Parameters,
+    name: &str,
+    number: Option<u64>,
+) -> Result<Parameters, RequestFault>
+    ensures { Gives fault_of (λ q. q) result (spec.with_number parameters name.now number) }
+{
+    match name {
         "if_seq_no" => {
-            let seq = once_number(parameters.seq, number_of(value))?;
+            let seq = once_number(parameters.seq, number)?;
             Ok(Parameters { seq, ..parameters })
         }
         "if_primary_term" => {
-            let term = once_number(parameters.term, number_of(value))?;
+            let term = once_number(parameters.term, number)?;
             Ok(Parameters { term, ..parameters })
+        }
+        "size" => {
+            let size = once_number(parameters.size, number)?;
+            Ok(Parameters { size, ..parameters })
+        }
+        "from" => {
+            let from = once_number(parameters.from, number)?;
+            Ok(Parameters { from, ..parameters })
         }
         _ => Err(RequestFault::BadParameter),
     }
@@ -101,6 +121,8 @@ pub(crate) fn parameters_of(alloc: Global, text: &[u8]) -> Result<Parameters, Re
         create: None,
         seq: None,
         term: None,
+        size: None,
+        from: None,
     };
     for pair in parse(alloc, text) {
         let (name, value) = pair?;

@@ -50,6 +50,8 @@ pub(crate) struct Parameters {
     pub(crate) create: Option<bool>,
     pub(crate) seq: Option<u64>,
     pub(crate) term: Option<u64>,
+    pub(crate) size: Option<u64>,
+    pub(crate) from: Option<u64>,
 }
 
 impl Method {
