@@ -20,7 +20,7 @@ def kept():
             got = bodies(server.ask(*(put_of(b"%d" % n, b'{"n":%d}' % n) for n in range(4)), b"DELETE /books/_doc/3 HTTP/1.1\r\n\r\n"))
             is_kept("writes into a folder", [(it["_seq_no"], it["_primary_term"]) for it in got], [(n, 1) for n in range(5)])
             complains("a second server of a folder", ran("--port", free_port(), "--data", folder), 1, "data folder", "another process")
-        is_kept("the files of a folder", sorted(it.name for it in folder.iterdir()), ["copy-1.rsx", "lock", "mapping.json", "master.log"])
+        is_kept("the files of a folder", sorted(it.name for it in folder.iterdir()), ["copy-1.rsx", "copy-1.sum", "lock", "mapping.json", "master.log"])
         is_kept("the mapping is kept as it was handed in", (folder / "mapping.json").read_bytes(), MAPPED)
         with Server("--data", folder) as server:
             is_kept("documents after a kill", sources(server, [b"0", b"1", b"2", b"3"]), [{"n": 0}, {"n": 1}, {"n": 2}, None])

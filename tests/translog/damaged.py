@@ -1,6 +1,8 @@
 """Translogs that are cut or changed, and what opening each of them gives, by docs/FORMATS.md alone."""
 HEADER, FIRST = b"RSX2", b"RSX1"
 GREATEST = 2 ** 63 - 1
+# How far past those before it a number may be, and how long a frame is at most that isn't a recovery's.
+WINDOW, LONGEST = 1_024, 67_673_093
 
 
 def number(value, size=8):
@@ -79,16 +81,37 @@ class Fields:
         return seq, term, kind > 0
 
     def history(self, term, first):
-        for at in range(self.number(4)):
+        """The number behind the last."""
+        count = self.number(4)
+        for at in range(count):
             seq, older, _ = self.operation()
             if seq != first + at or older > term:
                 raise NoRecord
+        return first + count
 
     def kept(self):
-        """The fields of an operation's record."""
-        self.checkpoint()
-        if not self.operation()[2]:
+        """The fields of an operation's record: how many are known to be everywhere, and its number."""
+        known = self.checkpoint() + 1
+        seq, _, does_something = self.operation()
+        if not does_something:
             raise NoRecord
+        return known, seq
+
+    def next_number(self, before):
+        """The number behind those of a frame that stands behind numbers below another one; None where it is too far past them."""
+        tag = self.number(1)
+        if tag in (1, 4):
+            for _ in range(1 if tag == 1 else self.number(4)):
+                known, seq = self.kept()
+                if seq >= before + WINDOW or known > max(before, seq + 1) + WINDOW:
+                    return None
+                before = max(before, seq + 1)
+            return before
+        if tag == 2:
+            self.number()
+            known = self.checkpoint()
+            return None if known + 1 > before + WINDOW else max(before, self.history(GREATEST, known + 1))
+        return before if tag == 5 else max(before, self.history(self.number(), 0))
 
     def piece(self, groups):
         """How many records a frame has, and whether groups may stand behind it, where they may stand there or don't yet."""
@@ -114,10 +137,11 @@ class Fields:
 
 
 def opened(log):
-    """The number of records that opening gives, BadMagic, or Damaged and an offset."""
+    """The number of records that opening gives, BadMagic, or an offset behind Damaged, Far (a number is too far past those before it) or Untorn (no crash leaves
+    what stands there)."""
     if log[:4] not in (HEADER[:len(log)], FIRST[:len(log)]):
         return "BadMagic"
-    at, records, groups = 4, 0, log[:4] == HEADER
+    at, records, groups, following, far = 4, 0, log[:4] == HEADER, 0, None
     while len(log) - at >= 4:
         end = at + 4 + int.from_bytes(log[at:at + 4], "little")
         if end > len(log):
@@ -126,8 +150,29 @@ def opened(log):
             count, groups = Fields(log[at + 4:end]).piece(groups)
         except NoRecord:
             return f"Damaged {at}"
+        following = None if following is None else Fields(log[at + 4:end]).next_number(following)
+        far = at if following is None and far is None else far
         at, records = end, records + count
-    return str(records)
+    if far is not None:
+        return f"Far {far}"
+    return str(records) if can_be_torn(log[at:]) else f"Untorn {at}"
+
+
+def is_record(content):
+    try:
+        return Fields(content).piece(True)[0] > 0
+    except NoRecord:
+        return False
+
+
+def can_be_torn(rest):
+    """Whether a crash can have left these bytes behind whole frames."""
+    length, tag = int.from_bytes(rest[:4], "little"), rest[4:5]
+    if len(rest) < 4:
+        return True
+    if tag and (tag[0] not in (1, 2, 3, 4) or tag[0] != 3 and length > LONGEST) or is_record(rest[4:]):
+        return False
+    return not any(is_record(rest[at + 4:end]) for at in range(1, len(rest) - 4) if (end := at + 4 + int.from_bytes(rest[at:at + 4], "little")) <= len(rest))
 
 
 def torn_at(log):

@@ -1,5 +1,7 @@
 //! Why the folder that an index is kept in can't be served.
 
+use crate::damage::Damage;
+use crate::look::LookFault;
 use crate::mapping_file::MappingFault;
 use replica::CopyFault;
 use std::alloc::{AllocError, AllocFailed};
@@ -23,6 +25,9 @@ pub enum DataFault {
     SeveralCopies,
     CopyFile(u32, io::Error),
     Copy(u32, CopyFault),
+    Damaged(u32, Damage),
+    /// A copy, and why what is torn of its log at this offset can't be kept.
+    TornEnd(u32, u64, io::Error),
     NotLed,
     Seed(io::Error),
     NoMemory,
@@ -65,6 +70,10 @@ impl Display for DataFault {
             }
             DataFault::CopyFile(copy, error) => write!(f, "copy-{copy}.rsx: {error}"),
             DataFault::Copy(copy, fault) => write!(f, "copy-{copy}.rsx: {fault}"),
+            DataFault::Damaged(copy, damage) => write!(f, "copy-{copy}.rsx: {damage}"),
+            DataFault::TornEnd(copy, offset, error) => {
+                write!(f, "copy-{copy}.torn-{offset} can't be written: {error}")
+            }
             DataFault::NotLed => write!(
                 f,
                 "copy-1.rsx can't be made the primary: it or master.log can't be written, or they don't belong together"
@@ -94,5 +103,14 @@ impl From<MappingFault> for DataFault {
             MappingFault::Mapping(fault) => DataFault::Mapping(fault),
             MappingFault::NoMemory => DataFault::NoMemory,
         }
+    }
+}
+
+/// Why the log of a copy isn't opened.
+pub(crate) fn of_look(copy: u32, fault: LookFault) -> DataFault {
+    match fault {
+        LookFault::Damage(damage) => DataFault::Damaged(copy, damage),
+        LookFault::TornEnd(offset, error) => DataFault::TornEnd(copy, offset, error),
+        LookFault::NoMemory => DataFault::NoMemory,
     }
 }

@@ -3,8 +3,12 @@ ghost use Rattle.std.specs.Prelude.{All, IfOk};
 ghost use Rattle.op.specs.Records.{IsRecord};
 ghost use Rattle.segment.specs.Builds.{Builds};
 
-use crate::data_fault::{DataFault, Difference};
+use crate::data_fault::{DataFault, Difference, of_look};
+use crate::look::{LogFile, LookFault, TornEnd, frames_seen, kept_sums, looked_through, sums_path};
 use crate::mapping_file::MappingFile;
+use crate::salvage::{Gap, Salvaged, salvage_of};
+use crate::summed::{SumFaults, Summed};
+use crate::sums::sums_of;
 use doc::{DocFault, Mapping, Source};
 use master::Master;
 use op::Record;
@@ -20,6 +24,7 @@ use std::rt::Files;
 use std::sync::Arc;
 use std::thread::Threads;
 use std::{fs, io};
+use sum::Table;
 use translog::{FileDevice, LogFault, MemDevice, Translog};
 
 /// The file that is locked while the folder is served.
@@ -43,8 +48,10 @@ const MOST_COPIES: u32 = 5;
 /// The one copy of an index in a folder, and its master, as their logs have them. No other process serves it while this is held.
 #[derive(Drop)]
 pub struct KeptCopy {
-    pub master: Master<FileDevice<File>>,
-    pub copy: Copy<FileDevice<File>>,
+    pub master: Master<LogFile>,
+    pub copy: Copy<LogFile>,
+    /// What was torn of the copy's log.
+    pub torn: Option<TornEnd>,
     pub lock: File,
 }
 
@@ -53,14 +60,20 @@ pub struct KeptCopy {
 pub fn open_copy<
     R: Files<File = File> + AllocGlobal + RandomSource + Threads + Sync,
     F: Fn(Global, &Arc<Mapping, Global>, Vec<Source>) -> Result<Segment, AllocError>,
->(rt: &R, builder: &F, path: &str, given: Option<&MappingFile>) -> Result<KeptCopy, DataFault>
+>(
+    rt: &R,
+    builder: &F,
+    path: &str,
+    given: Option<&MappingFile>,
+    faults: &Arc<SumFaults, Global>,
+) -> Result<KeptCopy, DataFault>
     requires { Builds F.Fn builder.now }
 {
     let folder = Folder { rt, path };
     folder.make()?;
     let lock = folder.lock()?;
     let mapping = seeded(rt, folder.mapping(given)?)?;
-    folder.copy(builder, mapping, lock)
+    folder.copy(builder, mapping, lock, faults)
 }
 
 /// A folder whose copies are to be opened: the mapping of its index. No other process serves it while this is held.
@@ -99,17 +112,30 @@ fn seeded<R: RandomSource>(rt: &R, mapping: Mapping) -> Result<Mapping, DataFaul
 
 /// What a folder keeps of an index, as it was read.
 #[derive(Drop)]
-pub struct KeptRecords {
+pub(crate) struct KeptRecords {
     pub text: String,
     pub mapping: Mapping,
     pub records: Vec<Record>,
+    /// What stands between them in a damaged log, and the copy whose log it is.
+    pub gaps: Vec<Gap>,
+    pub copy: u32,
 }
 
-/// Reads the index of a folder, as the copy has it that led last, and changes nothing. A server may write it meanwhile: a log only grows, so what is whole of
+/// What is read of a log.
+#[derive(Clone, Copy, Debug, PartialEq, Eq)]
+pub(crate) enum Wanted {
+    /// All of it, or nothing where it is damaged.
+    Whole,
+    /// What is whole of it.
+    Salvage,
+}
+
+/// Reads the index of a folder, as the copy has it that led last, or what is whole of that, and changes nothing. A server may write it meanwhile: a log only grows, so what is whole of
 /// it is a beginning of it, and a torn end is passed over.
-pub fn read_index<R: Files<File = File> + AllocGlobal>(
+pub(crate) fn read_index<R: Files<File = File> + AllocGlobal>(
     rt: &R,
     path: &str,
+    wanted: Wanted,
 ) -> Result<KeptRecords, DataFault>
     ensures { IfOk result (λ k. All IsRecord k.records.items) }
 {
@@ -119,11 +145,14 @@ pub fn read_index<R: Files<File = File> + AllocGlobal>(
     }
     let MappingFile { text, value } = folder.mapping_file()?;
     let mapping = Mapping::from_value(rt.alloc(), &value).map_err(refused)?;
-    match folder.records() {
-        Ok(records) => Ok(KeptRecords {
+    let copy = folder.primary()?;
+    match folder.records(copy, wanted) {
+        Ok(Salvaged { records, gaps }) => Ok(KeptRecords {
             text,
             mapping,
             records,
+            gaps,
+            copy,
         }),
         Err(fault) => Err(fault),
     }
@@ -142,16 +171,56 @@ impl<'a, R: Files<File = File> + AllocGlobal> Folder<'a, R> {
         format!(in self.rt.alloc(); "{path}/{name}")
     }
 
-    /// The records of the copy that led last.
-    fn records(&self) -> Result<Vec<Record>, DataFault>
-        ensures { IfOk result (λ r. All IsRecord r.items) }
+    /// The records of a copy.
+    fn records(&self, copy: u32, wanted: Wanted) -> Result<Salvaged, DataFault>
+        ensures { IfOk result (λ s. All IsRecord s.records.items) }
     {
-        let primary = self.primary()?;
-        let mut log = Translog::over(self.kept_device(primary)?);
-        match log.read(self.rt.alloc()) {
-            Ok((records, _torn)) => Ok(records),
-            Err(LogFault::NoMemory) => Err(DataFault::NoMemory),
-            Err(fault) => Err(DataFault::Copy(primary, CopyFault::Log(fault))),
+        // The sums come first: of a log that a server writes there are never more.
+        let sums = self.sums(copy)?;
+        let device = self.kept_device(copy)?;
+        match wanted {
+            Wanted::Whole => self.whole_records(copy, device, sums.as_slice()),
+            Wanted::Salvage => Ok(salvage_of(
+                self.rt.alloc(),
+                &Table::new(),
+                device.bytes(),
+                sums.as_slice(),
+            )?),
+        }
+    }
+
+    /// The records of a copy's log that isn't damaged.
+    fn whole_records(
+        &self,
+        copy: u32,
+        device: MemDevice,
+        sums: &[u8],
+    ) -> Result<Salvaged, DataFault>
+        ensures { IfOk result (λ s. All IsRecord s.records.items) }
+    {
+        let alloc = self.rt.alloc();
+        let sums = match sums_of(alloc, &Table::new(), device.bytes(), sums) {
+            Ok(sums) => sums,
+            Err(fault) => return Err(of_look(copy, LookFault::from(fault))),
+        };
+        let mut log = Translog::over(device);
+        let records = match log.read(alloc) {
+            Ok((records, _torn)) => records,
+            Err(LogFault::NoMemory) => return Err(DataFault::NoMemory),
+            Err(fault) => return Err(DataFault::Copy(copy, CopyFault::Log(fault))),
+        };
+        match frames_seen(alloc, log.device().bytes(), sums) {
+            Ok(seen) => {
+                drop(seen);
+                Ok(Salvaged {
+                    records,
+                    gaps: Vec::new(alloc),
+                })
+            }
+            Err(fault) => {
+                drop(records);
+                Err(of_look(copy, LookFault::from(fault)))
+            }
         }
     }
 
@@ -351,6 +420,12 @@ impl<'a, R: Files<File = File> + AllocGlobal> Folder<'a, R> {
         }
     }
 
+    /// The sums that are kept of a copy's log.
+    fn sums(&self, copy: u32) -> Result<Vec<u8>, AllocError> {
+        let path = sums_path(self.rt.alloc(), self.path, copy)?;
+        Ok(kept_sums(self.rt, path.as_str()))
+    }
+
     /// The device of a log, which is made where it is missing.
     fn device(&self, name: &'static str) -> Result<FileDevice<File>, DataFault> {
         let path = self.path_of(name)?;
@@ -406,6 +481,7 @@ impl<'a, R: Files<File = File> + AllocGlobal + Threads + Sync> Folder<'a, R> {
         builder: &F,
         mapping: Mapping,
         lock: File,
+        faults: &Arc<SumFaults, Global>,
     ) -> Result<KeptCopy, DataFault>
         requires { Builds F.Fn builder.now }
     {
@@ -414,18 +490,36 @@ impl<'a, R: Files<File = File> + AllocGlobal + Threads + Sync> Folder<'a, R> {
             return Err(DataFault::SeveralCopies);
         }
         let (copy, master) = self.devices()?;
-        let master = match Master::begin(alloc, 1, master) {
+        let (copy, torn) = self.looked_through(copy, faults)?;
+        let master = match Master::begin(alloc, 1, Summed::without(master)) {
             Ok(master) => master,
             Err(refused) => return Err(DataFault::Master(refused.into_fault())),
         };
         let opened = if master.state().term == 1 {
-            self.begun_or_opened(builder, mapping, copy)
+            self.begun_or_opened(builder, mapping, copy, faults)
         } else {
             opened(self.rt, builder, alloc, mapping, copy)
         };
         match opened {
-            Ok(copy) => Ok(KeptCopy { master, copy, lock }),
+            Ok(copy) => Ok(KeptCopy {
+                master,
+                copy,
+                torn,
+                lock,
+            }),
             Err(fault) => Err(fault),
+        }
+    }
+
+    /// The log of the copy, looked through, and what is torn of it.
+    fn looked_through(
+        &self,
+        device: FileDevice<File>,
+        faults: &Arc<SumFaults, Global>,
+    ) -> Result<(LogFile, Option<TornEnd>), DataFault> {
+        match looked_through(self.rt, self.path, 1, device, faults) {
+            Ok(looked) => Ok(looked),
+            Err(fault) => Err(of_look(1, fault)),
         }
     }
 
@@ -436,12 +530,13 @@ impl<'a, R: Files<File = File> + AllocGlobal + Threads + Sync> Folder<'a, R> {
         &self,
         builder: &F,
         mapping: Mapping,
-        device: FileDevice<File>,
-    ) -> Result<Copy<FileDevice<File>>, DataFault>
+        device: LogFile,
+        faults: &Arc<SumFaults, Global>,
+    ) -> Result<Copy<LogFile>, DataFault>
         requires { Builds F.Fn builder.now }
     {
         let alloc = self.rt.alloc();
-        if device.len() <= HEADER {
+        if device.device().len() <= HEADER {
             return begun(alloc, mapping, device);
         }
         let copy = opened(self.rt, builder, alloc, mapping.copy(alloc)?, device)?;
@@ -450,17 +545,13 @@ impl<'a, R: Files<File = File> + AllocGlobal + Threads + Sync> Folder<'a, R> {
         }
         // The only record was torn, and is cut off now.
         drop(copy);
-        let device = self.device(COPY)?;
+        let (device, _) = self.looked_through(self.device(COPY)?, faults)?;
         begun(alloc, mapping, device)
     }
 }
 
 /// A copy of a new index, whose log has no record.
-fn begun(
-    alloc: Global,
-    mapping: Mapping,
-    device: FileDevice<File>,
-) -> Result<Copy<FileDevice<File>>, DataFault> {
+fn begun(alloc: Global, mapping: Mapping, device: LogFile) -> Result<Copy<LogFile>, DataFault> {
     match Copy::begin(alloc, 1, 1, mapping, device) {
         Ok(copy) => Ok(copy),
         Err(refused) => Err(DataFault::Copy(1, refused.into_fault())),
@@ -476,8 +567,8 @@ fn opened<
     builder: &F,
     alloc: Global,
     mapping: Mapping,
-    device: FileDevice<File>,
-) -> Result<Copy<FileDevice<File>>, DataFault>
+    device: LogFile,
+) -> Result<Copy<LogFile>, DataFault>
     requires { Builds F.Fn builder.now }
 {
     match Copy::open_on(rt, builder, alloc, 1, Birth::First, mapping, device) {

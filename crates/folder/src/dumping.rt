@@ -1,8 +1,9 @@
 //! Writing the documents of an index that is kept in a folder.
 
 use crate::data_fault::DataFault;
-use crate::data_folder::{KeptRecords, read_index};
+use crate::data_folder::{KeptRecords, Wanted, read_index};
 use crate::parts::{Parts, write_parts};
+use crate::salvage::Gap;
 use engine::Engine;
 use op::{Body, Op};
 use serde_json::Value;
@@ -19,6 +20,8 @@ pub struct Dumped<'a> {
     pub data: &'a str,
     /// The mapping, and no documents.
     pub mapping: bool,
+    /// Whether of a damaged log what is whole is written.
+    pub damaged: bool,
     /// The files that the documents are written to; with none it is the output.
     pub parts: Option<Parts<'a>>,
 }
@@ -80,18 +83,32 @@ impl From<DataFault> for DumpFault {
 
 /// Writes the mapping of a folder's index, or its documents as the lines of a bulk, in the order in which they were last written. The folder stays as it is,
 /// and a server may have it.
-/// `errors` names each document that is larger than a part.
+/// `errors` names each document that is larger than a part, and what is left out of a damaged log.
 pub fn dump<R: Files<File = File> + AllocGlobal + Clone + Drop, O: Write, E: Write>(
     rt: &R,
     dumped: Dumped<'_>,
     output: &mut O,
     errors: &mut E,
 ) -> Result<(), DumpFault> {
+    let wanted = if dumped.damaged {
+        Wanted::Salvage
+    } else {
+        Wanted::Whole
+    };
     let KeptRecords {
         text,
         mapping,
         records,
-    } = read_index(rt, dumped.data)?;
+        gaps,
+        copy,
+    } = read_index(rt, dumped.data, wanted)?;
+    for gap in gaps {
+        let Gap { offset, bytes } = gap;
+        let _ = writeln!(
+            errors,
+            "indexd: copy-{copy}.rsx: {bytes} bytes at offset {offset} are left out"
+        );
+    }
     if dumped.mapping {
         write_line(output, text.as_str())?;
     } else {

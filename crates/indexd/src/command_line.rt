@@ -137,6 +137,7 @@ fn dumped_of<'a>(options: &ArgMatches<'a>) -> Dumped<'a> {
     Dumped {
         data: options.get_str("data").unwrap_or("."),
         mapping: options.get_flag("mapping"),
+        damaged: options.get_flag("damaged"),
         parts: parts_of(options),
     }
 }

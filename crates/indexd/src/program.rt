@@ -144,7 +144,7 @@ fn run_dump<R: Files<File = File> + AllocGlobal + Clone + Drop, O: Write, E: Wri
 }
 
 /// Says what logs have, and answers the exit status: 0, or 1 with one line on `errors`.
-fn run_inspect<R: Files + AllocGlobal, O: Write, E: Write>(
+fn run_inspect<R: Files<File = File> + AllocGlobal, O: Write, E: Write>(
     rt: &R,
     files: &[String],
     output: &mut O,

@@ -1,6 +1,7 @@
 //! Lines for standard error. Threads that serve hand them over, and one thread writes them: nobody may read what it writes.
 
 use crossbeam_channel::{Receiver, Sender, bounded};
+use folder::SumFaults;
 use std::alloc::{AllocError, Global};
 use std::io::Write;
 use std::sync::Wait;
@@ -42,8 +43,24 @@ impl Lines {
         }
     }
 
-    /// Does a task, and writes meanwhile the lines that come.
-    pub(crate) fn written_while<R, E, T, F>(&self, rt: &R, errors: &mut E, task: F) -> T
+    /// Writes the lines that wait.
+    pub(crate) fn write_waiting<R: Wait, E: Write>(&self, rt: &R, errors: &mut E) {
+        for _ in 0..MOST_LINES {
+            let Ok(line) = self.waiting.try_recv(rt) else {
+                break;
+            };
+            let _ = writeln!(errors, "indexd: {line}");
+        }
+    }
+
+    /// Does a task, and writes meanwhile the lines that come, and one for a copy whose sums can't be kept.
+    pub(crate) fn written_while<R, E, T, F>(
+        &self,
+        rt: &R,
+        faults: &SumFaults,
+        errors: &mut E,
+        task: F,
+    ) -> T
     where
         R: Threads + Wait + Clock + Sync,
         E: Write + Send,
@@ -59,12 +76,13 @@ impl Lines {
             self.ended.store(true, Ordering::SeqCst);
             ended
         };
-        join(rt, || self.write(rt, errors), done).1
+        join(rt, || self.write(rt, faults, errors), done).1
     }
 
     /// Writes lines as they come, until the task has ended.
-    fn write<R: Wait + Clock, E: Write>(&self, rt: &R, errors: &mut E) {
+    fn write<R: Wait + Clock, E: Write>(&self, rt: &R, faults: &SumFaults, errors: &mut E) {
         for _ in 0..u64::MAX {
+            tell_faults(faults, errors);
             let is_over = self.ended.load(Ordering::SeqCst);
             match self.waiting.recv_timeout(rt, Duration::from_millis(TICK)) {
                 Ok(line) => {
@@ -88,5 +106,15 @@ impl Lines {
                 "indexd: and {dropped} more lines, which nobody read in time"
             );
         }
+    }
+}
+
+/// Says whose sums can't be kept any more.
+fn tell_faults<E: Write>(faults: &SumFaults, errors: &mut E) {
+    if let Some(copy) = faults.taken() {
+        let _ = writeln!(
+            errors,
+            "indexd: copy-{copy}.sum can't be written: until the next start its log has no more sums"
+        );
     }
 }

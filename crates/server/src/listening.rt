@@ -8,6 +8,7 @@ use crate::settings::Settings;
 use crate::telling::Telling;
 use cell::IndexName;
 use clients::Clients;
+use folder::SumFaults;
 use front::Rule;
 use shard::{Begun, HistoryName, Shard, SharedShard};
 use std::io;
@@ -25,6 +26,7 @@ pub(crate) fn listen<R, O, E, D>(
     settings: Settings<'_>,
     rule: &Rule,
     shard: Shard<D>,
+    faults: &SumFaults,
     output: &mut O,
     errors: &mut E,
 ) -> Result<(), ServeFault>
@@ -40,7 +42,7 @@ where
     D: LogDevice + Send,
 {
     let begun = Begun::new(shard);
-    listen_to_one::<Brand, R, O, E, D>(rt, settings, rule, begun, output, errors)
+    listen_to_one::<Brand, R, O, E, D>(rt, settings, rule, begun, faults, output, errors)
 }
 
 /// Takes the port of an index whose history has this name, and serves the connections that come to it.
@@ -49,6 +51,7 @@ fn listen_to_one<N, R, O, E, D>(
     settings: Settings<'_>,
     rule: &Rule,
     begun: Begun<D>,
+    faults: &SumFaults,
     output: &mut O,
     errors: &mut E,
 ) -> Result<(), ServeFault>
@@ -70,6 +73,7 @@ where
     let listener = bound(rt, settings.port, output)?;
     let ended = lines.written_while(
         rt,
+        faults,
         errors,
         || serve_shared(rt, settings, rule, listener, &shared, &lines),
     );
@@ -118,6 +122,7 @@ pub(crate) fn listen_to_group<R, O, E, D, J>(
     settings: Settings<'_>,
     rule: &Rule,
     index: &Index<'_, D, J>,
+    faults: &SumFaults,
     output: &mut O,
     errors: &mut E,
 ) -> Result<(), ServeFault>
@@ -137,6 +142,7 @@ where
     let listener = bound(rt, settings.port, output)?;
     let ended = lines.written_while(
         rt,
+        faults,
         errors,
         || serve_index(rt, settings, rule, listener, index, &lines),
     );

@@ -7,7 +7,7 @@ use crate::listening::listen;
 use crate::opening::OpeningLine;
 use crate::settings::Settings;
 use doc::{Mapping, Source};
-use folder::{DataFault, KeptCopy, MappingFile, open_copy};
+use folder::{DataFault, KeptCopy, LogFile, MappingFile, SumFaults, TornEnd, open_copy};
 use front::Rule;
 use master::Master;
 use segment::Segment;
@@ -21,12 +21,13 @@ use std::rt::Files;
 use std::sync::{Arc, Wait};
 use std::thread::Threads;
 use std::time::Clock;
-use translog::FileDevice;
 
 /// An index of one copy in a folder, which no other process serves while this value is there.
 #[derive(Drop)]
 pub(crate) struct KeptIndex {
-    shard: Shard<FileDevice<File>>,
+    shard: Shard<LogFile>,
+    torn: Option<TornEnd>,
+    faults: Arc<SumFaults, Global>,
     lock: File,
 }
 
@@ -64,9 +65,22 @@ fn open_index<R: Files<File = File> + AllocGlobal + RandomSource + Threads + Syn
         requires { length sources.items < 2 ^ 32 }
         ensures { IfOk result (λ s. s ≡ record { mapping = arc_value mapping.now; sources = sources.items }) }
     { Segment::build_on(rt, alloc, mapping, sources) };
-    match open_copy(rt, &builder, path, given) {
-        Ok(KeptCopy { master, copy, lock }) => match led(rt.alloc(), name, master, copy) {
-            Ok(shard) => Ok(KeptIndex { shard, lock }),
+    let faults = Arc::new(rt.alloc(), SumFaults::new())?;
+    match open_copy(rt, &builder, path, given, &faults) {
+        Ok(
+            KeptCopy {
+                master,
+                copy,
+                torn,
+                lock,
+            },
+        ) => match led(rt.alloc(), name, master, copy) {
+            Ok(shard) => Ok(KeptIndex {
+                shard,
+                torn,
+                faults,
+                lock,
+            }),
             Err(fault) => {
                 drop(lock);
                 Err(fault)
@@ -80,9 +94,9 @@ fn open_index<R: Files<File = File> + AllocGlobal + RandomSource + Threads + Syn
 fn led(
     alloc: Global,
     name: &str,
-    master: Master<FileDevice<File>>,
-    copy: replica::Copy<FileDevice<File>>,
-) -> Result<Shard<FileDevice<File>>, DataFault> {
+    master: Master<LogFile>,
+    copy: replica::Copy<LogFile>,
+) -> Result<Shard<LogFile>, DataFault> {
     match String::from_str(alloc, name) {
         Ok(name) => leading(Shard::over(alloc, name, master, copy)),
         Err(_) => {
@@ -93,7 +107,7 @@ fn led(
     }
 }
 
-fn leading(mut shard: Shard<FileDevice<File>>) -> Result<Shard<FileDevice<File>>, DataFault> {
+fn leading(mut shard: Shard<LogFile>) -> Result<Shard<LogFile>, DataFault> {
     let fault = match shard.lead() {
         Ok(true) => return Ok(shard),
         Ok(false) => DataFault::NotLed,
@@ -122,8 +136,16 @@ where
     O: Write,
     E: Write + Send,
 {
-    let KeptIndex { shard, lock } = kept;
-    let ended = listen(rt, settings, rule, shard, output, errors);
+    let KeptIndex {
+        shard,
+        torn,
+        faults,
+        lock,
+    } = kept;
+    if let Some(torn) = torn {
+        let _ = writeln!(errors, "indexd: {torn}");
+    }
+    let ended = listen(rt, settings, rule, shard, &faults, output, errors);
     drop(lock);
     ended
 }

@@ -6,12 +6,12 @@ use crate::fault::ServeFault;
 use crate::founding::{Founded, Founding};
 use crate::listening::listen_to_group;
 use crate::mapping::fields_of;
-use crate::opening::{Counted, OpeningLine};
+use crate::opening::{Counted, OpeningLine, Told};
 use crate::settings::Settings;
 use cell::IndexName;
 use cluster::{Cluster, ClusterFault, Devices, HandedOut, InMemory, Journals, Open, Unopened};
 use doc::Mapping;
-use folder::{KeptFolder, MappingFile, judge, keep_journals, open_folder};
+use folder::{KeptFolder, LogFile, MappingFile, SumFaults, judge, keep_journals, open_folder};
 use front::Rule;
 use journal::Journal;
 use node::Receipt;
@@ -23,10 +23,10 @@ use std::marker::Brand;
 use std::net::{Net, TcpListener, TcpStream};
 use std::random::RandomSource;
 use std::rt::Files;
-use std::sync::Wait;
+use std::sync::{Arc, Wait};
 use std::thread::Threads;
 use std::time::Clock;
-use translog::{FileDevice, LogDevice};
+use translog::LogDevice;
 
 /// Serves a new index of copies on threads of their own, in memory.
 pub(crate) fn serve_copies<'x, R, O, E>(
@@ -126,7 +126,8 @@ where
         ledgers,
     ) {
         Ok(cluster) => {
-            let served = serve_cluster(rt, wanted, rule, &cluster, output, errors);
+            let faults = SumFaults::new();
+            let served = serve_cluster(rt, wanted, rule, &cluster, &faults, output, errors);
             told_of(rt, wanted, journals_of(rt, cluster, served), output, errors)
         }
         Err(fault) => Err(ServeFault::from(fault)),
@@ -349,9 +350,12 @@ where
     requires name { string_bytes founding.name ≡ J.index.name }
     requires fields { founding.fields ≡ J.index.mapping }
 {
-    match opened(rt, kept, errors, founding.named::<J>()) {
+    let told = Told::shared(rt.alloc())?;
+    let cluster = opened(rt, kept, &told, errors, founding.named::<J>());
+    told.lines.write_waiting(rt, errors);
+    match cluster {
         Ok(mut cluster) => {
-            let served = serve_opened(rt, &kept.wanted, rule, &mut cluster, output, errors);
+            let served = serve_opened(rt, &kept.wanted, rule, &mut cluster, &told, output, errors);
             told_of(
                 rt,
                 &kept.wanted,
@@ -374,9 +378,10 @@ fn has_index<R: Files>(rt: &R, alloc: Global, folder: &str) -> Result<bool, Allo
 fn opened<J, R, E>(
     rt: &R,
     kept: &WantedIn<'_>,
+    told: &Arc<Told, Global>,
     errors: &mut E,
     founded: Founded<J>,
-) -> Result<Cluster<FileDevice<File>, Counted<R>, Open, J>, ServeFault>
+) -> Result<Cluster<LogFile, Counted<R>, Open, J>, ServeFault>
 where
     J: IndexName + Send + Sync + 'static,
     R: Files<File = File>
@@ -399,7 +404,7 @@ where
     } = *kept;
     let Founded { label, ledgers } = founded;
     let line = OpeningLine::of_several(alloc, settings.at_terminal)?;
-    match Counted::new(*rt, alloc, folder, settings.when_synced(), &line) {
+    match Counted::new(*rt, alloc, folder, settings.when_synced(), &line, told) {
         Ok(devices) => {
             let cluster = line.shown_while(rt, errors, || {
                 let copies = settings.copies.max(1).min(5) as u8;
@@ -429,7 +434,8 @@ fn serve_opened<J, R, V, O, E>(
     rt: &R,
     wanted: &Wanted<'_>,
     rule: &Rule,
-    cluster: &mut Cluster<FileDevice<File>, V, Open, J>,
+    cluster: &mut Cluster<LogFile, V, Open, J>,
+    told: &Told,
     output: &mut O,
     errors: &mut E,
 ) -> Result<(), ServeFault>
@@ -445,7 +451,7 @@ where
         + Sync
         + Drop
         + 'static,
-    V: Devices<FileDevice<File>>,
+    V: Devices<LogFile>,
     O: Write,
     E: Write + Send,
 {
@@ -459,7 +465,8 @@ where
     for _ in 0..lacking {
         cluster.allocate(rt)?;
     }
-    serve_cluster(rt, wanted, rule, cluster, output, errors)
+    told.lines.write_waiting(rt, errors);
+    serve_cluster(rt, wanted, rule, cluster, &told.faults, output, errors)
 }
 
 /// Serves copies that are there.
@@ -468,6 +475,7 @@ fn serve_cluster<J, R, D, V, O, E>(
     wanted: &Wanted<'_>,
     rule: &Rule,
     cluster: &Cluster<D, V, Open, J>,
+    faults: &SumFaults,
     output: &mut O,
     errors: &mut E,
 ) -> Result<(), ServeFault>
@@ -488,19 +496,19 @@ where
         label: cluster.label(),
         client: cluster.client(),
     };
-    listen_to_group(rt, wanted.settings, rule, &index, output, errors)
+    listen_to_group(rt, wanted.settings, rule, &index, faults, output, errors)
 }
 
 /// How many copies are to be added, so that there are as many as are wanted.
 fn lacking<J, R, V>(
     rt: &R,
-    cluster: &Cluster<FileDevice<File>, V, Open, J>,
+    cluster: &Cluster<LogFile, V, Open, J>,
     wanted: u64,
 ) -> Result<u64, ServeFault>
 where
     J: IndexName + Send + Sync + 'static,
     R: Wait,
-    V: Devices<FileDevice<File>>,
+    V: Devices<LogFile>,
 {
     let known = cluster.client().state(rt)?;
     let mut lacking = wanted;

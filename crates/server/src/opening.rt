@@ -1,13 +1,15 @@
 //! What is shown while the logs of a folder open.
 
-use cluster::{Devices, InFolder, Syncing};
+use crate::lines::Lines;
+use cluster::{Devices, Gave, InFolder, Syncing};
+use folder::{LogFile, LookFault, SumFaults, Summed, looked_through};
 use op::CopyIds;
 use std::alloc::{AllocError, Global};
 use std::fs::{File, OpenFile};
 use std::io::Write;
 use std::rt::Files;
-use std::sync::Arc;
 use std::sync::atomic::{AtomicBool, AtomicU64, Ordering};
+use std::sync::{Arc, Wait};
 use std::thread::Threads;
 use std::time::{Clock, Duration};
 use std::{fs, thread};
@@ -164,7 +166,24 @@ impl OpeningLine {
     }
 }
 
-/// The files of a folder, which counts the copies whose log is opened.
+/// What is said of logs while they are opened, and whose sums can't be kept.
+#[derive(Drop)]
+pub(crate) struct Told {
+    pub(crate) lines: Lines,
+    pub(crate) faults: Arc<SumFaults, Global>,
+}
+
+impl Told {
+    pub(crate) fn shared(alloc: Global) -> Result<Arc<Told, Global>, AllocError> {
+        let told = Told {
+            lines: Lines::new(alloc)?,
+            faults: Arc::new(alloc, SumFaults::new())?,
+        };
+        Ok(Arc::new(alloc, told)?)
+    }
+}
+
+/// The files of a folder, which counts the copies whose log is opened. Each log is looked through before.
 #[derive(Drop)]
 pub(crate) struct Counted<R> {
     rt: R,
@@ -172,9 +191,11 @@ pub(crate) struct Counted<R> {
     folder: String,
     files: InFolder<R>,
     progress: Arc<Progress, Global>,
+    told: Arc<Told, Global>,
+    gave: Gave,
 }
 
-impl<R: Files<File = File> + AllocGlobal + Copy + Drop> Counted<R> {
+impl<R: Files<File = File> + AllocGlobal + Wait + Copy + Drop> Counted<R> {
     /// The files of a folder; a line shows how many of them are open.
     pub(crate) fn new(
         rt: R,
@@ -182,6 +203,7 @@ impl<R: Files<File = File> + AllocGlobal + Copy + Drop> Counted<R> {
         folder: &str,
         syncing: Syncing,
         line: &OpeningLine,
+        told: &Arc<Told, Global>,
     ) -> Result<Counted<R>, AllocError> {
         Ok(Counted {
             rt,
@@ -189,23 +211,75 @@ impl<R: Files<File = File> + AllocGlobal + Copy + Drop> Counted<R> {
             folder: String::from_str(alloc, folder)?,
             files: InFolder::new(rt, String::from_str(alloc, folder)?, syncing),
             progress: line.progress()?,
+            told: Arc::try_clone(told)?,
+            gave: Gave::new(),
         })
     }
 }
 
-impl<R: Files<File = File> + AllocGlobal + Drop> Devices<FileDevice<File>> for Counted<R> {
-    ghost gave = { λ c. ⟦<InFolder<R> as Devices<FileDevice<File>>>⟧.gave c.files };
-
-    fn device(&mut self, node: u32) -> Result<FileDevice<File>, LogFault> {
-        self.files.device(node)
+impl<R: Files<File = File> + AllocGlobal + Wait + Drop> Counted<R> {
+    /// The log of a node that its device holds, once it is looked through.
+    fn looked(&self, node: u32, device: FileDevice<File>) -> Result<LogFile, LogFault> {
+        if node == 0 {
+            return Ok(Summed::without(device));
+        }
+        let folder = self.folder.as_str();
+        match looked_through(&self.rt, folder, node, device, &self.told.faults) {
+            Ok((log, torn)) => {
+                if let Some(torn) = torn {
+                    self.tell(format!(in self.alloc; "{torn}"));
+                }
+                Ok(log)
+            }
+            Err(fault) => Err(self.refused(node, fault)),
+        }
     }
 
-    fn kept(&mut self, node: u32) -> Result<Option<FileDevice<File>>, LogFault> {
+    /// Says why a log isn't opened, and what that is to those who wanted it.
+    fn refused(&self, node: u32, fault: LookFault) -> LogFault {
+        match fault {
+            LookFault::Damage(damage) => {
+                self.tell(format!(in self.alloc; "copy-{node}.rsx: {damage}"));
+                LogFault::Damaged(damage.offset())
+            }
+            LookFault::TornEnd(offset, error) => {
+                self.tell(format!(in self.alloc;
+                    "copy-{node}.torn-{offset} can't be written: {error}"
+                ));
+                LogFault::Device
+            }
+            LookFault::NoMemory => LogFault::NoMemory,
+        }
+    }
+
+    fn tell(&self, line: Result<String, AllocError>) {
+        if let Ok(line) = line {
+            self.told.lines.push(&self.rt, line);
+        }
+    }
+}
+
+impl<R: Files<File = File> + AllocGlobal + Wait + Drop> Devices<LogFile> for Counted<R> {
+    ghost gave = { λ c. c.gave };
+
+    fn device(&mut self, node: u32) -> Result<LogFile, LogFault> {
+        let device = self.files.device(node)?;
+        let log = self.looked(node, device)?;
+        Ok(self.gave.note(node, log))
+    }
+
+    fn kept(&mut self, node: u32) -> Result<Option<LogFile>, LogFault> {
         if node > 0 {
             let bytes = size_of(&self.rt, self.alloc, self.folder.as_str(), node);
             self.progress.go_on(bytes);
         }
-        self.files.kept(node)
+        match self.files.kept(node)? {
+            Some(device) => {
+                let log = self.looked(node, device)?;
+                Ok(Some(self.gave.note(node, log)))
+            }
+            None => Ok(None),
+        }
     }
 
     fn will_open(&mut self, copies: &CopyIds) {

@@ -9,7 +9,7 @@ use crate::mapping::{in_memory, mapping_of};
 use crate::members::{serve_copies, serve_kept_copies};
 use crate::settings::{Settings, check};
 use cluster::Syncing;
-use folder::{DataFault, MappingFile};
+use folder::{DataFault, MappingFile, SumFaults};
 use front::Rule;
 use std::fs::File;
 use std::io::Write;
@@ -122,7 +122,7 @@ where
         return serve_copies(rt, settings, rule, mapping, output, errors);
     }
     match in_memory(rt, settings.index, mapping) {
-        Ok(shard) => listen(rt, settings, rule, shard, output, errors),
+        Ok(shard) => listen(rt, settings, rule, shard, &SumFaults::new(), output, errors),
         Err(fault) => Err(fault),
     }
 }

@@ -287,6 +287,12 @@ fn dump_command<'a>(alloc: Global) -> Result<Command<'a>, AllocError> {
         "mapping",
         "Writes the mapping, on one line, and no documents",
     )?;
+    let command = with_flag(
+        alloc,
+        command,
+        "damaged",
+        "Writes what is whole of a damaged log, and says what is left out",
+    )?;
     with_parts(alloc, command)
 }
 

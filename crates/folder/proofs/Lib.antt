@@ -1,0 +1,2 @@
+-- For proofs alone.
+pub mod Frames
