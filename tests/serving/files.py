@@ -150,7 +150,7 @@ def modes(mask, copies, top):
     there.chmod(0o755)
     mapping.write_bytes(b'{"properties":{"n":{"type":"long"}}}')
     mapping.chmod(0o644)
-    logs = [f"copy-{it + 1}.rsx" for it in range(copies)]
+    logs = [f"copy-{it + 1}.{end}" for it in range(copies) for end in ("rsx", "sum")]
     for folder, mode in ((top / "new", "700"), (there, "755")):
         for words in (("--copies", copies, "--mapping", mapping), ()):
             with umasked(mask):
