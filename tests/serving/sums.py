@@ -157,7 +157,7 @@ def made_again(folder, log):
     whole = entries_of(log)
     for name, left in (("no sums", None), ("no whole sum", whole[:5]), ("one sum", whole[:ENTRY]), ("one and a half", whole[:ENTRY + 3]), ("a first sum of zeros", bytes(ENTRY) + whole[ENTRY:]),
                        ("a damaged sum", flipped(whole, 70))):
-        (folder / "copy-1.sum").unlink()
+        (folder / "copy-1.sum").unlink(missing_ok=True)
         if left is not None:
             (folder / "copy-1.sum").write_bytes(left)
         with Server("--data", folder) as server:
