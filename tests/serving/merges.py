@@ -134,11 +134,10 @@ def stay_few():
 
 
 def filled(client, many, size):
-    """Fills an index with bulks of so many documents each, which no request refreshes, and returns how many documents it has."""
+    """Fills an index with so many bulks of this size, each of which makes a segment, and returns how many documents it has."""
     for first in range(0, many * size, size):
         lines = b"".join(b'{"index":{"_id":"%d"}}\n{}\n' % it for it in range(first, first + size))
-        client.ask(b"POST /books/_bulk HTTP/1.1\r\ncontent-length: %d\r\n\r\n%s" % (len(lines), lines))
-    client.ask(b"POST /books/_refresh HTTP/1.1\r\n\r\n")
+        client.ask(b"POST /books/_bulk?refresh=true HTTP/1.1\r\ncontent-length: %d\r\n\r\n%s" % (len(lines), lines))
     return many * size
 
 
@@ -147,15 +146,15 @@ def at_rest():
     deep = b'POST /books/_search HTTP/1.1\r\ncontent-length: 13\r\n\r\n{"from":9000}'
     for copies in (1, 2):
         times = []
-        for many, refresh in ((1, 0), (24, 50)):
+        for many, refresh in ((1, 0), (16, 200)):
             with Server("--copies", copies, "--refresh-ms", refresh) as server, Client(server) as client:
-                documents = filled(client, many, 24_000 // many)
+                documents = filled(client, many, 16_000 // many)
                 until = time.monotonic() + 10
                 times.append(took(server, documents, deep, 50))
                 while many > 1 and times[-1] > 2 * times[0] and time.monotonic() < until:
                     times[-1] = took(server, documents, deep, 50)
         alone, merged = times
-        check(f"{copies} copies: how long a deep page takes at rest behind 24 bulks", "" if merged <= 2 * alone else f"{merged * 1_000:.2f} ms, and {alone * 1_000:.2f} ms in one segment")
+        check(f"{copies} copies: how long a deep page takes at rest after 16 bulks", "" if merged <= 2 * alone else f"{merged * 1_000:.2f} ms, and {alone * 1_000:.2f} ms in one segment")
 
 
 def lone_writes():
