@@ -1,5 +1,5 @@
 -- What queries mean beside one another.
-use Rattle.std.proofs.Common.{◌≡◌, ℕ, suc, ◌+◌, Bool, true, false, not, ◌&&◌, ◌||◌, if◌then◌else◌, List, [], ◌∷◌, length, map, Option, Some, refl, ap, ◌∙◌, arith, IsTrue}
+use Rattle.std.proofs.Common.{◌≡◌, ℕ, ◌+◌, Bool, true, false, not, ◌&&◌, ◌||◌, if◌then◌else◌, List, [], ◌∷◌, length, Some, refl, ap, ◌∙◌, arith, IsTrue}
 use Rattle.std.specs.Prelude.{nat_lt, nat_le}
 use Rattle.std.specs.List.{list_any, list_all}
 use Rattle.std.proofs.lemmas.Bool.Decides.{nat_tests}
@@ -9,7 +9,7 @@ use Rattle.doc.specs.Scalar.{Scalar, is_scalar}
 use Rattle.doc.specs.Document.{Values, values_at}
 use Rattle.query.specs.Laws.{unbounded, only_must, only_filter, only_must_not, either, both}
 use Rattle.query.specs.Meaning.{matches, has_tokens}
-use Rattle.terms.specs.Terms.{terms_at, terms_by, has, is_one_of, is_within}
+use Rattle.terms.specs.Terms.{terms_by, has, is_one_of, is_within}
 use Rattle.query.specs.Query.{Query, range, exists}
 use Rattle.query.specs.declared.query.Operator.TheVariants.{Or, And}
 

@@ -1,5 +1,5 @@
 -- How large a query is that was read.
-use Rattle.std.proofs.Common.{◌≡◌, ℕ, zero, suc, ◌+◌, ◌-◌, ◌≤◌, max, Bool, true, false, List, [], ◌∷◌, length, Option, Some, None, Result, Ok, Err, refl, sym, ap, subst, ◌∙◌, arith, codes}
+use Rattle.std.proofs.Common.{◌≡◌, ℕ, zero, suc, ◌+◌, ◌-◌, ◌≤◌, Bool, true, false, List, [], ◌∷◌, Option, Some, None, Result, Ok, Err, refl, subst, arith, codes}
 use Rattle.std.specs.Prelude.{IfOk, ◌==◌, if◌then◌else◌}
 use Rattle.std.specs.List.{list_all}
 use Rattle.std.specs.Str.{bytes_eq}
@@ -15,8 +15,8 @@ use Rattle.doc.specs.Scalar.{Scalar, text, long, flag}
 use Rattle.query.specs.declared.query.Operator.{Operator}
 use Rattle.query.specs.Fault.{Fault, too_many_clauses}
 use Rattle.query.specs.Leaves.{scalar_of, match_all_of, term_at, term_of, terms_at, terms_of, match_at, match_of, operator_in, prefix_with, prefix_at, prefix_of, WrittenBounds, written_in, bound_at, bounds_at, range_at, range_of, exists_at, exists_of, leaf_of, few}
-use Rattle.query.specs.Query.{Query, Queries, match_all, queries_of, clauses, clauses_in, depth, depth_of}
-use Rattle.query.specs.Reading.{thread, parts_of, bool_of, and_left, named_query, query_at, query_of, max_depth, max_clauses}
+use Rattle.query.specs.Query.{Query, match_all, queries_of, clauses, clauses_in, depth, depth_of}
+use Rattle.query.specs.Reading.{thread, parts_of, bool_of, named_query, query_at, query_of, max_depth, max_clauses}
 use Rattle.query.specs.Shape.{only_of, items_in, text_in, value_of, required, named, check, is_value, is_value_key, is_field_key}
 
 -- ---- what holds of the answer of a chain

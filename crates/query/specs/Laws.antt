@@ -1,6 +1,6 @@
 -- Queries that the laws speak of.
 use Rattle.std.specs.Prelude.{None}
-use Rattle.query.specs.Query.{Query, Queries, bool, none, more}
+use Rattle.query.specs.Query.{Query, bool, none, more}
 use Rattle.terms.specs.Bounds.{Bounds}
 
 -- a `bool` with this one clause

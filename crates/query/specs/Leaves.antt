@@ -1,5 +1,5 @@
 -- Queries without parts: what a JSON value reads as, or its fault.
-use Rattle.std.specs.Prelude.{ℕ, Bool, false, ◌||◌, List, length, codes, Option, Some, None, Result, Ok, Err, nat_lt, if◌then◌else◌, ⊤}
+use Rattle.std.specs.Prelude.{ℕ, false, ◌||◌, List, length, codes, Option, Some, None, Result, Ok, Err, nat_lt, if◌then◌else◌, ⊤}
 use Rattle.std.specs.List.{list_all}
 use Rattle.std.specs.Str.{bytes_eq}
 use Rattle.serde_json.specs.Data.{Data, null, boolean, number, string, array, object}
@@ -12,6 +12,7 @@ use Rattle.doc.specs.Outcome.{◌>>=◌, try_map}
 use Rattle.doc.specs.Scalar.{Scalar, text, long, flag, Converted, wrong, nothing as no_value, value, converted}
 use Rattle.query.specs.declared.query.Operator.{Operator}
 use Rattle.query.specs.declared.query.Operator.TheVariants.{Or, And}
+use Rattle.query.specs.Distinct.{distinct}
 use Rattle.query.specs.Fault.{Fault, parsing, too_many_clauses, wrong_kind}
 use Rattle.terms.specs.Terms.{terms_of_value}
 use Rattle.query.specs.Query.{Query, match_all, nothing, term, terms, match_tokens, prefix, range, exists}
@@ -50,11 +51,12 @@ term_of m d = do
 
 -- ---- terms
 
+-- each value once
 abbrev pub terms_at : List ℕ → Option Kind → List Data → Result Query Fault
 terms_at field None ds = Ok nothing
 terms_at field (Some k) ds = do
   vs ← try_map (scalar_of field k) ds
-  Ok (terms field vs)
+  Ok (terms field (distinct vs))
 
 -- at most 65,536 values
 abbrev pub few : List Data → Result ⊤ Fault
@@ -78,7 +80,7 @@ abbrev pub operator_of : Option Data → Result Operator Fault
 operator_of None = Ok Or
 operator_of (Some d) = text_in d >>= operator_named
 
--- on a text field the tokens of the value; on others as `term`
+-- on a text field the tokens of the value, each once; on others as `term`
 abbrev pub match_at : List ℕ → Operator → Option Kind → Data → Result Query Fault
 match_at field operator None d = Ok nothing
 match_at field operator (Some Keyword) d = term_at field (Some Keyword) d
@@ -86,7 +88,7 @@ match_at field operator (Some Long) d = term_at field (Some Long) d
 match_at field operator (Some Boolean) d = term_at field (Some Boolean) d
 match_at field operator (Some Text) d = do
   v ← scalar_of field Text d
-  Ok (match_tokens field operator (terms_of_value v))
+  Ok (match_tokens field operator (distinct (terms_of_value v)))
 
 -- the operator of a long form; a short form has none
 abbrev pub operator_in : Data → Result Operator Fault

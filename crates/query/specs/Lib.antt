@@ -5,6 +5,8 @@ pub mod View
 pub mod Meaning
 pub mod Shape
 pub mod Keys
+pub mod Distinct
+pub mod SeenView
 pub mod Leaves
 pub mod LeavesView
 pub mod Reading

@@ -7,10 +7,12 @@ ghost use Rattle.doc.specs.Fields.{kind_at};
 ghost use Rattle.doc.specs.Mapping.{MappingData};
 ghost use Rattle.doc.specs.Scalar.{Scalar};
 ghost use Rattle.doc.specs.declared.mapping.Kind.TheVariants.{Long};
+ghost use Rattle.query.specs.Distinct.{distinct};
 ghost use Rattle.query.specs.Laws.{unbounded, only_must, only_filter, only_must_not, either, both};
 ghost use Rattle.query.specs.Meaning.{means};
 ghost use Rattle.query.specs.Query.{Query, term, terms, match_tokens, range, exists, clauses, depth};
 ghost use Rattle.query.specs.Reading.{query_of};
+ghost use Rattle.query.specs.declared.query.Operator.{Operator};
 ghost use Rattle.query.specs.declared.query.Operator.TheVariants.{Or, And};
 
 /// A document is found by `must_not` exactly where it isn't found by the query.
@@ -44,6 +46,12 @@ pub fn no_token_finds_nothing()
 /// `terms` finds what `term` finds with one of the values.
 pub fn terms_are_the_union_of_term()
     ensures { (m : MappingData) (source field : List ℕ) (vs : List Scalar) → means m source (terms field vs) ≡ list_any (λ v. means m source (term field v)) vs }
+{}
+
+/// A value of `terms`, or a token of `match`, that stands twice counts once.
+pub fn a_value_counts_once()
+    ensures terms { (m : MappingData) (source field : List ℕ) (vs : List Scalar) → means m source (terms field (distinct vs)) ≡ means m source (terms field vs) }
+    ensures tokens { (m : MappingData) (source field : List ℕ) (operator : Operator) (vs : List Scalar) → means m source (match_tokens field operator (distinct vs)) ≡ means m source (match_tokens field operator vs) }
 {}
 
 /// A `range` without bounds on a long is `exists`.

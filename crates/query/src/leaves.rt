@@ -14,6 +14,7 @@ ghost use Rattle.query.specs.View.{query_view};
 
 use crate::fault::QueryFault;
 use crate::query::{Operator, Query};
+use crate::seen::distinct;
 use crate::shape::{
     Keys, bad_at, check_keys, is_value, items_in, only_of, required, text_in, value_of,
 };
@@ -134,7 +135,7 @@ fn terms_at(
     let Some(kind) = kind else {
         return Ok(Query::Nothing);
     };
-    let values = scalars_of(alloc, field, kind, values)?;
+    let values = distinct(alloc, scalars_of(alloc, field, kind, values)?)?;
     Ok(Query::Terms(String::from_str(alloc, field)?, values))
 }
 
@@ -196,7 +197,7 @@ fn match_at(
         None => Ok(Query::Nothing),
         Some(Kind::Text) => {
             let text = scalar_of(alloc, field, Kind::Text, value)?;
-            let tokens = terms_of_value(alloc, &text)?;
+            let tokens = distinct(alloc, terms_of_value(alloc, &text)?)?;
             let field = String::from_str(alloc, field)?;
             Ok(Query::Match(field, operator, tokens))
         }

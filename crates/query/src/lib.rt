@@ -10,6 +10,7 @@ pub mod meaning;
 pub mod page;
 pub mod query;
 pub mod reading;
+mod seen;
 mod shape;
 
 pub use body::{CountBody, SearchBody};
