@@ -1,9 +1,13 @@
 """./indexd: which program it runs, and what it says of a first build."""
+import contextlib
 import os
 import re
 import shutil
+import signal
+import socket
 import subprocess
 import tempfile
+import time
 from pathlib import Path
 
 from checking import NAMED, ROOT, check, program
@@ -20,10 +24,50 @@ def launcher():
     check("./indexd and a status of 1", not_one_complaint(run(["replay", "missing.script"], **how)))
     ran = run([], **how)
     check("./indexd and a status of 2", "" if ran.returncode == 2 else f"got {ran.returncode}")
+    ends()
     with tempfile.TemporaryDirectory() as folder:
         tree = tree_without_sources(Path(folder))
         released(tree)
         first_build(tree)
+
+
+def ends():
+    """A server that ./indexd runs ends in order at a signal, though a connection is idle, and at once at a second one, though a page isn't read."""
+    for name, one in (("SIGTERM", signal.SIGTERM), ("SIGINT", signal.SIGINT)):
+        with launched() as (process, port), socket.create_connection(("127.0.0.1", port)) as idle:
+            process.send_signal(one)
+            check(f"./indexd serve at {name}", "" if process.wait(30) == 0 and idle.recv(1) == b"" else f"status {process.returncode}")
+    with launched() as (process, port), socket.create_connection(("127.0.0.1", port)) as reader:
+        source = b'{"t":"%s"}' % (b"x" * 60_000)
+        for number in range(400):
+            reader.sendall(b"PUT /index/_doc/%d HTTP/1.1\r\ncontent-length: %d\r\n\r\n%s" % (number, len(source), source))
+            reader.recv(65536)
+        reader.sendall(b"POST /index/_refresh HTTP/1.1\r\n\r\n")
+        reader.recv(65536)
+        reader.sendall(b'POST /index/_search HTTP/1.1\r\ncontent-length: 14\r\n\r\n{"size":10000}')
+        reader.recv(1)
+        process.send_signal(signal.SIGTERM)
+        time.sleep(0.5)
+        goes_on = process.poll() is None
+        process.send_signal(signal.SIGTERM)
+        check("./indexd serve at a second signal", "" if goes_on and process.wait(10) == 137 else f"status {process.poll()}, {goes_on}")
+
+
+@contextlib.contextmanager
+def launched():
+    """A server by ./indexd, and its port."""
+    with socket.socket() as taken:
+        taken.bind(("127.0.0.1", 0))
+        port = taken.getsockname()[1]
+    words = [str(ROOT / "indexd"), "serve", "--port", str(port), "--refresh-ms", "0"]
+    # (a background process of a shell ignores SIGINT, and so may this one)
+    process = subprocess.Popen(words, stdin=subprocess.DEVNULL, stdout=subprocess.PIPE, stderr=subprocess.DEVNULL, preexec_fn=lambda: signal.signal(signal.SIGINT, signal.SIG_DFL))
+    try:
+        process.stdout.readline()
+        yield process, port
+    finally:
+        process.kill()
+        process.communicate()
 
 
 # In place of the kit's command: its own crates.txt gives the tasks, each of which ends with status 3 where FAILS names its crate, and the last one's program is ours.

@@ -14,12 +14,6 @@ use Rattle.front.specs.Serving.{Begun}
 use Rattle.clients.specs.Talk.{Talk}
 use Rattle.clients.specs.Steps.{Answers, Breaks, standing}
 
-pub drop_past : (n : ℕ) (xs : List ℕ) → length xs ≤ n → drop n xs ≡ []
-drop_past zero [] h = refl
-drop_past zero (x ∷ xs) h = absurd (omega arith)
-drop_past (suc n) [] h = refl
-drop_past (suc n) (x ∷ xs) h = drop_past n xs (omega arith)
-
 -- no request stands whole
 pub no_more : {K : Type 0} (old : Talk K) (slice : List ℕ) (left : Option (List ℕ)) (w : Option Whole) → old.ended ≡ false → slice ≡ old.waiting → w ≡ None → IsRead (first slice) w left → standing old ≡ []
 no_more old slice left w going same is r =

@@ -1,5 +1,5 @@
 -- A conversation as its bytes, and what its client knows.
-use Rattle.std.specs.Prelude.{ℕ, List, [], drop, Bool, false, Option, None, string_bytes}
+use Rattle.std.specs.Prelude.{ℕ, List, [], Bool, false, Option, None}
 use Rattle.clients.specs.declared.conversation.Conversation.{Conversation}
 
 -- the bytes that were received and aren't answered, the bytes of pages that aren't sent, whether nothing is answered any more, and what the client knows of the
@@ -11,7 +11,7 @@ pub record Talk (K : Type 0) : Type 0 where
   pub known : Option K
 
 abbrev pub talk : {K : Type 0} → Conversation K → Talk K
-talk c = record { waiting = c.waiting.items; unsent = drop c.sent (string_bytes c.page); ended = c.ended; known = c.known }
+talk c = record { waiting = c.waiting.items; unsent = c.page; ended = c.ended; known = c.known }
 
 abbrev pub begun : {K : Type 0} → Talk K
 begun = record { waiting = []; unsent = []; ended = false; known = None }

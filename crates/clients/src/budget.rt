@@ -1,6 +1,7 @@
 //! Room for the bytes of unfinished requests, handed out in turn.
 
-use crate::limits::{LONGEST_REQUEST, SHARE};
+use crate::kinds::Kind;
+use crate::limits::{LONGEST_REQUEST, Limits, SHARE};
 use std::alloc::{AllocError, Global};
 use std::collections::VecDeque;
 
@@ -47,19 +48,33 @@ impl Places {
     }
 }
 
-/// One half of the room is for small shares, the other for tickets. A ticket is room for the longest request.
+/// One half of the room is for small shares, the other for tickets. A ticket is room for the longest request. There are so many places for requests that may
+/// wait, and for dear searches.
 #[derive(Drop)]
 pub(crate) struct Budget {
     pub(crate) shares: Places,
     pub(crate) tickets: Places,
+    writes: Places,
+    dear: Places,
 }
 
 impl Budget {
-    pub(crate) fn new(alloc: Global, bytes: u64) -> Budget {
-        let half = bytes as usize / 2;
+    pub(crate) fn new(alloc: Global, limits: &Limits) -> Budget {
+        let half = limits.bytes as usize / 2;
         Budget {
             shares: Places::new(alloc, half / SHARE),
             tickets: Places::new(alloc, half / LONGEST_REQUEST),
+            writes: Places::new(alloc, limits.waiting()),
+            dear: Places::new(alloc, limits.dear()),
+        }
+    }
+
+    /// The places for requests of this kind, if these are limited.
+    pub(crate) fn of(&mut self, kind: Kind) -> Option<&mut Places> {
+        match kind {
+            Kind::Write => Some(&mut self.writes),
+            Kind::Dear => Some(&mut self.dear),
+            Kind::Light | Kind::Search => None,
         }
     }
 }

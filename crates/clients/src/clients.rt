@@ -4,7 +4,7 @@ use crate::connection::{Connection, Next};
 use crate::limits::{Limits, ROOM, SWEEP};
 use crate::noting::{Notes, Noting};
 use crate::poller::{LISTENER, Poller};
-use crate::table::{Job, Table};
+use crate::table::{Given, Job, Table};
 use crate::watcher::Watcher;
 use front::{Command, Reply, Resumable, Rule, Service};
 use mio::net::TcpStream;
@@ -26,11 +26,10 @@ const MANY: u64 = 2_048;
 /// The most connections that are accepted before the open ones are looked at.
 const MOST_ACCEPTED: u64 = 256;
 
-/// The next connection that is ready, whether no other is open, and whether others are ready.
+/// The next connection that is ready, and whether others are ready.
 #[derive(Drop)]
 struct NextJob<K: Drop> {
     job: Job<K>,
-    alone: bool,
     others: bool,
 }
 
@@ -45,6 +44,7 @@ pub struct Clients<'w, W: Watcher, K: Drop> {
     table: Mutex<Table<K>>,
     waker: Waker,
     all_begun: AtomicBool,
+    ending: AtomicBool,
     ended: AtomicBool,
     notes: Notes,
 }
@@ -61,6 +61,7 @@ impl<'w, W: Watcher, K: Drop> Drop for Clients<'w, W, K> {
             table: _table,
             waker: _waker,
             all_begun: _all_begun,
+            ending: _ending,
             ended: _ended,
             notes: _notes,
         } = self;
@@ -78,7 +79,6 @@ impl<'w, W: Watcher, K: Drop> Clients<'w, W, K> {
         watcher: &'w W,
     ) -> io::Result<Clients<'w, W, K>> {
         let (poller, waker) = Poller::new(rt, alloc, listener)?;
-        let idle = limits.idle.saturating_mul(1000);
         Ok(Clients {
             alloc,
             limits,
@@ -86,9 +86,10 @@ impl<'w, W: Watcher, K: Drop> Clients<'w, W, K> {
             watcher,
             started: Instant::now(rt).ok(),
             poller: Mutex::new(poller),
-            table: Mutex::new(Table::new(alloc, limits.bytes, idle)),
+            table: Mutex::new(Table::new(alloc, &limits)),
             waker,
             all_begun: AtomicBool::new(limits.connections == Some(0)),
+            ending: AtomicBool::new(false),
             ended: AtomicBool::new(limits.connections == Some(0)),
             notes: Notes::new(),
         })
@@ -129,7 +130,6 @@ impl<'w, W: Watcher, K: Drop> Clients<'w, W, K> {
             service,
             notes: &self.notes,
             lead: None,
-            alone: false,
         };
         let worked = self.serve(rt, &mut service);
         self.end();
@@ -181,10 +181,10 @@ impl<'w, W: Watcher, K: Drop> Clients<'w, W, K> {
     /// Ends a connection.
     fn close<R: Wait>(&self, rt: &R, job: Job<K>, now: u64) {
         let Job { place, connection } = job;
-        let (share, ticket) = (connection.has_share, connection.has_ticket);
+        let (given, charged) = (Given::all_of(&connection), connection.charged);
         drop(connection);
         let mut table = self.table.lock(rt);
-        table.end(place, share, ticket, now);
+        table.end(place, given, charged, now);
         let open = table.open();
         drop(table);
         self.end_behind_last(open);
@@ -203,7 +203,7 @@ impl<'w, W: Watcher, K: Drop> Clients<'w, W, K> {
     }
 
     /// Waits for all connections. Only one thread at a time does this: it has the lead. If only one connection is ready, this thread works on it itself, and
-    /// gives the lead up only before a command that would hold up the others, since handing the lead on costs more than a get.
+    /// gives the lead up only before a command that may take long, since handing the lead on costs more than a get.
     fn lead<'a, R: Wait + Clock, S: Resumable<Known = K>>(
         &'a self,
         rt: &R,
@@ -216,7 +216,7 @@ impl<'w, W: Watcher, K: Drop> Clients<'w, W, K> {
                 return Ok(());
             }
             self.look(rt, &mut poller)?;
-            let Some(NextJob { job, alone, others }) = self.next_of(rt) else {
+            let Some(NextJob { job, others }) = self.next_of(rt) else {
                 continue;
             };
             if others {
@@ -224,7 +224,6 @@ impl<'w, W: Watcher, K: Drop> Clients<'w, W, K> {
                 self.work(rt, job, service, room);
                 return Ok(());
             }
-            service.alone = alone;
             service.lead = Some(poller);
             self.work(rt, job, service, room);
             match service.lead.take() {
@@ -240,7 +239,6 @@ impl<'w, W: Watcher, K: Drop> Clients<'w, W, K> {
         let job = table.next()?;
         Some(NextJob {
             job,
-            alone: table.open() == 1,
             others: table.is_ready(),
         })
     }
@@ -318,10 +316,27 @@ impl<'w, W: Watcher, K: Drop> Clients<'w, W, K> {
     }
 
     fn has_all(&self, poller: &Poller) -> bool {
+        if self.all_begun.load(Ordering::SeqCst) {
+            return true;
+        }
         match self.limits.connections {
             Some(most) => poller.begun >= most,
             None => false,
         }
+    }
+
+    /// Ends in order, if that is wanted: no connection is accepted any more, and each one ends once its requests that came whole are answered.
+    fn end_in_order<R: Wait>(&self, rt: &R) {
+        if !self.watcher.is_to_end() || self.ending.swap(true, Ordering::SeqCst) {
+            return;
+        }
+        self.all_begun.store(true, Ordering::SeqCst);
+        let mut table = self.table.lock(rt);
+        table.end_all();
+        let open = table.open();
+        drop(table);
+        let _ = self.waker.wake();
+        self.end_behind_last(open);
     }
 
     /// Accepts no more connections: all that the server is to serve have begun.
@@ -355,7 +370,7 @@ impl<'w, W: Watcher, K: Drop> Clients<'w, W, K> {
         let mut table = self.table.lock(rt);
         match connection {
             Ok(connection) if registered.is_ok() => table.start(place, connection),
-            _ => table.end(place, false, false, now),
+            _ => table.end_unbegun(place, now),
         }
     }
 
@@ -374,9 +389,9 @@ impl<'w, W: Watcher, K: Drop> Clients<'w, W, K> {
     }
 
     /// Refreshes the index again and again until the server has ended: each time that its time is over, or `MANY` writes came. The first time that nothing came it rests.
-    fn refresh_in_turn<C: Clock, P: Fn() -> bool, B: Fn() -> bool, E: Fn()>(
+    fn refresh_in_turn<R: Wait + Clock, P: Fn() -> bool, B: Fn() -> bool, E: Fn()>(
         &self,
-        clock: &C,
+        rt: &R,
         show_more: &P,
         refresh: &B,
         rest: &E,
@@ -385,18 +400,20 @@ impl<'w, W: Watcher, K: Drop> Clients<'w, W, K> {
         requires refresh { B.Fn.pre refresh.now tt }
         requires rest { E.Fn.pre rest.now tt }
     {
-        if self.limits.refresh == 0 {
-            return;
-        }
         let mut is_resting = true;
-        let mut left = self.limits.refresh;
+        let mut left = self.limits.refresh.max(1);
         for _ in 0..u64::MAX {
             if self.ended.load(Ordering::SeqCst) {
                 return;
             }
+            self.end_in_order(rt);
             let tick = left.min(TICK);
-            thread::sleep(clock, Duration::from_millis(tick));
+            thread::sleep(rt, Duration::from_millis(tick));
             left -= tick;
+            if self.limits.refresh == 0 {
+                left = TICK;
+                continue;
+            }
             if left == 0 || self.notes.written.load(Ordering::SeqCst) >= MANY {
                 let was_written = self.refresh_once(show_more, refresh);
                 if !was_written && !is_resting {

@@ -1,7 +1,10 @@
 //! One connection: what it does when something may have come, and when it has waited for too long.
 
 use crate::conversation::Conversation;
-use crate::limits::{LINGER, LONGEST_REQUEST, MOST_LINGERING, PATIENCE, SHARE, STEPS_IN_A_ROW};
+use crate::kinds::{Kind, kind_of};
+use crate::limits::{
+    LEAST_AT_ONCE, LINGER, LONGEST_REQUEST, MOST_LINGERING, PATIENCE, SHARE, STALL, STEPS_IN_A_ROW,
+};
 use crate::progress::Progress;
 use crate::watcher::Watcher;
 use front::{Resumable, Rule};
@@ -19,6 +22,10 @@ pub(crate) enum Next {
     Goes,
     /// It needs room for a large request.
     Wants,
+    /// It needs a place among the requests of this kind.
+    WantsTurn(Kind),
+    /// It needs room for a page.
+    WantsPage,
     Ended,
 }
 
@@ -28,6 +35,8 @@ pub(crate) enum Held {
     Free,
     ForShare,
     ForTicket,
+    ForTurn(Kind),
+    ForPage,
 }
 
 /// What a connection does now. Its deadline depends on this.
@@ -52,10 +61,24 @@ pub(crate) struct Connection<K: Drop> {
     lingers: Option<usize>,
     phase: Phase,
     since: u64,
+    /// When the time of what it does now is over.
+    until: u64,
     pub(crate) deadline: u64,
     pub(crate) held: Held,
     pub(crate) has_share: bool,
     pub(crate) has_ticket: bool,
+    /// Its place among the requests of a kind.
+    pub(crate) turn: Option<Kind>,
+    /// How much of the room for pages it has, in bytes.
+    pub(crate) charged: u64,
+    /// Whether so many connections are open that places are limited.
+    pub(crate) is_crowded: bool,
+    /// Whether there is room for a page.
+    pub(crate) has_page_room: bool,
+    /// Whether it ends once the requests that came whole are answered.
+    pub(crate) ends: bool,
+    /// How much of a large request had come when it was last looked at whether it goes on.
+    brought: usize,
     pub(crate) closed: bool,
     pub(crate) expired: bool,
 }
@@ -77,10 +100,17 @@ impl<K: Drop> Connection<K> {
             lingers: None,
             phase: Phase::Idle,
             since: 0,
+            until: deadline,
             deadline,
             held: Held::Free,
             has_share: false,
             has_ticket: false,
+            turn: None,
+            charged: 0,
+            is_crowded: false,
+            has_page_room: true,
+            ends: false,
+            brought: 0,
             closed: false,
             expired: false,
         }
@@ -100,6 +130,9 @@ impl<K: Drop> Connection<K> {
         self.drained = false;
         for _ in 0..STEPS_IN_A_ROW {
             let next = self.step(rule, service, watcher, room);
+            if next == Next::Waits && self.ends && self.conversation.is_sent() {
+                return Next::Ended;
+            }
             if next != Next::Goes {
                 return next;
             }
@@ -122,9 +155,33 @@ impl<K: Drop> Connection<K> {
             return self.linger(room);
         }
         if self.progress.may_stand(self.conversation.waiting()) {
-            return self.answer(rule, service, watcher);
+            return match self.wanted() {
+                Some(next) => next,
+                None => self.answer(rule, service, watcher),
+            };
         }
         self.gather(room)
+    }
+
+    /// What the next request has to wait for before it is answered.
+    fn wanted(&self) -> Option<Next> {
+        if !self.is_crowded && self.has_page_room {
+            return None;
+        }
+        let kind = kind_of(self.conversation.waiting());
+        if !self.has_page_room && kind.is_search() {
+            return Some(Next::WantsPage);
+        }
+        let is_limited = kind == Kind::Write || kind == Kind::Dear;
+        if self.is_crowded && is_limited && self.turn != Some(kind) {
+            return Some(Next::WantsTurn(kind));
+        }
+        None
+    }
+
+    /// How many bytes the page has for itself that isn't sent yet.
+    pub(crate) fn weight(&self) -> u64 {
+        self.conversation.weight() as u64
     }
 
     fn send(&mut self) -> Next {
@@ -213,6 +270,17 @@ impl<K: Drop> Connection<K> {
         }
     }
 
+    /// Takes what it waited for.
+    pub(crate) fn take(&mut self, held: Held) {
+        match held {
+            Held::ForShare => self.has_share = true,
+            Held::ForTicket => self.has_ticket = true,
+            Held::ForTurn(kind) => self.turn = Some(kind),
+            Held::ForPage | Held::Free => {}
+        }
+        self.held = Held::Free;
+    }
+
     /// Whether it has no byte of an unfinished request.
     pub(crate) fn is_empty(&self) -> bool {
         self.conversation.waiting().is_empty()
@@ -227,16 +295,31 @@ impl<K: Drop> Connection<K> {
     pub(crate) fn rest(&mut self, now: u64, idle: u64) {
         let phase = self.phase_now();
         if phase == self.phase && self.answered == self.since {
+            self.go_on(now);
             return;
         }
+        self.brought = 0;
         self.phase = phase;
         self.since = self.answered;
-        self.deadline = match phase {
+        self.until = match phase {
             Phase::Idle => now.saturating_add(idle),
             Phase::Receiving | Phase::Sending => now.saturating_add(PATIENCE),
             Phase::Lingering => now.saturating_add(LINGER),
             Phase::Held => u64::MAX,
         };
+        self.deadline = self.until;
+    }
+
+    /// Lets a large request go on only as long as its bytes come.
+    fn go_on(&mut self, now: u64) {
+        if self.phase != Phase::Receiving || !self.has_ticket {
+            return;
+        }
+        let came = self.conversation.waiting().len();
+        if self.brought == 0 || came >= self.brought.saturating_add(LEAST_AT_ONCE) {
+            self.brought = came;
+            self.deadline = self.until.min(now.saturating_add(STALL));
+        }
     }
 
     fn phase_now(&self) -> Phase {

@@ -2,7 +2,7 @@
 ghost use Rattle.std.specs.Prelude.{◌≡◌, ◌↔◌, [], IsTrue, OnOk, OnErr, IfOk};
 ghost use Rattle.front.specs.RuleView.{rule_view};
 
-use front::{Resumable, Rule, answer_by};
+use front::{Resumable, Rule, Unsent, answer_by};
 use std::alloc::{AllocError, Global};
 use std::io;
 use std::io::{Read, Write};
@@ -12,8 +12,7 @@ use wire::{StreamFault, Whole, read_request};
 pub struct Conversation<K: Drop> {
     alloc: Global,
     waiting: Vec<u8>,
-    page: String,
-    sent: usize,
+    page: Unsent,
     ended: bool,
     known: Option<K>,
 }
@@ -24,7 +23,6 @@ impl<K: Drop> Drop for Conversation<K> {
             alloc: _,
             waiting: _waiting,
             page: _page,
-            sent: _,
             ended: _,
             known: _known,
         } = self;
@@ -43,8 +41,7 @@ impl<K: Drop> Conversation<K> {
         Conversation {
             alloc,
             waiting: Vec::new(alloc),
-            page: String::new(alloc),
-            sent: 0,
+            page: Unsent::nothing(alloc),
             ended: false,
             known: None,
         }
@@ -64,24 +61,25 @@ impl<K: Drop> Conversation<K> {
         self.ended
     }
 
-    /// The whole page of the last answer.
+    /// The text with which the page of the last answer begins, as long as nothing of it was sent. It has the whole head.
     pub fn page(&self) -> &str {
-        self.page.as_str()
+        self.page.piece()
+    }
+
+    /// How many bytes the unsent page has for itself. The texts that it shares with the index aren't among them.
+    pub fn weight(&self) -> usize {
+        if self.page.is_empty() {
+            0
+        } else {
+            self.page.weight()
+        }
     }
 
     /// Whether the whole page was sent.
     pub fn is_sent(&self) -> bool
         ensures { IsTrue result ↔ ((talk self.now).unsent ≡ []) }
     {
-        self.sent >= self.page.len()
-    }
-
-    /// The part of the page that isn't sent yet.
-    pub fn unsent(&self) -> &[u8]
-        ensures { result.now ≡ (talk self.now).unsent }
-    {
-        let page = self.page.as_bytes();
-        &page[self.sent.min(page.len())..]
+        self.page.is_empty()
     }
 
     /// Takes bytes that came.
@@ -102,14 +100,12 @@ impl<K: Drop> Conversation<K> {
         Ok(n)
     }
 
-    /// Hands the writer the part of the page that isn't sent, in one call, and returns how many bytes it took.
+    /// Hands the writer bytes of the page that aren't sent, in one call, and returns how many it took.
     pub fn send<W: Write>(&mut self, writer: &mut W) -> io::Result<usize>
         ensures ok { IfOk result (λ n. SendsTo n (W.contents writer.old) (W.contents writer.new) (talk self.old) (talk self.new)) }
         ensures err { OnErr result (Keeps (W.contents writer.old) (W.contents writer.new) × (talk self.new ≡ talk self.old)) }
     {
-        let n = writer.write(self.unsent())?;
-        self.sent += n;
-        Ok(n)
+        self.page.send(writer)
     }
 
     /// Answers the first request that came whole, by a rule, and returns it. Returns `None` if no request came whole, or the stream has ended. The service goes
@@ -140,8 +136,7 @@ impl<K: Drop> Conversation<K> {
         service.resume(&self.known);
         let page = answer_by(self.alloc, rule, service, &whole)?;
         self.known = Some(service.known());
-        self.page = page;
-        self.sent = 0;
+        self.page = Unsent::of(page);
         self.ended = whole.ends();
         self.waiting = rest;
         Ok(Some(whole))

@@ -5,6 +5,7 @@ mod budget;
 mod clients;
 mod connection;
 pub mod conversation;
+mod kinds;
 pub mod laws;
 mod limits;
 mod noting;

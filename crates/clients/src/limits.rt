@@ -22,6 +22,12 @@ pub(crate) const MOST_LINGERING: usize = 2_097_152;
 /// How long a request may take from its first byte to its last, and how long a peer may take for a page, in milliseconds.
 pub(crate) const PATIENCE: u64 = 30_000;
 
+/// A large request must bring this many bytes, or its end, in each `STALL` milliseconds.
+pub(crate) const LEAST_AT_ONCE: usize = 65_536;
+
+/// In this many milliseconds a large request must bring `LEAST_AT_ONCE` bytes.
+pub(crate) const STALL: u64 = 2_000;
+
 /// How long a connection that has ended is still read from, in milliseconds.
 pub(crate) const LINGER: u64 = 500;
 
@@ -37,6 +43,8 @@ pub struct Limits {
     pub connections: Option<u64>,
     /// The most bytes of unfinished requests that are kept.
     pub bytes: u64,
+    /// The most bytes of pages that aren't sent. While there are more, no search is answered. The texts that pages share with the index don't count.
+    pub pages: u64,
     /// How long a connection that asks nothing is kept, in seconds.
     pub idle: u64,
     /// After how many milliseconds the index is refreshed again, or sooner if many writes came; 0 for never.
@@ -49,5 +57,15 @@ impl Limits {
         ensures { result ≤ 64 }
     {
         self.threads.max(1).min(MOST_THREADS)
+    }
+
+    /// How many requests at once may wait for a disk or for another copy: two threads are left for the others, if there are so many.
+    pub(crate) fn waiting(&self) -> usize {
+        self.working().saturating_sub(2).max(1)
+    }
+
+    /// How many dear searches there may be at once: half of the threads.
+    pub(crate) fn dear(&self) -> usize {
+        (self.working() / 2).max(1)
     }
 }

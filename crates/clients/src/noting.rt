@@ -16,6 +16,8 @@ pub(crate) struct Notes {
     pub(crate) written: AtomicU64,
     /// Whether the index is being refreshed.
     pub(crate) refreshing: AtomicBool,
+    /// How many commands are under way that may wait.
+    pub(crate) waiting: AtomicU64,
 }
 
 impl Notes {
@@ -23,16 +25,26 @@ impl Notes {
         Notes {
             written: AtomicU64::new(0),
             refreshing: AtomicBool::new(false),
+            waiting: AtomicU64::new(0),
         }
     }
 
-    /// Whether a command may wait for a disk, for another copy or for a refresh.
-    fn may_wait(&self, command: &Command) -> bool {
+    /// Whether a command may take long: it searches, it may wait, or it may have to wait for one that does.
+    fn may_take_long(&self, command: &Command) -> bool {
         match command {
-            Command::Search(_) | Command::Count(_) => false,
-            Command::Get(_) => self.refreshing.load(Ordering::SeqCst),
-            Command::Write(_) | Command::Bulk(_) | Command::Refresh | Command::Promote(_) => true,
+            Command::Get(_) => {
+                self.refreshing.load(Ordering::SeqCst) || self.waiting.load(Ordering::SeqCst) > 0
+            }
+            _ => true,
         }
+    }
+}
+
+/// Whether a command may wait for a disk, for another copy or for a refresh.
+fn may_wait(command: &Command) -> bool {
+    match command {
+        Command::Get(_) | Command::Search(_) | Command::Count(_) => false,
+        Command::Write(_) | Command::Bulk(_) | Command::Refresh | Command::Promote(_) => true,
     }
 }
 
@@ -45,24 +57,14 @@ fn writes_of(command: &Command) -> u64 {
     }
 }
 
-/// A service that notes its commands, and answers as the service does. If its thread has the lead, it gives the lead up before a command that may wait, and, if
-/// other connections are open, before one that may take long. So another thread goes on.
+/// A service that notes its commands, and answers as the service does. If its thread has the lead, it gives the lead up before a command that may take long, so
+/// that another thread goes on.
 #[derive(Drop)]
 pub(crate) struct Noting<'a, S: Service> {
     pub(crate) service: S,
     pub(crate) notes: &'a Notes,
     /// The poller, if this thread has the lead.
     pub(crate) lead: Option<MutexGuard<'a, Poller>>,
-    /// Whether no other connection is open.
-    pub(crate) alone: bool,
-}
-
-impl<'a, S: Service> Noting<'a, S> {
-    /// Whether another thread is to go on while a command is done.
-    fn holds_up(&self, command: &Command) -> bool {
-        let is_long = matches!(command, Command::Search(_) | Command::Count(_));
-        is_long && !self.alone || self.notes.may_wait(command)
-    }
 }
 
 impl<'a, S: Service> Service for Noting<'a, S> {
@@ -81,11 +83,18 @@ impl<'a, S: Service> Service for Noting<'a, S> {
     }
 
     fn call(&mut self, command: Command) -> Reply {
-        if self.lead.is_some() && self.holds_up(&command) {
+        if self.lead.is_some() && self.notes.may_take_long(&command) {
             self.lead = None;
         }
         let writes = writes_of(&command);
+        let waits = may_wait(&command);
+        if waits {
+            self.notes.waiting.fetch_add(1, Ordering::SeqCst);
+        }
         let reply = self.service.call(command);
+        if waits {
+            self.notes.waiting.fetch_sub(1, Ordering::SeqCst);
+        }
         // This note follows the write, so that a refresh that resets the note shows the write.
         if writes > 0 {
             self.notes.written.fetch_add(writes, Ordering::SeqCst);

@@ -2,6 +2,8 @@
 
 use crate::budget::Budget;
 use crate::connection::{Connection, Held, Next};
+use crate::kinds::Kind;
+use crate::limits::Limits;
 use std::alloc::{AllocError, Global};
 use std::collections::VecDeque;
 
@@ -27,8 +29,45 @@ pub(crate) struct Table<K: Drop> {
     free: Vec<usize>,
     ready: VecDeque<usize>,
     budget: Budget,
+    /// How many bytes of pages aren't sent, and how many there may be before searches wait.
+    pages: u64,
+    most_pages: u64,
+    /// The places of connections that wait for room for a page.
+    for_page: VecDeque<usize>,
+    /// With so many connections open, places for requests are limited.
+    crowd: usize,
+    /// Whether each connection ends once its requests that came whole are answered.
+    ends: bool,
     open: usize,
     idle: u64,
+}
+
+/// What a connection gives back: its share, its ticket, and its place among the requests of a kind.
+#[derive(Clone, Copy)]
+pub(crate) struct Given {
+    share: bool,
+    ticket: bool,
+    turn: Option<Kind>,
+}
+
+impl Given {
+    /// All that a connection has.
+    pub(crate) fn all_of<K: Drop>(connection: &Connection<K>) -> Given {
+        Given {
+            share: connection.has_share,
+            ticket: connection.has_ticket,
+            turn: connection.turn,
+        }
+    }
+
+    /// What a connection has and doesn't need any more.
+    fn of<K: Drop>(connection: &Connection<K>) -> Given {
+        Given {
+            share: connection.has_share && connection.is_empty(),
+            ticket: connection.has_ticket && connection.is_small(),
+            turn: connection.turn,
+        }
+    }
 }
 
 impl<K: Drop> Drop for Table<K> {
@@ -38,6 +77,11 @@ impl<K: Drop> Drop for Table<K> {
             free: _free,
             ready: _ready,
             budget: _budget,
+            pages: _,
+            most_pages: _,
+            for_page: _for_page,
+            crowd: _,
+            ends: _,
             open: _,
             idle: _,
         } = self;
@@ -45,14 +89,19 @@ impl<K: Drop> Drop for Table<K> {
 }
 
 impl<K: Drop> Table<K> {
-    pub(crate) fn new(alloc: Global, bytes: u64, idle: u64) -> Table<K> {
+    pub(crate) fn new(alloc: Global, limits: &Limits) -> Table<K> {
         Table {
             slots: Vec::new(alloc),
             free: Vec::new(alloc),
             ready: VecDeque::new(alloc),
-            budget: Budget::new(alloc, bytes),
+            budget: Budget::new(alloc, limits),
+            pages: 0,
+            most_pages: limits.pages,
+            for_page: VecDeque::new(alloc),
+            crowd: limits.dear(),
+            ends: false,
             open: 0,
-            idle,
+            idle: limits.idle.saturating_mul(1000),
         }
     }
 
@@ -149,6 +198,9 @@ impl<K: Drop> Table<K> {
             }
         }
         if connection.held == Held::Free {
+            connection.is_crowded = self.open > self.crowd;
+            connection.has_page_room = self.pages < self.most_pages;
+            connection.ends = self.ends;
             return Some(Job { place, connection });
         }
         connection.rest(0, self.idle);
@@ -164,31 +216,65 @@ impl<K: Drop> Table<K> {
             place,
             mut connection,
         } = job;
-        let mut again = next == Next::Goes;
-        if next == Next::Wants {
-            match self.budget.tickets.take(place) {
-                Ok(true) => {
-                    connection.has_ticket = true;
-                    again = true;
-                }
-                Ok(false) => connection.held = Held::ForTicket,
-                Err(_) => {
-                    connection.expired = true;
-                    again = true;
-                }
-            }
-        }
-        let gives_share = connection.has_share && connection.is_empty();
-        if gives_share {
+        let given = Given::of(&connection);
+        if given.share {
             connection.has_share = false;
         }
-        let gives_ticket = connection.has_ticket && connection.is_small();
-        if gives_ticket {
+        if given.ticket {
             connection.has_ticket = false;
         }
+        connection.turn = None;
+        self.charge(&mut connection);
+        let again = next == Next::Goes || self.has_what_it_wants(place, &mut connection, next);
         connection.rest(now, self.idle);
         self.set(place, connection, again);
-        self.give_back(gives_share, gives_ticket, now);
+        self.give_back(given, now);
+    }
+
+    /// Whether the connection has now what it has to wait for. Else it waits for it.
+    fn has_what_it_wants(
+        &mut self,
+        place: usize,
+        connection: &mut Connection<K>,
+        next: Next,
+    ) -> bool {
+        let (taken, held) = match next {
+            Next::Wants => (self.budget.tickets.take(place), Held::ForTicket),
+            Next::WantsTurn(kind) => match self.budget.of(kind) {
+                Some(places) => (places.take(place), Held::ForTurn(kind)),
+                None => (Ok(true), Held::Free),
+            },
+            Next::WantsPage => (self.page_room(place), Held::ForPage),
+            Next::Waits | Next::Goes | Next::Ended => return false,
+        };
+        match taken {
+            Ok(true) => connection.take(held),
+            Ok(false) => {
+                connection.held = held;
+                return false;
+            }
+            Err(_) => connection.expired = true,
+        }
+        true
+    }
+
+    /// Whether there is room for a page. Else this connection waits in line for it.
+    fn page_room(&mut self, place: usize) -> Result<bool, AllocError> {
+        if self.pages < self.most_pages {
+            return Ok(true);
+        }
+        self.for_page.push_back(place)?;
+        Ok(false)
+    }
+
+    /// Counts the connection's page, as far as it isn't sent.
+    fn charge(&mut self, connection: &mut Connection<K>) {
+        let weight = connection.weight();
+        self.pages = self
+            .pages
+            .saturating_sub(connection.charged)
+            .saturating_add(weight);
+        connection.charged = weight;
     }
 
     fn set(&mut self, place: usize, connection: Box<Connection<K>>, again: bool) {
@@ -209,45 +295,72 @@ impl<K: Drop> Table<K> {
         self.set(place, connection, true);
     }
 
-    /// Ends a connection, and takes back its share and its ticket, if it had them. Its place is free again.
-    pub(crate) fn end(&mut self, place: usize, has_share: bool, has_ticket: bool, now: u64) {
+    /// Ends a connection whose unsent page had so many bytes, and takes back what it had. Its place is free again.
+    pub(crate) fn end(&mut self, place: usize, given: Given, charged: u64, now: u64) {
         if let Some(slot) = self.slots.get_mut(place) {
             slot.used = false;
         }
         self.open = self.open.saturating_sub(1);
         let _ = self.free.push(place);
-        self.give_back(has_share, has_ticket, now);
+        self.pages = self.pages.saturating_sub(charged);
+        self.give_back(given, now);
     }
 
-    /// Gives a share or a ticket back. It goes to the first connection that waits for it.
-    fn give_back(&mut self, share: bool, ticket: bool, now: u64) {
-        if share {
-            if let Some(place) = self.budget.shares.give_back() {
-                self.grant(place, now);
-            }
+    /// Ends a connection that has never been in the table.
+    pub(crate) fn end_unbegun(&mut self, place: usize, now: u64) {
+        let nothing = Given {
+            share: false,
+            ticket: false,
+            turn: None,
+        };
+        self.end(place, nothing, 0, now);
+    }
+
+    /// Takes back what a connection gives. Each goes to the first connection that waits for it.
+    fn give_back(&mut self, given: Given, now: u64) {
+        if given.share {
+            let next = self.budget.shares.give_back();
+            self.grant(next, now);
         }
-        if ticket {
-            if let Some(place) = self.budget.tickets.give_back() {
-                self.grant(place, now);
-            }
+        if given.ticket {
+            let next = self.budget.tickets.give_back();
+            self.grant(next, now);
+        }
+        if let Some(kind) = given.turn {
+            let next = match self.budget.of(kind) {
+                Some(places) => places.give_back(),
+                None => None,
+            };
+            self.grant(next, now);
+        }
+        if self.pages < self.most_pages {
+            let next = self.for_page.pop_front();
+            self.grant(next, now);
         }
     }
 
-    /// Gives a connection what it waited for.
-    fn grant(&mut self, place: usize, now: u64) {
+    /// Gives the connection at this place what it waited for.
+    fn grant(&mut self, next: Option<usize>, now: u64) {
+        let Some(place) = next else {
+            return;
+        };
         let idle = self.idle;
         if let Some(slot) = self.slots.get_mut(place) {
             if let Some(connection) = &mut slot.connection {
-                match connection.held {
-                    Held::ForShare => connection.has_share = true,
-                    Held::ForTicket => connection.has_ticket = true,
-                    Held::Free => {}
-                }
-                connection.held = Held::Free;
+                let held = connection.held;
+                connection.take(held);
                 connection.rest(now, idle);
             }
         }
         self.note(place, false);
+    }
+
+    /// From now on each connection ends once its requests that came whole are answered. All are looked at.
+    pub(crate) fn end_all(&mut self) {
+        self.ends = true;
+        for place in 0..self.slots.len() {
+            self.note(place, false);
+        }
     }
 
     /// Queues the connections whose time is over, and those that were noted but not queued because memory ran out.

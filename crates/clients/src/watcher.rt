@@ -10,6 +10,11 @@ pub trait Watcher: Sync {
 
     /// No more connections can be accepted, for example because the limit of open files is reached. This is reported once.
     fn is_full(&self) {}
+
+    /// Whether the server is to end in order: it accepts no more connections, answers the requests that came whole, and ends.
+    fn is_to_end(&self) -> bool {
+        false
+    }
 }
 
 /// A watcher that ignores all reports.

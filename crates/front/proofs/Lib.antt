@@ -7,3 +7,5 @@ pub mod Pages
 pub mod Paths
 pub mod Streams
 pub mod Greetings
+pub mod Heads
+pub mod PieceLists

@@ -127,9 +127,12 @@ welcome_page (Ok Nothing) page = page
 welcome_page (Ok Greeting) page = response status.Good [] greeting
 welcome_page (Ok Presence) page = response status.Good [] []
 
--- the head of a page, with a field that says that the stream ends after it
-unfoldable pub head_alone : List ℕ → List ℕ
-head_alone page = before_empty page ++ codes "\r\nconnection: close\r\n\r\n"
+-- a head with one more field, which says that the stream ends after it
+unfoldable pub closed_head : List ℕ → List ℕ
+closed_head head = head ++ codes "\r\nconnection: close\r\n\r\n"
+
+abbrev pub head_alone : List ℕ → List ℕ
+head_alone page = closed_head (before_empty page)
 
 abbrev pub headed : Bool → List ℕ → List ℕ
 headed true page = head_alone page

@@ -9,6 +9,8 @@ pub mod LineView
 pub mod AskedView
 pub mod RouteView
 pub mod SubjectView
+pub mod PieceView
+pub mod Sending
 pub mod Target
 pub mod BulkReading
 pub mod Asking

@@ -47,10 +47,14 @@ reason_of status.TooMany = codes "Too Many Requests"
 reason_of status.NotImplemented = codes "Not Implemented"
 reason_of status.Unavailable = codes "Service Unavailable"
 
+-- the status line and the headers of a page whose body has this length, and the empty line
+unfoldable pub response_head : Status → List ℕ → ℕ → List ℕ
+response_head s allow n =
+    codes "HTTP/1.1 " ++ (number_of s ++ (codes " " ++ (reason_of s ++ (codes "\r\ncontent-type: application/json\r\ncontent-length: " ++ (decimal n ++ (codes "\r\n" ++ (allow ++ codes "\r\n")))))))
+
 -- the status line, the headers and the body
-unfoldable pub response : Status → List ℕ → List ℕ → List ℕ
-response s allow body =
-    codes "HTTP/1.1 " ++ (number_of s ++ (codes " " ++ (reason_of s ++ (codes "\r\ncontent-type: application/json\r\ncontent-length: " ++ (decimal (length body) ++ (codes "\r\n" ++ (allow ++ (codes "\r\n" ++ body))))))))
+abbrev pub response : Status → List ℕ → List ℕ → List ℕ
+response s allow body = response_head s allow (length body) ++ body
 
 -- what stands before the first empty line
 abbrev pub before_empty : List ℕ → List ℕ
@@ -204,10 +208,13 @@ abbrev pub hits_text : List ℕ → List Hit → List ℕ
 hits_text middle [] = []
 hits_text middle (h ∷ hs) = hit_text middle h ++ more_hits middle hs
 
+-- what stands after the hits
+unfoldable pub hits_end : ℕ → List ℕ
+hits_end total = codes "],\"max_score\":null,\"total\":{\"relation\":\"eq\",\"value\":" ++ (decimal total ++ codes "}},\"timed_out\":false,\"took\":0}")
+
 unfoldable pub hits_body : List ℕ → ℕ → List Hit → List ℕ
 hits_body index total hs =
-    codes "{\"_shards\":{\"failed\":0,\"skipped\":0,\"successful\":1,\"total\":1},\"hits\":{\"hits\":[" ++ (hits_text (hit_middle index) hs
-    ++ (codes "],\"max_score\":null,\"total\":{\"relation\":\"eq\",\"value\":" ++ (decimal total ++ codes "}},\"timed_out\":false,\"took\":0}")))
+    codes "{\"_shards\":{\"failed\":0,\"skipped\":0,\"successful\":1,\"total\":1},\"hits\":{\"hits\":[" ++ (hits_text (hit_middle index) hs ++ hits_end total)
 
 unfoldable pub counted_body : ℕ → List ℕ
 counted_body n = codes "{\"_shards\":{\"failed\":0,\"skipped\":0,\"successful\":1,\"total\":1},\"count\":" ++ (decimal n ++ codes "}")

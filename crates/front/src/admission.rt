@@ -8,7 +8,8 @@ ghost use Rattle.front.specs.RuleView.{admission_view};
 ghost use Rattle.wire.specs.Framing.{is_named};
 ghost use Rattle.wire.specs.Reading.{request_view, sender_view};
 
-use crate::page::{Status, response, with_fields};
+use crate::page::{Status, response};
+use crate::pieces::Page;
 use crate::request_fault::RequestFault;
 use std::alloc::{AllocError, Global};
 use wire::{Request, Sender, cut_at, text_of};
@@ -135,10 +136,10 @@ pub(crate) fn is_preflight(request: &Request) -> bool
     request.method.as_slice() == b"OPTIONS".as_slice() && !request.sender.origins.is_empty()
 }
 
-pub(crate) fn preflight_page(alloc: Global) -> Result<String, AllocError>
-    ensures { IfOk result (λ p. string_bytes p ≡ spec.preflight_page) }
+pub(crate) fn preflight_page(alloc: Global) -> Result<Page, AllocError>
+    ensures { IfOk result (λ p. p ≡ spec.preflight_page) }
 {
-    response(alloc, Status::Good, PREFLIGHT, "")
+    Ok(Page::of(alloc, response(alloc, Status::Good, PREFLIGHT, "")?))
 }
 
 /// Opens a page to the first origin that its request names. If the request names none, the page stays as it is.
@@ -146,15 +147,15 @@ pub(crate) fn opened(
     alloc: Global,
     admission: &Admission,
     origins: &[Vec<u8>],
-    page: String,
-) -> Result<String, AllocError>
-    ensures { IfOk result (λ p. string_bytes p ≡ spec.opened (admission_view admission.now) (map (λ o. o.items) origins.now) (string_bytes page)) }
+    page: Page,
+) -> Result<Page, AllocError>
+    ensures { IfOk result (λ p. p ≡ spec.opened (admission_view admission.now) (map (λ o. o.items) origins.now) page) }
 {
     match origins {
         [] => Ok(page),
         [origin, ..] => {
             let fields = opening(alloc, granted(admission, origin.as_slice()))?;
-            with_fields(alloc, fields.as_str(), page.as_str())
+            page.with_fields(alloc, fields.as_str())
         }
     }
 }

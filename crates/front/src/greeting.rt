@@ -9,8 +9,9 @@ ghost use Rattle.front.specs.Rule.{Turned};
 ghost use Rattle.front.specs.Serving.{Answered, Begun};
 
 use crate::asking::{has_no_page, has_none, or_nothing};
-use crate::page::{Status, at_empty, fault_page, response};
+use crate::page::{Status, fault_page, response};
 use crate::parameters::parameters_of;
+use crate::pieces::Page;
 use crate::request_fault::RequestFault;
 use crate::service::Service;
 use crate::serving::answer_request;
@@ -36,9 +37,9 @@ pub(crate) fn greet_request<S: Service>(
     alloc: Global,
     service: &mut S,
     request: &Request,
-) -> Result<String, StreamFault>
+) -> Result<Page, StreamFault>
     ensures ok { IfOk result (λ page. Turned S.answers (S.name service.old) (spec.greeted_work (S.name service.old) (S.fields service.old) (read.request_view request.now))
-        (λ out. spec.greeted_page (S.name service.old) (read.request_view request.now) out) service.old (string_bytes page) service.new) }
+        (λ out. spec.greeted_page (S.name service.old) (read.request_view request.now) out) service.old page service.new) }
     ensures err { OnErr result (Begun S.answers
         (spec.greeted_work (S.name service.old) (S.fields service.old) (read.request_view request.now)) service.old service.new) }
     ensures cause { IfErr result (λ e. e ≡ NoMemory) }
@@ -53,9 +54,9 @@ fn turned_answer<S: Service>(
     alloc: Global,
     service: &mut S,
     request: &Request,
-) -> Result<String, StreamFault>
+) -> Result<Page, StreamFault>
     ensures ok { IfOk result (λ page. Answered S.answers (S.name service.old) (spec.greeted_work (S.name service.old) (S.fields service.old) (read.request_view request.now))
-        service.old (string_bytes page) service.new) }
+        service.old page service.new) }
     ensures err { OnErr result (Begun S.answers
         (spec.greeted_work (S.name service.old) (S.fields service.old) (read.request_view request.now)) service.old service.new) }
     ensures cause { IfErr result (λ e. e ≡ NoMemory) }
@@ -67,7 +68,7 @@ fn turned_answer<S: Service>(
         Err(fault) => if fault.is_memory() {
             Err(StreamFault::NoMemory)
         } else {
-            Ok(fault_page(alloc, &fault)?)
+            Ok(Page::of(alloc, fault_page(alloc, &fault)?))
         },
     }
 }
@@ -77,9 +78,9 @@ fn answer_turned<S: Service>(
     alloc: Global,
     service: &mut S,
     request: &Request,
-) -> Result<String, StreamFault>
+) -> Result<Page, StreamFault>
     ensures ok { IfOk result (λ page. Answered S.answers (S.name service.old) (spec.turned_work (S.name service.old) (S.fields service.old) (read.request_view request.now))
-        service.old (string_bytes page) service.new) }
+        service.old page service.new) }
     ensures err { OnErr result (Begun S.answers
         (spec.turned_work (S.name service.old) (S.fields service.old) (read.request_view request.now)) service.old service.new) }
     ensures cause { IfErr result (λ e. e ≡ NoMemory) }
@@ -316,9 +317,9 @@ fn greeted_page(
     alloc: Global,
     index: &str,
     request: &Request,
-    page: String,
-) -> Result<String, StreamFault>
-    ensures page { IfOk result (λ p. string_bytes p ≡ spec.greeted_page index.now (read.request_view request.now) (string_bytes page)) }
+    page: Page,
+) -> Result<Page, StreamFault>
+    ensures page { IfOk result (λ p. p ≡ spec.greeted_page index.now (read.request_view request.now) page) }
     ensures cause { IfErr result (λ e. e ≡ NoMemory) }
 {
     let page = match welcome_of(alloc, index, request) {
@@ -327,31 +328,22 @@ fn greeted_page(
             if fault.is_memory() {
                 return Err(StreamFault::NoMemory);
             }
-            fault_page(alloc, &fault)?
+            Page::of(alloc, fault_page(alloc, &fault)?)
         }
     };
     if is_head(request) {
-        Ok(head_alone(alloc, page.as_str())?)
+        Ok(page.head(alloc)?)
     } else {
         Ok(page)
     }
 }
 
-fn welcome_page(alloc: Global, welcome: Welcome, page: String) -> Result<String, AllocError>
-    ensures { IfOk result (λ p. string_bytes p ≡ spec.welcome_page (Ok welcome) (string_bytes page)) }
+fn welcome_page(alloc: Global, welcome: Welcome, page: Page) -> Result<Page, AllocError>
+    ensures { IfOk result (λ p. p ≡ spec.welcome_page (Ok welcome) page) }
 {
     match welcome {
         Welcome::Nothing => Ok(page),
-        Welcome::Greeting => response(alloc, Status::Good, "", GREETING),
-        Welcome::Presence => response(alloc, Status::Good, "", ""),
+        Welcome::Greeting => { Ok(Page::of(alloc, response(alloc, Status::Good, "", GREETING)?)) }
+        Welcome::Presence => Ok(Page::of(alloc, response(alloc, Status::Good, "", "")?)),
     }
-}
-
-/// The head of a page, with a field that says that the stream ends after it.
-#[tactic(auto, unfolding(crate::specs::Greeting::head_alone))]
-fn head_alone(alloc: Global, page: &str) -> Result<String, AllocError>
-    ensures { IfOk result (λ p. string_bytes p ≡ spec.head_alone page.now) }
-{
-    let (head, _) = at_empty(page);
-    format!(in alloc; "{head}\r\nconnection: close\r\n\r\n")
 }

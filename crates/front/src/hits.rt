@@ -1,8 +1,9 @@
-//! The page of a search's hits: one text, into which each hit is written.
+//! The page of a search's hits, which shares their texts where these are large.
 ghost use Rattle.std.specs.Prelude.{◌≡◌, ◌++◌, IfOk, OnOk, string_bytes};
 ghost use Rattle.front.specs.Page as spec;
 
 use crate::json_text::push_quoted;
+use crate::pieces::{Pieces, is_shared};
 use crate::reply::Hit;
 use std::alloc::{AllocError, Global};
 
@@ -13,21 +14,29 @@ pub(crate) fn hits_body(
     index: &str,
     total: u64,
     hits: &[Hit],
-) -> Result<String, AllocError>
-    ensures { IfOk result (λ t. string_bytes t ≡ spec.hits_body index.now total hits.now) }
+) -> Result<Pieces, AllocError>
+    ensures { IfOk result (λ t. t ≡ spec.hits_body index.now total hits.now) }
 {
     let middle = hit_middle(alloc, index)?;
     let middle = middle.as_str();
-    let mut body = String::with_capacity(alloc, room_of(middle, hits))?;
-    body.push_str(
+    let mut first = String::with_capacity(alloc, room_of(middle, hits))?;
+    first.push_str(
         "{\"_shards\":{\"failed\":0,\"skipped\":0,\"successful\":1,\"total\":1},\"hits\":{\"hits\":[",
     )?;
+    let mut body = Pieces::of(alloc, first);
     push_hits(alloc, &mut body, middle, hits)?;
-    write!(
-        body,
-        "],\"max_score\":null,\"total\":{{\"relation\":\"eq\",\"value\":{total}}}}},\"timed_out\":false,\"took\":0}}"
-    )?;
+    let end = hits_end(alloc, total)?;
+    body.push_str(end.as_str())?;
     Ok(body)
+}
+
+#[tactic(auto, unfolding(crate::specs::Page::hits_end))]
+fn hits_end(alloc: Global, total: u64) -> Result<String, AllocError>
+    ensures { IfOk result (λ t. string_bytes t ≡ spec.hits_end total) }
+{
+    format!(in alloc;
+        "],\"max_score\":null,\"total\":{{\"relation\":\"eq\",\"value\":{total}}}}},\"timed_out\":false,\"took\":0}}"
+    )
 }
 
 /// What stands between a hit's id and its source. All hits of a page share this text.
@@ -43,10 +52,13 @@ fn hit_middle(alloc: Global, index: &str) -> Result<String, AllocError>
     Ok(middle)
 }
 
-/// Enough room for the body of a page, unless an id is escaped.
+/// Enough room for the first text of a page, unless an id is escaped.
 fn room_of(middle: &str, hits: &[Hit]) -> usize {
     let mut room: usize = 256;
     for hit in hits {
+        if is_shared(&hit.source) {
+            return room;
+        }
         room = room.saturating_add(room_of_hit(middle, hit));
     }
     room
@@ -57,8 +69,8 @@ fn room_of_hit(middle: &str, hit: &Hit) -> usize {
     middle.len().saturating_add(texts + 16)
 }
 
-fn push_hits(alloc: Global, body: &mut String, middle: &str, hits: &[Hit]) -> Result<(), AllocError>
-    ensures { OnOk result (string_bytes body.new ≡ string_bytes body.old ++ spec.hits_text middle.now hits.now) }
+fn push_hits(alloc: Global, body: &mut Pieces, middle: &str, hits: &[Hit]) -> Result<(), AllocError>
+    ensures { OnOk result (body.new ≡ body.old ++ spec.hits_text middle.now hits.now) }
 {
     match hits {
         [] => Ok(()),
@@ -71,11 +83,11 @@ fn push_hits(alloc: Global, body: &mut String, middle: &str, hits: &[Hit]) -> Re
 
 fn push_more_hits(
     alloc: Global,
-    body: &mut String,
+    body: &mut Pieces,
     middle: &str,
     hits: &[Hit],
 ) -> Result<(), AllocError>
-    ensures { OnOk result (string_bytes body.new ≡ string_bytes body.old ++ spec.more_hits middle.now hits.now) }
+    ensures { OnOk result (body.new ≡ body.old ++ spec.more_hits middle.now hits.now) }
 {
     for hit in hits {
         body.push_str(",")?;
@@ -85,12 +97,12 @@ fn push_more_hits(
 }
 
 #[tactic(auto, unfolding(crate::specs::Page::hit_text))]
-fn push_hit(alloc: Global, body: &mut String, middle: &str, hit: &Hit) -> Result<(), AllocError>
-    ensures { OnOk result (string_bytes body.new ≡ string_bytes body.old ++ spec.hit_text middle.now hit.now) }
+fn push_hit(alloc: Global, body: &mut Pieces, middle: &str, hit: &Hit) -> Result<(), AllocError>
+    ensures { OnOk result (body.new ≡ body.old ++ spec.hit_text middle.now hit.now) }
 {
     body.push_str("{\"_id\":")?;
-    push_quoted(alloc, body, hit.id.as_str())?;
+    body.push_quoted(alloc, hit.id.as_str())?;
     body.push_str(middle)?;
-    body.push_str(hit.source.as_str())?;
+    body.push_source(alloc, &hit.source)?;
     body.push_str("}")
 }

@@ -1,15 +1,17 @@
 //! The pages that are written. Their bodies have no spaces, and have their keys in byte order, by the names of the Elasticsearch reference.
-ghost use Rattle.std.specs.Prelude.{◌≡◌, ◌++◌, codes, IfOk, IfSome, string_bytes};
+ghost use Rattle.std.specs.Prelude.{◌≡◌, ◌++◌, [], codes, IfOk, IfSome, string_bytes};
 ghost use Rattle.front.specs.CommandView.{command_view};
 ghost use Rattle.front.specs.Fault.{fault_of};
 ghost use Rattle.front.specs.Page as spec;
+ghost use Rattle.front.specs.declared.page.Status.TheVariants.{Good};
 ghost use Rattle.front.specs.ReplyView.{reply_view};
 ghost use Rattle.front.specs.SubjectView.{subject_view};
 
 use crate::command::Command;
 use crate::hits::hits_body;
 use crate::json_text::push_quoted;
-use crate::reply::{Found, Outcome, Refusal, Reply, Wrote};
+use crate::pieces::{Page, Pieces};
+use crate::reply::{Found, Hit, Outcome, Refusal, Reply, Wrote};
 use crate::request_fault::RequestFault;
 use crate::target::Endpoint;
 use doc::DocId;
@@ -106,7 +108,6 @@ impl Subject {
 const HEAD_ROOM: usize = 128;
 
 /// A whole page: the status line, the fields, an empty line, the body (RFC 9112, section 2.1).
-#[tactic(auto, unfolding(crate::specs::Page::response))]
 pub(crate) fn response(
     alloc: Global,
     status: Status,
@@ -115,17 +116,39 @@ pub(crate) fn response(
 ) -> Result<String, AllocError>
     ensures { IfOk result (λ t. string_bytes t ≡ spec.response status allow.now body.now) }
 {
+    let mut page = response_head(alloc, status, allow, body.len(), body.len())?;
+    page.push_str(body)?;
+    Ok(page)
+}
+
+/// The head of a page whose body has this length, and room for some more bytes.
+#[tactic(auto, unfolding(crate::specs::Page::response_head))]
+fn response_head(
+    alloc: Global,
+    status: Status,
+    allow: &str,
+    length: usize,
+    more: usize,
+) -> Result<String, AllocError>
+    ensures { IfOk result (λ t. string_bytes t ≡ spec.response_head status allow.now length) }
+{
     let number = status.number();
     let reason = status.reason();
-    let length = body.len();
-    let room = HEAD_ROOM.saturating_add(allow.len()).saturating_add(length);
+    let room = HEAD_ROOM.saturating_add(allow.len()).saturating_add(more);
     let mut page = String::with_capacity(alloc, room)?;
     write!(
         page,
         "HTTP/1.1 {number} {reason}\r\ncontent-type: application/json\r\ncontent-length: {length}\r\n{allow}\r\n"
     )?;
-    page.push_str(body)?;
     Ok(page)
+}
+
+/// A whole page, whose body is in pieces.
+fn response_over(alloc: Global, status: Status, body: Pieces) -> Result<Page, AllocError>
+    ensures { IfOk result (λ p. p ≡ spec.response status [] body) }
+{
+    let head = response_head(alloc, status, "", body.len()?, 0)?;
+    Page::over(head, body)
 }
 
 /// A page with more fields after its own.
@@ -470,29 +493,36 @@ pub(crate) fn reply_page(
     index: &str,
     subject: &Subject,
     reply: &Reply,
-) -> Result<String, AllocError>
-    ensures { IfOk result (λ page. string_bytes page ≡ spec.reply_page index.now (subject_view subject.now) (reply_view reply.now)) }
+) -> Result<Page, AllocError>
+    ensures { IfOk result (λ page. page ≡ spec.reply_page index.now (subject_view subject.now) (reply_view reply.now)) }
 {
-    match (subject, reply) {
-        (_, Reply::Refused(refusal)) => refusal_page(alloc, *refusal),
-        (Subject::Written(id), Reply::Wrote(wrote)) => wrote_page(alloc, index, id, *wrote),
-        (Subject::Sought(id), Reply::Got(found)) => got_page(alloc, index, id, found),
+    let text = match (subject, reply) {
+        (_, Reply::Refused(refusal)) => refusal_page(alloc, *refusal)?,
+        (Subject::Written(id), Reply::Wrote(wrote)) => wrote_page(alloc, index, id, *wrote)?,
+        (Subject::Sought(id), Reply::Got(found)) => got_page(alloc, index, id, found)?,
         (Subject::Searched, Reply::Hits(total, hits)) => {
-            let body = hits_body(alloc, index, *total, hits)?;
-            response(alloc, Status::Good, "", body.as_str())
+            return hits_page(alloc, index, *total, hits);
         }
         (Subject::Counted, Reply::Counted(count)) => {
             let body = counted_body(alloc, *count)?;
-            response(alloc, Status::Good, "", body.as_str())
+            response(alloc, Status::Good, "", body.as_str())?
         }
         (Subject::Refreshed, Reply::Refreshed(count)) => {
             let body = refreshed_body(alloc, *count)?;
-            response(alloc, Status::Good, "", body.as_str())
+            response(alloc, Status::Good, "", body.as_str())?
         }
         (Subject::Promoted, Reply::Promoted(copy, term)) => {
             let body = promoted_body(alloc, *copy, *term)?;
-            response(alloc, Status::Good, "", body.as_str())
+            response(alloc, Status::Good, "", body.as_str())?
         }
-        _ => refusal_page(alloc, Refusal::Mismatch),
-    }
+        _ => refusal_page(alloc, Refusal::Mismatch)?,
+    };
+    Ok(Page::of(alloc, text))
+}
+
+fn hits_page(alloc: Global, index: &str, total: u64, hits: &[Hit]) -> Result<Page, AllocError>
+    ensures { IfOk result (λ page. page ≡ spec.response Good [] (spec.hits_body index.now total hits.now)) }
+{
+    let body = hits_body(alloc, index, total, hits)?;
+    response_over(alloc, Status::Good, body)
 }

@@ -1,5 +1,5 @@
 //! The rule by which requests are answered.
-ghost use Rattle.std.specs.Prelude.{◌≡◌, IfOk, IfErr, OnErr, string_bytes};
+ghost use Rattle.std.specs.Prelude.{◌≡◌, IfOk, IfErr, OnErr};
 ghost use Rattle.wire.specs.Reading as read;
 ghost use Rattle.wire.specs.Requests.{Standing, good};
 ghost use Rattle.wire.specs.declared.fault.StreamFault.TheVariants.{NoMemory};
@@ -9,7 +9,8 @@ ghost use Rattle.front.specs.Serving.{Begun};
 
 use crate::admission::{Admission, admit, is_preflight, opened, preflight_page};
 use crate::greeting::greet_request;
-use crate::page::{fault_page, with_fields};
+use crate::page::fault_page;
+use crate::pieces::Page;
 use crate::service::Service;
 use crate::serving::{answer, answer_request};
 use std::alloc::{AllocError, Global};
@@ -33,9 +34,9 @@ pub fn answer_by<S: Service>(
     rule: &Rule,
     service: &mut S,
     whole: &Whole,
-) -> Result<String, StreamFault>
+) -> Result<Page, StreamFault>
     ensures ok { IfOk result (λ page. (q : Standing) → read.IsStanding whole.now q → spec.AnsweredBy (rule_view rule.now) S.answers (S.name service.old) (S.fields service.old) q
-        service.old (string_bytes page) service.new) }
+        service.old page service.new) }
     ensures err { OnErr result ((q : Standing) → read.IsStanding whole.now q → Begun S.answers
         (spec.work_by (rule_view rule.now) (S.name service.old) (S.fields service.old) q) service.old service.new) }
     ensures cause { IfErr result (λ e. e ≡ NoMemory) }
@@ -52,10 +53,10 @@ fn answer_plainly<S: Service>(
     rule: &Rule,
     service: &mut S,
     whole: &Whole,
-) -> Result<String, StreamFault>
+) -> Result<Page, StreamFault>
     ensures ok { IfOk result (λ page. (q : Standing) → read.IsStanding whole.now q → spec.Turned S.answers (S.name service.old)
         (spec.work_by (rule_view rule.now) (S.name service.old) (S.fields service.old) q) (λ out. spec.plain_page (rule_view rule.now) (S.name service.old) q out)
-        service.old (string_bytes page) service.new) }
+        service.old page service.new) }
     ensures err { OnErr result ((q : Standing) → read.IsStanding whole.now q → Begun S.answers
         (spec.work_by (rule_view rule.now) (S.name service.old) (S.fields service.old) q) service.old service.new) }
     ensures cause { IfErr result (λ e. e ≡ NoMemory) }
@@ -68,13 +69,13 @@ fn answer_plainly<S: Service>(
     }
 }
 
-fn signed(alloc: Global, greets: bool, page: String) -> Result<String, AllocError>
-    ensures { IfOk result (λ p. string_bytes p ≡ spec.signed greets (string_bytes page)) }
+fn signed(alloc: Global, greets: bool, page: Page) -> Result<Page, AllocError>
+    ensures { IfOk result (λ p. p ≡ spec.signed greets page) }
 {
     if !greets {
         return Ok(page);
     }
-    with_fields(alloc, PRODUCT, page.as_str())
+    page.with_fields(alloc, PRODUCT)
 }
 
 fn answer_asked<S: Service>(
@@ -82,10 +83,10 @@ fn answer_asked<S: Service>(
     rule: &Rule,
     service: &mut S,
     request: &Request,
-) -> Result<String, StreamFault>
+) -> Result<Page, StreamFault>
     ensures ok { IfOk result (λ page. spec.Turned S.answers (S.name service.old)
         (spec.work_by (rule_view rule.now) (S.name service.old) (S.fields service.old) (good (read.request_view request.now)))
-        (λ out. spec.plain_page (rule_view rule.now) (S.name service.old) (good (read.request_view request.now)) out) service.old (string_bytes page) service.new) }
+        (λ out. spec.plain_page (rule_view rule.now) (S.name service.old) (good (read.request_view request.now)) out) service.old page service.new) }
     ensures err { OnErr result (Begun S.answers
         (spec.work_by (rule_view rule.now) (S.name service.old) (S.fields service.old) (good (read.request_view request.now))) service.old service.new) }
     ensures cause { IfErr result (λ e. e ≡ NoMemory) }
@@ -97,7 +98,7 @@ fn answer_asked<S: Service>(
         Err(fault) => if fault.is_memory() {
             Err(StreamFault::NoMemory)
         } else {
-            Ok(fault_page(alloc, &fault)?)
+            Ok(Page::of(alloc, fault_page(alloc, &fault)?))
         },
     }
 }
@@ -107,9 +108,9 @@ fn answer_admitted<S: Service>(
     rule: &Rule,
     service: &mut S,
     request: &Request,
-) -> Result<String, StreamFault>
+) -> Result<Page, StreamFault>
     ensures ok { IfOk result (λ page. spec.Turned S.answers (S.name service.old) (spec.work_if rule.now.greets (S.name service.old) (S.fields service.old) (read.request_view request.now))
-        (λ out. spec.opened_page (rule_view rule.now) (S.name service.old) (read.request_view request.now) out) service.old (string_bytes page) service.new) }
+        (λ out. spec.opened_page (rule_view rule.now) (S.name service.old) (read.request_view request.now) out) service.old page service.new) }
     ensures err { OnErr result (Begun S.answers
         (spec.work_if rule.now.greets (S.name service.old) (S.fields service.old) (read.request_view request.now)) service.old service.new) }
     ensures cause { IfErr result (λ e. e ≡ NoMemory) }
@@ -126,9 +127,9 @@ fn answer_if<S: Service>(
     greets: bool,
     service: &mut S,
     request: &Request,
-) -> Result<String, StreamFault>
+) -> Result<Page, StreamFault>
     ensures ok { IfOk result (λ page. spec.Turned S.answers (S.name service.old) (spec.work_if greets (S.name service.old) (S.fields service.old) (read.request_view request.now))
-        (λ out. spec.page_if greets (S.name service.old) (read.request_view request.now) out) service.old (string_bytes page) service.new) }
+        (λ out. spec.page_if greets (S.name service.old) (read.request_view request.now) out) service.old page service.new) }
     ensures err { OnErr result (Begun S.answers
         (spec.work_if greets (S.name service.old) (S.fields service.old) (read.request_view request.now)) service.old service.new) }
     ensures cause { IfErr result (λ e. e ≡ NoMemory) }
@@ -147,9 +148,9 @@ fn opened_page(
     alloc: Global,
     rule: &Rule,
     request: &Request,
-    page: String,
-) -> Result<String, AllocError>
-    ensures { IfOk result (λ p. string_bytes p ≡ spec.opened_for (rule_view rule.now) (read.request_view request.now) (string_bytes page)) }
+    page: Page,
+) -> Result<Page, AllocError>
+    ensures { IfOk result (λ p. p ≡ spec.opened_for (rule_view rule.now) (read.request_view request.now) page) }
 {
     let page = if is_preflight(request) {
         preflight_page(alloc)?

@@ -1,5 +1,5 @@
 //! Serving requests, one after another.
-ghost use Rattle.std.specs.Prelude.{◌≡◌, IfOk, IfErr, IfSome, OnErr, string_bytes, map};
+ghost use Rattle.std.specs.Prelude.{◌≡◌, IfOk, IfErr, IfSome, OnErr, map};
 ghost use Rattle.wire.specs.Reading as read;
 ghost use Rattle.wire.specs.Requests.{Standing};
 ghost use Rattle.wire.specs.declared.fault.StreamFault.TheVariants.{NoMemory};
@@ -13,11 +13,12 @@ use crate::asking::{Asked, ask};
 use crate::bulk::{Item, bulk_page, do_items};
 use crate::command::Command;
 use crate::page::{Subject, fault_page, reply_page};
+use crate::pieces::Page;
 use crate::request_fault::RequestFault;
 use crate::service::Service;
 use std::alloc::Global;
 use std::io::{Read, Write};
-use wire::{Request, StreamFault, Whole, read_request, write_flushed};
+use wire::{Request, StreamFault, Whole, read_request};
 
 /// Answers the requests that came whole, in order, up to the first after which the stream ends, and returns how many they were. It writes and flushes each page
 /// whole before it reads the next request. It reads single bytes, so the reader needs a buffer.
@@ -41,7 +42,7 @@ pub fn serve_stream<R: Read, W: Write, S: Service>(
             return Ok(count);
         };
         let page = answer(alloc, service, &whole)?;
-        write_flushed(writer, page.as_bytes())?;
+        page.write(writer)?;
         if whole.ends() {
             return Ok(count + 1);
         }
@@ -54,9 +55,9 @@ pub fn answer<S: Service>(
     alloc: Global,
     service: &mut S,
     whole: &Whole,
-) -> Result<String, StreamFault>
+) -> Result<Page, StreamFault>
     ensures ok { IfOk result (λ page. (q : Standing) → read.IsStanding whole.now q → spec.Answered S.answers (S.name service.old)
-        (work_of (S.name service.old) (S.fields service.old) q) service.old (string_bytes page) service.new) }
+        (work_of (S.name service.old) (S.fields service.old) q) service.old page service.new) }
     ensures err { OnErr result ((q : Standing) → read.IsStanding whole.now q → spec.Begun S.answers
         (work_of (S.name service.old) (S.fields service.old) q) service.old service.new) }
     ensures cause { IfErr result (λ e. e ≡ NoMemory) }
@@ -64,7 +65,10 @@ pub fn answer<S: Service>(
     ensures fields { S.fields service.new ≡ S.fields service.old }
 {
     match whole {
-        Whole::Broken(fault) => Ok(fault_page(alloc, &RequestFault::Head(*fault))?),
+        Whole::Broken(fault) => Ok(Page::of(
+            alloc,
+            fault_page(alloc, &RequestFault::Head(*fault))?,
+        )),
         Whole::Asked(request) => answer_request(alloc, false, service, request),
     }
 }
@@ -75,9 +79,9 @@ pub(crate) fn answer_request<S: Service>(
     greets: bool,
     service: &mut S,
     request: &Request,
-) -> Result<String, StreamFault>
+) -> Result<Page, StreamFault>
     ensures ok { IfOk result (λ page. spec.Answered S.answers (S.name service.old)
-        (worked (S.name service.old) (S.fields service.old) (ask greets (S.name service.old) (S.fields service.old) (read.request_view request.now))) service.old (string_bytes page) service.new) }
+        (worked (S.name service.old) (S.fields service.old) (ask greets (S.name service.old) (S.fields service.old) (read.request_view request.now))) service.old page service.new) }
     ensures err { OnErr result (spec.Begun S.answers
         (worked (S.name service.old) (S.fields service.old) (ask greets (S.name service.old) (S.fields service.old) (read.request_view request.now))) service.old service.new) }
     ensures cause { IfErr result (λ e. e ≡ NoMemory) }
@@ -90,7 +94,7 @@ pub(crate) fn answer_request<S: Service>(
         Err(fault) => if fault.is_memory() {
             Err(StreamFault::NoMemory)
         } else {
-            Ok(fault_page(alloc, &fault)?)
+            Ok(Page::of(alloc, fault_page(alloc, &fault)?))
         },
     }
 }
@@ -100,8 +104,8 @@ fn do_command<S: Service>(
     alloc: Global,
     service: &mut S,
     command: Command,
-) -> Result<String, StreamFault>
-    ensures ok { IfOk result (λ page. spec.Answered S.answers (S.name service.old) (single (command_view command)) service.old (string_bytes page) service.new) }
+) -> Result<Page, StreamFault>
+    ensures ok { IfOk result (λ page. spec.Answered S.answers (S.name service.old) (single (command_view command)) service.old page service.new) }
     ensures err { OnErr result (spec.Begun S.answers (single (command_view command)) service.old service.new) }
     ensures cause { IfErr result (λ e. e ≡ NoMemory) }
     ensures name { S.name service.new ≡ S.name service.old }
@@ -124,14 +128,14 @@ fn do_bulk<'b, S: Service>(
     service: &mut S,
     refresh: bool,
     items: &[Item<'b>],
-) -> Result<String, StreamFault>
+) -> Result<Page, StreamFault>
     ensures ok { IfOk result (λ page. spec.Answered S.answers (S.name service.old) (bulk (S.name service.old) (S.fields service.old) refresh (map item_view items.now))
-        service.old (string_bytes page) service.new) }
+        service.old page service.new) }
     ensures err { OnErr result (spec.Begun S.answers (bulk (S.name service.old) (S.fields service.old) refresh (map item_view items.now)) service.old service.new) }
     ensures cause { IfErr result (λ e. e ≡ NoMemory) }
     ensures name { S.name service.new ≡ S.name service.old }
     ensures fields { S.fields service.new ≡ S.fields service.old }
 {
     let done = do_items(alloc, service, refresh, items)?;
-    Ok(bulk_page(alloc, &done.texts, done.refusal)?)
+    Ok(Page::of(alloc, bulk_page(alloc, &done.texts, done.refusal)?))
 }

@@ -7,7 +7,7 @@ use server::{Admission, Rule, Settings, Syncing};
 use std::alloc::{AllocError, Global};
 use usage::command;
 
-/// How many bytes a megabyte of `--request-mb` has.
+/// How many bytes a megabyte of `--request-mb` and `--page-mb` has.
 const MEGABYTE: u64 = 1_048_576;
 
 /// The script that is to be played, and whether refusals are explained.
@@ -104,6 +104,12 @@ fn settings_of<'a>(options: &ArgMatches<'a>) -> Settings<'a> {
             .get_one::<u64>("request-mb")
             .unwrap_or(64)
             .saturating_mul(MEGABYTE),
+        page_bytes: options
+            .get_one::<u64>("page-mb")
+            .unwrap_or(64)
+            .saturating_mul(MEGABYTE),
+        until_input_ends: options.get_flag("until-input-ends"),
+        input_end: None,
         explains: options.get_flag("explain"),
         connections: options.get_one::<u64>("connections"),
         at_terminal: false,

@@ -218,6 +218,9 @@ where
         threads: 2,
         idle: 3_600,
         request_bytes: ROOM,
+        page_bytes: ROOM,
+        until_input_ends: false,
+        input_end: None,
         explains: false,
         at_terminal: false,
     };

@@ -25,6 +25,7 @@ pub enum ServeFault {
     Data(DataFault),
     Copies(ClusterFault),
     Port(u16, io::Error),
+    Input(io::Error),
     Output(io::Error),
     Connection(io::Error),
     Journals(KeepFault),
@@ -73,6 +74,9 @@ impl Display for ServeFault {
                 f,
                 "port {port} can't be had: {error}; give another one by --port"
             ),
+            ServeFault::Input(error) => {
+                write!(f, "the end of standard input can't be waited for: {error}")
+            }
             ServeFault::Output(error) => write!(f, "the output can't be written: {error}"),
             ServeFault::Connection(error) => {
                 write!(f, "no connection can be had any more: {error}")

@@ -3,6 +3,7 @@
 
 mod admission;
 mod connections;
+mod ending;
 mod fault;
 mod founding;
 mod index_name;

@@ -108,6 +108,7 @@ where
         index: shared.index(),
         mapping: shared.mapping(),
         explains: settings.explains,
+        input_end: settings.input_end,
         lines,
     };
     let clients = Clients::new(rt, alloc, listener, settings.limits(), rule, &telling).map_err(
@@ -176,6 +177,7 @@ where
         index: index.label.name(),
         mapping: index.label.mapping(),
         explains: settings.explains,
+        input_end: settings.input_end,
         lines,
     };
     let clients = Clients::new(rt, alloc, listener, settings.limits(), rule, &telling).map_err(

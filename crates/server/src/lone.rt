@@ -26,6 +26,8 @@ use std::time::Clock;
 #[derive(Drop)]
 pub(crate) struct KeptIndex {
     shard: Shard<LogFile>,
+    /// Whether the copy leads. One that doesn't yet answers gets and searches.
+    leads: bool,
     torn: Option<TornEnd>,
     faults: Arc<SumFaults, Global>,
     lock: File,
@@ -75,8 +77,9 @@ fn open_index<R: Files<File = File> + AllocGlobal + RandomSource + Threads + Syn
                 lock,
             },
         ) => match led(rt.alloc(), name, master, copy) {
-            Ok(shard) => Ok(KeptIndex {
+            Ok((shard, leads)) => Ok(KeptIndex {
                 shard,
+                leads,
                 torn,
                 faults,
                 lock,
@@ -90,13 +93,13 @@ fn open_index<R: Files<File = File> + AllocGlobal + RandomSource + Threads + Syn
     }
 }
 
-/// The index of a copy, which is made the primary.
+/// The index of a copy, which is made the primary, and whether it leads.
 fn led(
     alloc: Global,
     name: &str,
     master: Master<LogFile>,
     copy: replica::Copy<LogFile>,
-) -> Result<Shard<LogFile>, DataFault> {
+) -> Result<(Shard<LogFile>, bool), DataFault> {
     match String::from_str(alloc, name) {
         Ok(name) => leading(Shard::over(alloc, name, master, copy)),
         Err(_) => {
@@ -107,10 +110,15 @@ fn led(
     }
 }
 
-fn leading(mut shard: Shard<LogFile>) -> Result<Shard<LogFile>, DataFault> {
+/// Makes the copy the primary. Where only a log keeps it from leading that can't be written, as on a full disk, it is opened for reading.
+fn leading(mut shard: Shard<LogFile>) -> Result<(Shard<LogFile>, bool), DataFault> {
     let fault = match shard.lead() {
-        Ok(true) => return Ok(shard),
-        Ok(false) => DataFault::NotLed,
+        Ok(true) => return Ok((shard, true)),
+        Ok(false) => if shard.is_in_sync() && shard.reopen().is_ok() {
+            return Ok((shard, false));
+        } else {
+            DataFault::NotLed
+        },
         Err(_) => DataFault::NoMemory,
     };
     drop(shard);
@@ -138,12 +146,19 @@ where
 {
     let KeptIndex {
         shard,
+        leads,
         torn,
         faults,
         lock,
     } = kept;
     if let Some(torn) = torn {
         let _ = writeln!(errors, "indexd: {torn}");
+    }
+    if !leads {
+        let _ = writeln!(
+            errors,
+            "indexd: copy-1.rsx or master.log can't be written, as on a full disk: gets and searches are answered, and writes are refused until both can"
+        );
     }
     let ended = listen(rt, settings, rule, shard, &faults, output, errors);
     drop(lock);

@@ -1,6 +1,7 @@
 //! Serving an index over HTTP on 127.0.0.1.
 
 use crate::admission::check_admission;
+use crate::ending::InputEnd;
 use crate::fault::ServeFault;
 use crate::index_name::is_index_name;
 use crate::listening::listen;
@@ -50,6 +51,11 @@ where
     check(settings)?;
     check_admission(rt.alloc(), &rule.admission)?;
     let mapping = mapping_of(rt, settings.mapping)?;
+    let input_end = InputEnd::watched(rt, settings.until_input_ends).map_err(ServeFault::Input)?;
+    let settings = Settings {
+        input_end: Some(&input_end),
+        ..settings
+    };
     let ended = serve_under(rt, settings, rule, mapping.as_ref(), output, errors);
     drop(mapping);
     ended

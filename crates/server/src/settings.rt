@@ -1,5 +1,6 @@
 //! How an index is served.
 
+use crate::ending::InputEnd;
 use crate::fault::ServeFault;
 use clients::Limits;
 use cluster::Syncing;
@@ -31,6 +32,12 @@ pub struct Settings<'a> {
     pub idle: u64,
     /// How many bytes of unfinished requests all connections have together.
     pub request_bytes: u64,
+    /// How many bytes of pages aren't sent before searches wait. The texts that pages share with the index don't count.
+    pub page_bytes: u64,
+    /// Whether the server ends in order when its standard input ends.
+    pub until_input_ends: bool,
+    /// Whether that has ended.
+    pub input_end: Option<&'a InputEnd>,
     /// Whether standard error says why requests are refused.
     pub explains: bool,
     /// Whether standard error is a terminal: the opening of large logs is shown there, and an entry that doesn't pass the audit.
@@ -48,6 +55,7 @@ impl<'a> Settings<'a> {
             threads: self.threads as usize,
             connections: self.connections,
             bytes: self.request_bytes,
+            pages: self.page_bytes,
             idle: self.idle,
             refresh: self.refresh,
         }

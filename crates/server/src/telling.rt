@@ -1,5 +1,6 @@
 //! What standard error says while connections are served.
 
+use crate::ending::InputEnd;
 use crate::lines::Lines;
 use clients::Watcher;
 use doc::Mapping;
@@ -18,6 +19,7 @@ pub(crate) struct Telling<'a, R: Wait> {
     pub(crate) mapping: &'a Mapping,
     /// Whether it says why requests are refused.
     pub(crate) explains: bool,
+    pub(crate) input_end: Option<&'a InputEnd>,
     pub(crate) lines: &'a Lines,
 }
 
@@ -43,6 +45,13 @@ impl<'a, R: Wait + Sync> Watcher for Telling<'a, R> {
     fn answered(&self, rule: &Rule, connection: u64, whole: &Whole, page: &str) {
         if self.explains && is_refusal(whole, page) {
             let _ = self.tell(rule, connection, whole);
+        }
+    }
+
+    fn is_to_end(&self) -> bool {
+        match self.input_end {
+            Some(end) => end.is_there(),
+            None => false,
         }
     }
 

@@ -6,6 +6,7 @@ ghost use Rattle.doc.specs.Fault.{fault_of};
 ghost use Rattle.doc.specs.Outcome.{Gives};
 ghost use Rattle.front.specs.CommandView.{command_view};
 ghost use Rattle.front.specs.ReplyView.{reply_view};
+ghost use Rattle.op.specs.Ids.{has};
 ghost use Rattle.shard.specs.Answering.{begun_under};
 ghost use Rattle.shard.specs.Ready as spec;
 ghost use Rattle.shard.specs.Ready.{IsReady, IsServed, IsUnready};
@@ -98,6 +99,24 @@ impl<D: LogDevice> Shard<D> {
     {
         make_ready(self.alloc, &mut self.copy, &mut self.master, true)?;
         Ok(self.copy.snapshot().is_some() && is_primary(self.copy.role()))
+    }
+
+    /// Whether the copy is in sync by what the master knows: then only a log that can't be written keeps it from leading.
+    pub fn is_in_sync(&self) -> bool
+        ensures { result ≡ has self.now.master.state.in_sync self.now.copy.copy.id }
+    {
+        self.master.state().in_sync.has(self.copy.id())
+    }
+
+    /// Opens the copy again, if it is closed. A copy that doesn't open stays closed.
+    #[tactic(auto, using(crate::proofs::Mappings::ready_under, crate::proofs::Mappings::unready_under))]
+    pub fn reopen(&mut self) -> Result<(), AllocError>
+        ensures ready { OnOk result (IsReady false self.old.copy self.new.copy self.old.master self.new.master) }
+        ensures wanting { OnErr result (IsUnready self.old.copy self.new.copy self.old.master self.new.master) }
+        ensures name { string_bytes self.new.name ≡ string_bytes self.old.name }
+        ensures mapping { self.new.copy.copy.mapping ≡ self.old.copy.copy.mapping }
+    {
+        make_ready(self.alloc, &mut self.copy, &mut self.master, false)
     }
 
     /// Carries out a command.

@@ -175,13 +175,27 @@ fn with_clients<'a>(alloc: Global, command: Command<'a>) -> Result<Command<'a>, 
         1,
         3_600,
     )?;
-    with_number(
+    let command = with_number(
         alloc,
         command,
         "request-mb",
         "How many MB of unfinished requests there are at once, 4 to 4096; 64 where none is given",
         4,
         4_096,
+    )?;
+    let command = with_number(
+        alloc,
+        command,
+        "page-mb",
+        "After how many MB of pages that aren't sent searches wait, 1 to 4096; 64 where none is given",
+        1,
+        4_096,
+    )?;
+    with_flag(
+        alloc,
+        command,
+        "until-input-ends",
+        "Ends in order when standard input ends: requests that came whole are answered, and the status is 0",
     )
 }
 

@@ -10,8 +10,8 @@ returns-in_default-clause-ok g c =
 
 pub returns-clause-ok : goal.returns-clause-ok
 returns-clause-ok g c =
-    next_answered (rule_view c.args.rule.now) g.S.Service.answers g.S.Resumable.knows (g.S.Service.name c.args.service.now) (g.S.Service.fields c.args.service.now) c.resume.new.self c.answer_by.new.service (talk c.args.self.now) _ c.in-Some.whole
-    c.as_slice-rest.result.now c.read_request.new.reader.now (string_bytes c.in_ok-page.page) c.if-self.false c.requires c.as_slice-rest.ensures.value (rw c.in-Some.is at c.in_ok-whole.ensures) (c.in_ok-rest.ensures.items_if_clones_equal (λ x y e. e)) c.ends-self.ensures refl c.resume.ensures.knows (ap (λ k. Some k) c.known.ensures) (rw (c.resume.ensures.name, c.resume.ensures.fields) at c.in_ok-page.ensures.ok)
+    rw c.of.ensures (next_answered (rule_view c.args.rule.now) g.S.Service.answers g.S.Resumable.knows (g.S.Service.name c.args.service.now) (g.S.Service.fields c.args.service.now) c.resume.new.self c.answer_by.new.service (talk c.args.self.now) _ c.in-Some.whole
+    c.as_slice-rest.result.now c.read_request.new.reader.now c.in_ok-page.page c.if-self.false c.requires c.as_slice-rest.ensures.value (rw c.in-Some.is at c.in_ok-whole.ensures) (c.in_ok-rest.ensures.items_if_clones_equal (λ x y e. e)) c.ends-self.ensures refl c.resume.ensures.knows (ap (λ k. Some k) c.known.ensures) (rw (c.resume.ensures.name, c.resume.ensures.fields) at c.in_ok-page.ensures.ok))
 
 -- nothing of the request was done
 pub returns-in_err-whole-clause-err : goal.returns-in_err-whole-clause-err
