@@ -69,7 +69,7 @@ def times(package):
 
 def wanted_files():
     """What the package has to have: each path with its mode, and the file of the repository that it is equal to, where there is one."""
-    found = {"usr/bin/indexd": (0o755, RELEASED), UNIT: (0o644, ROOT / "packaging/debian/indexd.service"), MANUAL: (0o644, None)}
+    found = {"usr/bin/indexd": (0o755, RELEASED), "usr/lib/indexd/serve": (0o755, ROOT / ".ci/serve"), UNIT: (0o644, ROOT / "packaging/debian/indexd.service"), MANUAL: (0o644, None)}
     found |= {f"etc/indexd/{it}": (0o644, ROOT / "packaging/debian" / it) for it in ("mapping.json", "options")}
     found |= {f"{DOCUMENTS}/{it}": (0o644, ROOT / "packaging/debian" / it) for it in ("README.Debian", "copyright")}
     documents = [ROOT / "README.md", *(it for it in (ROOT / "docs").iterdir() if it.suffix in (".md", ".png", ".svg"))]

@@ -6,10 +6,11 @@ from pathlib import Path
 
 from checking import check
 from packaged.package import OPTIONS, UNIT, Service, command_line, ran, scratch, unpacked
-from serving.server import free_port, is_kept
+from serving.server import SECONDS, free_port, is_kept
 
 SETTINGS = """
-ExecStart=/usr/bin/indexd serve --data /var/lib/indexd/data --mapping /etc/indexd/mapping.json $INDEXD_OPTIONS
+ExecStart=/usr/lib/indexd/serve /usr/bin/indexd --data /var/lib/indexd/data --mapping /etc/indexd/mapping.json $INDEXD_OPTIONS
+KillMode=mixed
 DynamicUser=yes
 StateDirectory=indexd
 StateDirectoryMode=0700
@@ -70,7 +71,7 @@ def confine():
 
 def started():
     """The command line of the unit, over a folder that isn't there yet and a server that is killed."""
-    places = {"/usr/bin/indexd": unpacked() / "usr/bin/indexd", "/var/lib/indexd/data": Path(scratch().name, "data"),
+    places = {"/usr/bin/indexd": unpacked() / "usr/bin/indexd", "/usr/lib/indexd/serve": unpacked() / "usr/lib/indexd/serve", "/var/lib/indexd/data": Path(scratch().name, "data"),
               "/etc/indexd/mapping.json": unpacked() / "etc/indexd/mapping.json"}
     for name in ("a first start", "a start after a kill"):
         port = free_port()
@@ -81,6 +82,8 @@ def started():
                 is_kept("a write is confirmed", service.answer("PUT", "/index/_doc/1", b'{"n":1}')[0], 201)
             elif service.listens:
                 is_kept("the write is found", service.answer("GET", "/index/_doc/1")[1].get("_source"), {"n": 1})
+                service.process.terminate()
+                is_kept("the status after SIGTERM", service.process.wait(SECONDS), 0)
 
 
 def analyzed():
@@ -90,7 +93,7 @@ def analyzed():
         print("systemd 250 isn't installed: what it says of the unit is left out", flush=True)
         return
     file = Path(scratch().name, "indexd.service")
-    file.write_text((unpacked() / UNIT).read_text().replace("=/usr/bin/indexd", f"={unpacked()}/usr/bin/indexd"))
+    file.write_text((unpacked() / UNIT).read_text().replace("/usr/lib/indexd/serve", f"{unpacked()}/usr/lib/indexd/serve").replace(" /usr/bin/indexd", f" {unpacked()}/usr/bin/indexd"))
     said = ran("systemd-analyze", "verify", "--man=no", file)
     check("systemd finds no fault in the unit", "".join(it for it in said.stderr.splitlines(True) if "indexd" in it))
     said = ran("systemd-analyze", "security", "--offline=true", "--no-pager", f"--threshold={MOST_EXPOSED * 10:.0f}", file)

@@ -35,6 +35,8 @@ def ends():
     """A server that ./indexd runs ends in order at a signal, though a connection is idle, and at once at a second one, though a page isn't read."""
     for name, one in (("SIGTERM", signal.SIGTERM), ("SIGINT", signal.SIGINT)):
         with launched() as (process, port), socket.create_connection(("127.0.0.1", port)) as idle:
+            idle.sendall(b"GET /index/_count HTTP/1.1\r\n\r\n")
+            idle.recv(65536)
             process.send_signal(one)
             check(f"./indexd serve at {name}", "" if process.wait(30) == 0 and idle.recv(1) == b"" else f"status {process.returncode}")
     with launched() as (process, port), socket.create_connection(("127.0.0.1", port)) as reader:
