@@ -43,7 +43,7 @@ PROPERTIES = {"title": "text", "body": "text", "brand": "keyword", "price": "lon
 TICKS = os.sysconf("SC_CLK_TCK")
 BULK, PAGE, DEEP = 500, 10, 9_000
 # Seconds: of processor time that are enough for a class, by the clock that a class takes at most, without processor time that are rest, and until rest at most.
-ENOUGH, LONGEST, QUIET, LONGEST_REST = 0.5, 5, 1, 60
+ENOUGH, LONGEST, QUIET, LONGEST_REST = 0.5, 5, 3, 60
 Query = collections.namedtuple("Query", "body condition values")
 Cost = collections.namedtuple("Cost", "processor median answers")
 Fill = collections.namedtuple("Fill", "rate cost rest")
