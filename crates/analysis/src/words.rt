@@ -10,7 +10,7 @@ use std::alloc::{AllocError, Global};
 use std::marker::Model;
 use unicode_segmentation::{UnicodeSegmentation, UnicodeWords};
 
-/// The words of a text that are still to come, each as `tokens` gives it: those of a stretch, and then those of the text behind it.
+/// The words of a text that are still to come, each as `tokens` gives it: those of a stretch, and then those of the text after it.
 #[derive(Drop)]
 pub struct Words<'a> {
     stretch: UnicodeWords<'a>,
@@ -123,7 +123,7 @@ fn plain_end(text: &str, from: usize) -> usize
     bytes.len()
 }
 
-/// The same of delimiters.
+/// Where the delimiters end that stand in the text from an offset on.
 fn delimiters_end(text: &str, from: usize) -> usize
     requires { from ≤ length text.now }
     ensures grows { from ≤ result }
@@ -146,7 +146,7 @@ fn is_delimiter(byte: u8) -> bool
     byte.is_ascii() && !byte.is_ascii_alphanumeric() && byte != b'_' && byte != b' '
 }
 
-/// Where the stretch ends that the text begins with: at the text's end, or at a space behind an ASCII character other than a space, from the offset `from` on.
+/// Where the first stretch of the text ends: at the text's end, or at a space, from the offset `from` on, after another ASCII character.
 fn stretch_end(text: &str, from: usize) -> usize
     ensures within { result ≤ length text.now }
     ensures grows { 0 < length text.now → 0 < result }

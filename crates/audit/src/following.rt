@@ -264,7 +264,7 @@ fn may_refuse(
     }
 }
 
-/// Whether a refusal is this one; want of memory says nothing.
+/// Whether a refusal is this one. A refusal because memory ran out says nothing, so it gives an error.
 fn refuses(made: CopyFault, fault: &CopyFault) -> Result<bool, AllocError>
     requires { is_log made ≡ false }
     ensures { IfOk result (λ is. (IsTrue is ↔ (made ≡ fault.now)) × (fault_of made ≡ Some made)) }

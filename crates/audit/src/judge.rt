@@ -6,7 +6,7 @@ ghost use Rattle.audit.specs.Judge.{IsFollowed, IsRefused, IsJudged, IsMisjudged
 use journal::{Deed, Part, Placed};
 use std::alloc::{AllocError, AllocFailed, Global};
 
-/// Why a journal isn't judged legal: an entry that isn't, by its place; and want of memory.
+/// Why a journal isn't judged legal: the place of an entry that isn't legal, or that memory ran out.
 #[derive(Clone, Copy, Debug, PartialEq, Eq)]
 pub enum Wrong {
     At(u64),

@@ -8,7 +8,7 @@ ghost use Rattle.journal.specs.declared.moves.Move.{Move as Made};
 use journal::{Move, Part};
 use std::alloc::{AllocError, Global};
 
-/// Why a merge ends before all moves are taken: a node whose next move can't come, with the move's place; and want of memory.
+/// Why a merge ends before it has taken all moves: a node whose next move can't come, with the move's place, or that memory ran out.
 #[derive(Clone, Copy, Debug, PartialEq, Eq)]
 pub enum Halt {
     At(usize, u64),

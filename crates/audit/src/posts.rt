@@ -5,7 +5,7 @@ use op::Msg;
 use replica::Input;
 use std::alloc::{AllocError, Global};
 
-/// How far ahead of the next message, and how far behind it, one is looked for.
+/// How many numbers, from the next message on, `near` gives before it gives earlier ones.
 const AHEAD: usize = 12;
 
 const AROUND: usize = 16;

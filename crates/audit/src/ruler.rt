@@ -178,7 +178,7 @@ fn asked(place: u64, request: Request) -> Placed
     }
 }
 
-/// What a master did that refused a request: nothing for want of memory, or where its log failed.
+/// What a master did when it refused a request: nothing where memory ran out or its log failed.
 fn denied(place: u64, request: Request, fault: &MasterFault) -> Option<Placed>
     ensures { listed result ≡ rulings_at false place request (Err fault.now) }
 {

@@ -60,7 +60,7 @@ impl Span {
         }
     }
 
-    /// These and a greater one behind them; `None` where it isn't greater, or is too far above the least: up to 1,024 is near enough, and 64
+    /// These and a greater one after them; `None` where it isn't greater, or is too far above the least: up to 1,024 is near enough, and 64
     /// more may be.
     pub fn then(&self, number: u64) -> Option<Span>
         ensures grown { IfSome result (λ s. s ≡ self.now ++ number ∷ []) }

@@ -17,7 +17,7 @@ seat_at number line first = record { number = number; line = line; first = first
 abbrev pub seat_coded : Coded SeatData
 seat_coded = coded_via (coded× coded_ℕ (coded× line_coded line_coded)) (λ (s : SeatData). (s.number, (s.line, s.first))) (λ x y e i. record { number = (e i).0; line = (e i).1.0; first = (e i).1.1 })
 
--- which registry it is, and which ledger stands beside it
+-- which registry it is, and which ledger stands next to it
 pub record NamesData : Type 0 where
   pub registry : Line
   pub ledger : Line

@@ -43,7 +43,7 @@ impl<B, E> Beginning<B, E> {
         Beginning { seat, first }
     }
 
-    /// The same once more.
+    /// A copy that is equal to this one.
     pub fn again(&self) -> Beginning<B, E>
         ensures { result ≡ self.now }
     {

@@ -42,7 +42,7 @@ impl<E, N: RegistryName> Entries<E, N> {
         }
     }
 
-    /// The same once more.
+    /// A copy that is equal to this one.
     pub fn again(&self) -> Entries<E, N>
         ensures { result ≡ self.now }
     {

@@ -93,7 +93,7 @@ pub trait Means<S, E> {
     ghost means: { S → E };
 }
 
-/// As itself.
+/// A value is written as itself.
 pub struct Same;
 
 impl<E> Means<E, E> for Same {

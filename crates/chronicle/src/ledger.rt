@@ -100,7 +100,7 @@ impl<E: Drop> Ledger<E> {
         }
     }
 
-    /// The same, of which memory is to have all entries.
+    /// Has memory keep all entries of this ledger, which has none yet.
     pub fn keep(self, alloc: Global) -> Ledger<E>
         requires { self.entries ≡ [] }
         ensures { result ≡ recorded self.line true false [] }

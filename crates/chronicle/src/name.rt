@@ -1,8 +1,8 @@
-//! Names of registries, and of the ledger beside each.
+//! Names of registries, and of the ledger next to each.
 
 use std::marker::Brand;
 
-/// Which registry it is, and which ledger stands beside it. A call of a program picks them by `Brand`.
+/// Which registry it is, and which ledger stands next to it. A call of a program picks them by `Brand`.
 pub trait RegistryName {
     ghost use Rattle.chronicle.specs.Written.{Line};
 

@@ -1,4 +1,4 @@
-//! The ledger that stands beside a registry, under its name.
+//! The ledger that stands next to a registry, under its name.
 ghost use Rattle.std.specs.Prelude.{◌≡◌, ◌++◌, ◌∷◌, [], true, false, OnOk, IfNone, IfSome};
 ghost use Rattle.chronicle.specs.Ledger.{recorded};
 

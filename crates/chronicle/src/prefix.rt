@@ -44,7 +44,7 @@ impl<E, N: RegistryName> Prefix<E, N> {
         Prefix { seat, mark }
     }
 
-    /// The same once more.
+    /// A copy that is equal to this one.
     pub fn again(&self) -> Prefix<E, N>
         ensures { result ≡ self.now }
     {

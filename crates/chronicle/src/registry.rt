@@ -51,7 +51,7 @@ impl<E, B> Means<Entering<E, B>, Numbered<E>> for Registers {
     ghost means = { λ e. record { number = e.number; ledger = e.ledger; first = e.first.line } };
 }
 
-/// A registry and the ledger beside it, which have no name yet. Contracts see which they are.
+/// A registry and the ledger next to it, which have no name yet. Contracts see which they are.
 pub struct Unnamed<E, F> {
     chronicle: Chronicle<Numbered<E>>,
     writer: Writer<Numbered<E>>,
@@ -117,7 +117,7 @@ impl<E, F: Drop> Unnamed<E, F> {
     }
 }
 
-/// The ledgers of one owner, under its name: the registry for those that have numbers, and the one beside it, which has no entries yet.
+/// The ledgers of one owner, under its name: the registry for those that have numbers, and the one next to it, which has no entries yet.
 #[derive(Drop)]
 pub struct Ledgers<E, F, N: RegistryName> {
     pub registry: Registry<E, N>,

@@ -45,7 +45,7 @@ impl<E, N: RegistryName> Seat<E, N> {
         }
     }
 
-    /// The same once more.
+    /// A copy that is equal to this one.
     pub(crate) fn again(&self) -> Seat<E, N>
         ensures { result ≡ self.now }
     {

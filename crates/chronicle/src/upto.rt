@@ -45,7 +45,7 @@ impl<E> Upto<E> {
         Upto { seat, mark }
     }
 
-    /// The same once more.
+    /// A copy that is equal to this one.
     pub fn again(&self) -> Upto<E>
         ensures { result ≡ self.now }
     {
@@ -65,7 +65,7 @@ impl<E> Upto<E> {
     }
 }
 
-/// A mark once more.
+/// A copy of a mark, if there is one.
 fn again<E>(mark: &Option<Mark<E>>) -> Option<Mark<E>>
     ensures { result ≡ mark.now }
 {

@@ -7,7 +7,7 @@ use Rattle.replica.specs.declared.output.Written.{Written}
 use Rattle.node.specs.Entry.{Receipt, IsEntry}
 use Rattle.cluster.specs.declared.confirmed.Confirmed.{Confirmed}
 use Rattle.cluster.specs.declared.fault.WriteFault.{WriteFault}
-use Rattle.cluster.specs.declared.fault.WriteFault.TheVariants.{NoPrimary, Lost, Unconfirmed, Cluster}
+use Rattle.cluster.specs.declared.fault.WriteFault.TheVariants.{NoPrimary, Refused, Lost, Unconfirmed, Cluster}
 use Rattle.cluster.specs.Bulks.{HasKept, IsBulkLost, IsBulkRefused}
 use Rattle.cluster.specs.Confirmed.{wrote, IsAcknowledgedWrite, IsConfirmed, IsEndedBy, IsEndOf, IsLost, IsWriteRefused}
 
@@ -16,6 +16,7 @@ lost write r w asked stands kept = record { asked = asked; stands = stands; kept
 
 pub refused_end : {J : Type 0} (write : Write) (r : Receipt) (w : Written) (f : WriteFault J) → r.deed.input ≡ Client write → IsEntry r → wrote r.deed.answer ≡ Some w → IsEndOf r f → IsWriteRefused write f
 refused_end write r w (NoPrimary x) asked stands kept end = absurd end
+refused_end write r w (Refused x) asked stands kept end = absurd end
 refused_end write r w (Lost x last) asked stands kept end =
     (subst (λ (y : Receipt). IsLost write y) (sym end.0) (lost write r w asked stands kept), subst (λ (y : Receipt). IsEndedBy y last) (sym end.0) end.1)
 refused_end write r w (Unconfirmed x) asked stands kept end = subst (λ (y : Receipt). IsLost write y) (sym end) (lost write r w asked stands kept)
@@ -36,6 +37,7 @@ lost_bulk writes r asked stands kept = record { asked = asked; stands = stands; 
 
 pub refused_bulk_end : {J : Type 0} (writes : List Write) (r : Receipt) (f : WriteFault J) → r.deed.input ≡ Bulk writes → IsEntry r → HasKept r → IsEndOf r f → IsBulkRefused writes f
 refused_bulk_end writes r (NoPrimary x) asked stands kept end = absurd end
+refused_bulk_end writes r (Refused x) asked stands kept end = absurd end
 refused_bulk_end writes r (Lost x last) asked stands kept end =
     (subst (λ (y : Receipt). IsBulkLost writes y) (sym end.0) (lost_bulk writes r asked stands kept), subst (λ (y : Receipt). IsEndedBy y last) (sym end.0) end.1)
 refused_bulk_end writes r (Unconfirmed x) asked stands kept end = subst (λ (y : Receipt). IsBulkLost writes y) (sym end) (lost_bulk writes r asked stands kept)

@@ -14,11 +14,12 @@ use Rattle.op.specs.declared.record.Record.{Record}
 use Rattle.replica.specs.Copy.{Copy, begun, opened}
 use Rattle.ruled.specs.declared.entry.MasterEntry.{MasterEntry}
 use Rattle.translog.specs.Kept.{kept}
+use Rattle.translog.specs.declared.fault.LogFault.{LogFault}
 use Rattle.cluster.specs.declared.fault.Unopened.{Unopened}
 use Rattle.cluster.specs.declared.opening.Opened.{Opened}
 use Rattle.cluster.specs.Given.{GivenData, given, IsGiven}
 use Rattle.cluster.specs.Opening.{birth_of, leader_of, BeganWith, ReadyData, IsKept}
-use Rattle.cluster.specs.Opened.{copy_of, ended, AreNew, AreOpened, AreTried, HasKept, IsLed, IsLeftOut, IsNewIndex, IsOpened, IsOpenedAs, IsOpenedBy, IsPromoted, IsReopened, IsStarted}
+use Rattle.cluster.specs.Opened.{copy_of, ended, AreNew, AreOpened, AreTried, HasKept, IsLed, IsLeftOut, IsNewIndex, IsOpened, IsOpenedAs, IsOpenedBy, IsPromoted, IsReopened, IsStarted, LeadsBy}
 
 -- ---- devices
 
@@ -188,13 +189,13 @@ of_ok r master m P is h = subst (λ x. IfOk r (λ c. IfOk x (P c))) (sym is) h
 
 -- ---- an index that devices held
 
-pub reopened : (gs : List GivenData) (m : MappingData) (n : ℕ) (bytes : List ℕ) (first : State) (began : List Copy) (us : List Unopened) (old past : List MasterEntry) → kept_state bytes ≡ Ok first → old ≡ Starts first ∷ []
-    → IsPrefix old past → IsLed gs m n began us past → IsReopened gs bytes m n began us past
-reopened gs m n bytes first began us old past read begins since led = record { first = first; read = read; master = subst (λ l. IsPrefix l past) begins since; led = led }
+pub reopened : (gs : List GivenData) (m : MappingData) (n : ℕ) (bytes : List ℕ) (first : State) (began : List Copy) (us : List Unopened) (unled : Option LogFault) (old past : List MasterEntry) → kept_state bytes ≡ Ok first → old ≡ Starts first ∷ []
+    → IsPrefix old past → IsLed gs m n began us unled past → IsReopened gs bytes m n began us unled past
+reopened gs m n bytes first began us unled old past read begins since led = record { first = first; read = read; master = subst (λ l. IsPrefix l past) begins since; led = led }
 
-pub led : (gs : List GivenData) (m : MappingData) (n : ℕ) (cs : List Copy) (us : List Unopened) (os : List Opened) (before past : List MasterEntry) (s : State) (leader : ℕ) → IsKnown before s → IsPrefix before past
-    → AreTried gs m n s.in_sync cs us os → leader_of s.primary os ≡ Some leader → IsPromoted leader past → IsLed gs m n cs us past
-led gs m n cs us os before past s leader known since tried leads promoted = record {
+pub led : (gs : List GivenData) (m : MappingData) (n : ℕ) (cs : List Copy) (us : List Unopened) (os : List Opened) (unled : Option LogFault) (before past : List MasterEntry) (s : State) (leader : ℕ) → IsKnown before s → IsPrefix before past
+    → AreTried gs m n s.in_sync cs us os → leader_of s.primary os ≡ Some leader → LeadsBy unled s.primary leader past → IsLed gs m n cs us unled past
+led gs m n cs us os unled before past s leader known since tried leads by = record {
   before = before;
   state = s;
   known = known;
@@ -202,15 +203,24 @@ led gs m n cs us os before past s leader known since tried leads promoted = reco
   tried = subst (λ l. AreTried gs m n s.in_sync cs us l) tried.ends tried;
   leader = leader;
   leads = subst (λ l. leader_of s.primary l ≡ Some leader) tried.ends leads;
-  promoted = promoted;
+  by = by;
 }
+
+-- whichever way the lead was made sure of
+pub leads_now : {X F : Type 0} (r : Result X F) (unled : Option LogFault) (last leader : ℕ) (past : List MasterEntry) → unled ≡ None → OnOk r (IsPromoted leader past) → OnOk r (LeadsBy unled last leader past)
+leads_now (Err e) unled last leader past none promoted = tt
+leads_now (Ok x) unled last leader past none promoted = subst (λ (u : Option LogFault). LeadsBy u last leader past) (sym none) promoted
+
+pub leads_later : {X F : Type 0} (r : Result X F) (unled : Option LogFault) (fault : LogFault) (last leader : ℕ) (past : List MasterEntry) → leader ≡ last → OnOk r (unled ≡ Some fault) → OnOk r (LeadsBy unled last leader past)
+leads_later (Err e) unled fault last leader past same waits = tt
+leads_later (Ok x) unled fault last leader past same waits = subst (λ (u : Option LogFault). LeadsBy u last leader past) (sym waits) same
 
 pub started_by : (gs hs : List GivenData) (m : MappingData) (n : ℕ) (bytes : List ℕ) (cs : List Copy) (past : List MasterEntry) → IsGiven gs 0 bytes → IsPrefix gs hs → IsNewIndex bytes m n cs past → IsStarted hs m n cs past
 started_by gs hs m n bytes cs past given more new = record { bytes = bytes; from = given_on gs hs 0 bytes given more; new = new }
 
-pub opened_by : (gs hs : List GivenData) (m : MappingData) (n : ℕ) (count : Option ℕ) (bytes : List ℕ) (cs : List Copy) (us : List Unopened) (past : List MasterEntry) → IsGiven gs 0 bytes → IsPrefix gs hs → BeganWith bytes count
-    → IsOpenedBy count hs bytes m n cs us past → IsOpened hs m n cs us past
-opened_by gs hs m n count bytes cs us past given more with is = record { bytes = bytes; from = given_on gs hs 0 bytes given more; count = count; began_with = with; is = is }
+pub opened_by : (gs hs : List GivenData) (m : MappingData) (n : ℕ) (count : Option ℕ) (bytes : List ℕ) (cs : List Copy) (us : List Unopened) (unled : Option LogFault) (past : List MasterEntry) → IsGiven gs 0 bytes → IsPrefix gs hs → BeganWith bytes count
+    → IsOpenedBy count hs bytes m n cs us unled past → IsOpened hs m n cs us unled past
+opened_by gs hs m n count bytes cs us unled past given more with is = record { bytes = bytes; from = given_on gs hs 0 bytes given more; count = count; began_with = with; is = is }
 
 -- ---- results
 
@@ -220,18 +230,18 @@ unless_closed P (Err e) done c same was is = tt
 unless_closed P (Ok x) (Err e) c same was is = absurd (let never : false ≡ true = was refl in cc)
 unless_closed P (Ok x) (Ok y) c same was is = subst P (sym same) is
 
-pub led_ok : {X F : Type 0} (r : Result X F) (gs : List GivenData) (m : MappingData) (n : ℕ) (cs : List Copy) (us : List Unopened) (os : List Opened) (before past : List MasterEntry) (s : State) (leader : ℕ) → IsKnown before s
-    → OnOk r (IsPrefix before past) → AreTried gs m n s.in_sync cs us os → leader_of s.primary os ≡ Some leader → OnOk r (IsPromoted leader past) → OnOk r (IsLed gs m n cs us past)
-led_ok (Err e) gs m n cs us os before past s leader known since tried leads promoted = tt
-led_ok (Ok x) gs m n cs us os before past s leader known since tried leads promoted = led gs m n cs us os before past s leader known since tried leads promoted
+pub led_ok : {X F : Type 0} (r : Result X F) (gs : List GivenData) (m : MappingData) (n : ℕ) (cs : List Copy) (us : List Unopened) (os : List Opened) (unled : Option LogFault) (before past : List MasterEntry) (s : State) (leader : ℕ) → IsKnown before s
+    → OnOk r (IsPrefix before past) → AreTried gs m n s.in_sync cs us os → leader_of s.primary os ≡ Some leader → OnOk r (LeadsBy unled s.primary leader past) → OnOk r (IsLed gs m n cs us unled past)
+led_ok (Err e) gs m n cs us os unled before past s leader known since tried leads by = tt
+led_ok (Ok x) gs m n cs us os unled before past s leader known since tried leads by = led gs m n cs us os unled before past s leader known since tried leads by
 
 pub started_ok : {C F : Type 0} (gave : C → List GivenData) (began : C → List Copy) (past : C → List MasterEntry) (r : Result C F) (gs : List GivenData) (m : MappingData) (n : ℕ) (bytes : List ℕ) → IsGiven gs 0 bytes
     → IfOk r (λ c. IsPrefix gs (gave c)) → IfOk r (λ c. IsNewIndex bytes m n (began c) (past c)) → IfOk r (λ c. IsStarted (gave c) m n (began c) (past c))
 started_ok gave began past (Err e) gs m n bytes given more new = tt
 started_ok gave began past (Ok c) gs m n bytes given more new = started_by gs (gave c) m n bytes (began c) (past c) given more new
 
-pub opened_ok : {C F : Type 0} (gave : C → List GivenData) (began : C → List Copy) (us : C → List Unopened) (past : C → List MasterEntry) (r : Result C F) (gs : List GivenData) (m : MappingData) (n : ℕ) (count : Option ℕ) (bytes at : List ℕ)
-    → IsGiven gs 0 bytes → at ≡ bytes → BeganWith bytes count → IfOk r (λ c. IsPrefix gs (gave c)) → IfOk r (λ c. IsOpenedBy count (gave c) at m n (began c) (us c) (past c)) → IfOk r (λ c. IsOpened (gave c) m n (began c) (us c) (past c))
-opened_ok gave began us past (Err e) gs m n count bytes at given same with more is = tt
-opened_ok gave began us past (Ok c) gs m n count bytes at given same with more is =
-    opened_by gs (gave c) m n count bytes (began c) (us c) (past c) given more with (subst (λ l. IsOpenedBy count (gave c) l m n (began c) (us c) (past c)) same is)
+pub opened_ok : {C F : Type 0} (gave : C → List GivenData) (began : C → List Copy) (us : C → List Unopened) (unled : C → Option LogFault) (past : C → List MasterEntry) (r : Result C F) (gs : List GivenData) (m : MappingData) (n : ℕ) (count : Option ℕ) (bytes at : List ℕ)
+    → IsGiven gs 0 bytes → at ≡ bytes → BeganWith bytes count → IfOk r (λ c. IsPrefix gs (gave c)) → IfOk r (λ c. IsOpenedBy count (gave c) at m n (began c) (us c) (unled c) (past c)) → IfOk r (λ c. IsOpened (gave c) m n (began c) (us c) (unled c) (past c))
+opened_ok gave began us unled past (Err e) gs m n count bytes at given same with more is = tt
+opened_ok gave began us unled past (Ok c) gs m n count bytes at given same with more is =
+    opened_by gs (gave c) m n count bytes (began c) (us c) (unled c) (past c) given more with (subst (λ l. IsOpenedBy count (gave c) l m n (began c) (us c) (unled c) (past c)) same is)

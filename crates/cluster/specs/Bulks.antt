@@ -1,5 +1,5 @@
 -- Receipts that answer a bulk.
-use Rattle.std.specs.Prelude.{◌≡◌, ℕ, Bool, true, false, List, [], ◌∷◌, slice_get, All, Option, Some, None, Result, Ok, Err}
+use Rattle.std.specs.Prelude.{◌≡◌, ℕ, Bool, true, false, List, [], ◌∷◌, slice_get, All, Option, Some, None, Result, Ok, Err, IsErr}
 use Rattle.replica.specs.declared.fault.CopyFault.{CopyFault}
 use Rattle.replica.specs.declared.input.Input.TheVariants.{Bulk}
 use Rattle.replica.specs.declared.input.Write.{Write}
@@ -12,7 +12,7 @@ use Rattle.replica.specs.declared.output.Written.{Written}
 use Rattle.node.specs.Entry.{Receipt, IsEntry}
 use Rattle.cluster.specs.declared.confirmed.ConfirmedBulk.{ConfirmedBulk}
 use Rattle.cluster.specs.declared.fault.WriteFault.{WriteFault}
-use Rattle.cluster.specs.declared.fault.WriteFault.TheVariants.{NoPrimary, Lost, Unconfirmed, Cluster}
+use Rattle.cluster.specs.declared.fault.WriteFault.TheVariants.{NoPrimary, Refused as Denied, Lost, Unconfirmed, Cluster}
 use Rattle.cluster.specs.Confirmed.{Acknowledges, is_no_primary, IsBehind, IsEndedBy}
 
 -- what became of the writes of a bulk
@@ -86,9 +86,11 @@ pub record IsBulkLost (writes : List Write) (r : Receipt) : Type 0 where
   pub stands : IsEntry r
   pub kept : HasKept r
 
--- what a refused bulk shows: that no copy is the primary, or that something of it was kept, and where an entry ended the lead in which it was, that one
+-- what a refused bulk shows: that no copy is the primary, or that the copy refused it, or that something of it was kept, and where an entry ended the lead
+-- in which it was, that one
 abbrev pub IsBulkRefused : {J : Type 0} → List Write → WriteFault J → Type 0
 IsBulkRefused writes (NoPrimary r) = (r.deed.input ≡ Bulk writes) × IsEntry r × (is_no_primary r.deed.answer ≡ true)
+IsBulkRefused writes (Denied r) = (r.deed.input ≡ Bulk writes) × IsEntry r × IsErr r.deed.answer
 IsBulkRefused writes (Lost r last) = IsBulkLost writes r × IsEndedBy r last
 IsBulkRefused writes (Unconfirmed r) = IsBulkLost writes r
 IsBulkRefused writes (Cluster f) = Unit {0}

@@ -1,5 +1,5 @@
 -- Receipts that answer what was asked.
-use Rattle.std.specs.Prelude.{◌≡◌, ◌≤◌, ◌==◌, ◌||◌, ℕ, Bool, true, false, List, slice_get, Option, Some, None, Result, Ok, Err}
+use Rattle.std.specs.Prelude.{◌≡◌, ◌≤◌, ◌==◌, ◌||◌, ℕ, Bool, true, false, List, slice_get, Option, Some, None, Result, Ok, Err, IsErr}
 use mathlib.Core.List.{IsPrefix}
 use Rattle.op.specs.declared.message.Content.{Content}
 use Rattle.op.specs.declared.message.Content.TheVariants.{Op as Operation, Ack, Promoted, Resync, Track, Recover, Synced, Fail, Removed}
@@ -17,7 +17,7 @@ use Rattle.journal.specs.declared.journal.Deed.{Deed}
 use Rattle.node.specs.Entry.{Receipt, IsEntry}
 use Rattle.cluster.specs.declared.confirmed.Confirmed.{Confirmed}
 use Rattle.cluster.specs.declared.fault.WriteFault.{WriteFault}
-use Rattle.cluster.specs.declared.fault.WriteFault.TheVariants.{NoPrimary, Lost, Unconfirmed, Cluster}
+use Rattle.cluster.specs.declared.fault.WriteFault.TheVariants.{NoPrimary, Refused, Lost, Unconfirmed, Cluster}
 
 -- the entry is of this node, and was asked this
 pub record IsAnswerTo (node : ℕ) (asked : Input) (r : Receipt) : Type 0 where
@@ -143,9 +143,10 @@ is_no_primary (Err OutOfMemory) = false
 is_no_primary (Err WrongAddress) = false
 is_no_primary (Err Exhausted) = false
 
--- the refusal that an entry shows: that its copy isn't the primary, or another one, which holds no entry
+-- the refusal that an entry shows: that its copy isn't the primary, or another one
 abbrev pub IsRefusalBy : {J : Type 0} → Receipt → WriteFault J → Type 0
 IsRefusalBy receipt (NoPrimary r) = (r ≡ receipt) × (is_no_primary receipt.deed.answer ≡ true)
+IsRefusalBy receipt (Refused r) = (r ≡ receipt) × IsErr receipt.deed.answer
 IsRefusalBy receipt (Lost r last) = ⊥
 IsRefusalBy receipt (Unconfirmed r) = ⊥
 IsRefusalBy receipt (Cluster f) = Unit {0}
@@ -153,6 +154,7 @@ IsRefusalBy receipt (Cluster f) = Unit {0}
 -- a write that its copy kept wasn't acknowledged: the refusal holds its entry, and where another one ended the lead, that too; or it holds none
 abbrev pub IsEndOf : {J : Type 0} → Receipt → WriteFault J → Type 0
 IsEndOf receipt (NoPrimary r) = ⊥
+IsEndOf receipt (Refused r) = ⊥
 IsEndOf receipt (Lost r last) = (r ≡ receipt) × IsEndedBy receipt last
 IsEndOf receipt (Unconfirmed r) = r ≡ receipt
 IsEndOf receipt (Cluster f) = Unit {0}
@@ -163,9 +165,11 @@ pub record IsLost (write : Write) (r : Receipt) : Type 0 where
   pub stands : IsEntry r
   pub kept : (w : Written) × (wrote r.deed.answer ≡ Some w)
 
--- what a refused write shows: that no copy is the primary, or that the write was kept, and where an entry ended the lead in which it was, that one
+-- what a refused write shows: that no copy is the primary, or that the copy refused it, or that the write was kept, and where an entry ended the lead in
+-- which it was, that one
 abbrev pub IsWriteRefused : {J : Type 0} → Write → WriteFault J → Type 0
 IsWriteRefused write (NoPrimary r) = (r.deed.input ≡ Client write) × IsEntry r × (is_no_primary r.deed.answer ≡ true)
+IsWriteRefused write (Refused r) = (r.deed.input ≡ Client write) × IsEntry r × IsErr r.deed.answer
 IsWriteRefused write (Lost r last) = IsLost write r × IsEndedBy r last
 IsWriteRefused write (Unconfirmed r) = IsLost write r
 IsWriteRefused write (Cluster f) = Unit {0}

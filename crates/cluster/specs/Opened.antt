@@ -17,6 +17,7 @@ use Rattle.ruled.specs.declared.entry.MasterEntry.{MasterEntry}
 use Rattle.ruled.specs.declared.entry.MasterEntry.TheVariants.{Opened as Began}
 use Rattle.ruled.specs.Entries.{IsDecided, IsKnown}
 use Rattle.translog.specs.Kept.{kept}
+use Rattle.translog.specs.declared.fault.LogFault.{LogFault}
 use Rattle.cluster.specs.declared.fault.Unopened.{Unopened}
 use Rattle.cluster.specs.declared.opening.Opened.{Opened}
 use Rattle.cluster.specs.Given.{GivenData, IsGiven}
@@ -88,9 +89,14 @@ pub record IsPromoted (copy : ℕ) (past : List MasterEntry) : Type 0 where
   pub decision : Decision
   pub decided : IsDecided (Promote copy) decision past
 
--- of the copies that were in sync, as the master knew after some of its entries, each was opened, or is listed as not; and the last decision makes the
--- one the primary that is to lead of those that opened
-pub record IsLed (gave : List GivenData) (m : MappingData) (count : ℕ) (began : List Copy) (unopened : List Unopened) (past : List MasterEntry) : Type 0 where
+-- the last decision makes the copy the primary; or the copy led last, and no other leads while the master's log keeps no decision
+abbrev pub LeadsBy : Option LogFault → ℕ → ℕ → List MasterEntry → Type 0
+LeadsBy None last leader past = IsPromoted leader past
+LeadsBy (Some fault) last leader past = leader ≡ last
+
+-- of the copies that were in sync, as the master knew after some of its entries, each was opened, or is listed as not; and the one leads that is to lead of
+-- those that opened, unless the master's log has this fault
+pub record IsLed (gave : List GivenData) (m : MappingData) (count : ℕ) (began : List Copy) (unopened : List Unopened) (unled : Option LogFault) (past : List MasterEntry) : Type 0 where
   pub before : List MasterEntry
   pub state : State
   pub known : IsKnown before state
@@ -98,15 +104,15 @@ pub record IsLed (gave : List GivenData) (m : MappingData) (count : ℕ) (began 
   pub tried : AreTried gave m count state.in_sync began unopened (map ended began)
   pub leader : ℕ
   pub leads : leader_of state.primary (map ended began) ≡ Some leader
-  pub promoted : IsPromoted leader past
+  pub by : LeadsBy unled state.primary leader past
 
 -- the index that devices held, where the master's held these bytes, and which began with `count` copies: the master began with what its log kept, each
 -- copy in sync that opened with the records of its own device, and one of these leads
-pub record IsReopened (gave : List GivenData) (bytes : List ℕ) (m : MappingData) (count : ℕ) (began : List Copy) (unopened : List Unopened) (past : List MasterEntry) : Type 0 where
+pub record IsReopened (gave : List GivenData) (bytes : List ℕ) (m : MappingData) (count : ℕ) (began : List Copy) (unopened : List Unopened) (unled : Option LogFault) (past : List MasterEntry) : Type 0 where
   pub first : State
   pub read : kept_state bytes ≡ Ok first
   pub master : IsPrefix (Began first ∷ []) past
-  pub led : IsLed gave m count began unopened past
+  pub led : IsLed gave m count began unopened unled past
 
 -- they are those of a new index of n copies, from this id on
 abbrev pub AreNew : MappingData → ℕ → ℕ → List Copy → Type 0
@@ -128,14 +134,14 @@ pub record IsStarted (gave : List GivenData) (m : MappingData) (n : ℕ) (began 
   pub new : IsNewIndex bytes m n began past
 
 -- a new index where the master's device held no frame, else the index that the devices held
-abbrev pub IsOpenedBy : Option ℕ → List GivenData → List ℕ → MappingData → ℕ → List Copy → List Unopened → List MasterEntry → Type 0
-IsOpenedBy None gave bytes m n began unopened past = IsNewIndex bytes m n began past
-IsOpenedBy (Some count) gave bytes m n began unopened past = IsReopened gave bytes m count began unopened past
+abbrev pub IsOpenedBy : Option ℕ → List GivenData → List ℕ → MappingData → ℕ → List Copy → List Unopened → Option LogFault → List MasterEntry → Type 0
+IsOpenedBy None gave bytes m n began unopened unled past = IsNewIndex bytes m n began past
+IsOpenedBy (Some count) gave bytes m n began unopened unled past = IsReopened gave bytes m count began unopened unled past
 
 -- a cluster was opened from devices that were given out
-pub record IsOpened (gave : List GivenData) (m : MappingData) (n : ℕ) (began : List Copy) (unopened : List Unopened) (past : List MasterEntry) : Type 0 where
+pub record IsOpened (gave : List GivenData) (m : MappingData) (n : ℕ) (began : List Copy) (unopened : List Unopened) (unled : Option LogFault) (past : List MasterEntry) : Type 0 where
   pub bytes : List ℕ
   pub from : IsGiven gave 0 bytes
   pub count : Option ℕ
   pub began_with : BeganWith bytes count
-  pub is : IsOpenedBy count gave bytes m n began unopened past
+  pub is : IsOpenedBy count gave bytes m n began unopened unled past

@@ -4,6 +4,7 @@ ghost use Rattle.std.specs.Prelude.{◌≡◌, ◌+◌, vec_len, OnOk};
 use crate::channels::sent;
 use crate::gate::Gate;
 use crate::left::Left;
+use crate::locks::CopyLock;
 use crate::merging::Merger;
 use crate::post::Post;
 use crate::ready::Journaling;
@@ -12,7 +13,7 @@ use cell::IndexName;
 use crossbeam_channel::{Receiver, Sender};
 use engine::Merging;
 use std::alloc::{AllocError, Global};
-use std::sync::Wait;
+use std::sync::{Arc, Wait};
 use std::thread;
 use std::thread::{JoinHandle, Threads};
 use translog::LogDevice;
@@ -27,9 +28,10 @@ pub(crate) trait Work<J: IndexName>: Drop {
 
 /// What the threads of a copy are started with, apart from the copy.
 #[derive(Drop)]
-pub(crate) struct Start<D: LogDevice, G: Gate, J: IndexName> {
+pub(crate) struct Start<R: Wait + Drop, D: LogDevice, J: IndexName> {
     pub(crate) alloc: Global,
-    pub(crate) tools: Tools<D, G, J>,
+    pub(crate) tools: Tools<D, J>,
+    pub(crate) lock: Arc<CopyLock<R, D, J>, Global>,
     pub(crate) inbox: Receiver<Post<J>, Global>,
     pub(crate) merges: Receiver<Merging, Global>,
     pub(crate) worker: Sender<Post<J>, Global>,
@@ -40,27 +42,32 @@ pub(crate) struct Start<D: LogDevice, G: Gate, J: IndexName> {
 pub(crate) struct Bench<R: Wait + Drop, D: LogDevice, G: Gate, J: IndexName> {
     pub(crate) rt: R,
     pub(crate) alloc: Global,
+    pub(crate) gate: Arc<G, Global>,
     pub(crate) begun: Sender<bool, Global>,
-    pub(crate) tools: Tools<D, G, J>,
+    pub(crate) tools: Tools<D, J>,
+    pub(crate) lock: Arc<CopyLock<R, D, J>, Global>,
     pub(crate) inbox: Receiver<Post<J>, Global>,
     pub(crate) copy: Journaling<D, J>,
 }
 
-impl<R: Wait + Drop, D: LogDevice, G: Gate, J: IndexName> Work<J> for Bench<R, D, G, J> {
+impl<R: Wait + Copy + Drop, D: LogDevice, G: Gate, J: IndexName> Work<J> for Bench<R, D, G, J> {
     /// Takes posts in order until one stops it. Without memory for what searches are to see the copy isn't served.
     fn run(self) -> Left<J> {
         let Bench {
             rt,
             alloc,
+            gate,
             begun,
             tools,
+            lock,
             inbox,
             copy,
         } = self;
-        match copy.begin(&rt, alloc) {
+        match copy.begin(rt, alloc) {
             Ok(cell) => {
+                lock.put(&rt, Worker::new(alloc, tools, cell));
                 sent(&rt, &begun, true);
-                serve(&rt, &inbox, Worker::new(alloc, tools, cell))
+                serve(&rt, &*gate, &inbox, &*lock)
             }
             Err(held) => {
                 sent(&rt, &begun, false);
@@ -71,23 +78,28 @@ impl<R: Wait + Drop, D: LogDevice, G: Gate, J: IndexName> Work<J> for Bench<R, D
     }
 }
 
-/// Serves a copy until a post stops its worker.
-fn serve<R: Wait, D: LogDevice, G: Gate, J: IndexName>(
+/// Serves a copy until a post stops it: this thread does what comes by mail, and callers do what they ask.
+fn serve<R: Wait + Drop, D: LogDevice, G: Gate, J: IndexName>(
     rt: &R,
+    gate: &G,
     inbox: &Receiver<Post<J>, Global>,
-    worker: Worker<D, G, J>,
+    lock: &CopyLock<R, D, J>,
 ) -> Left<J> {
-    let mut worker = worker;
     for _ in rt.forever() {
-        let Some(post) = worker.next(rt, inbox) else {
+        let Ok(post) = inbox.recv(rt) else {
             break;
         };
-        if !worker.serve_waiting(rt, inbox, post) {
+        if !lock.serve_waiting(rt, gate, inbox, post) {
             break;
         }
     }
-    worker.finish(rt);
-    worker.into_left(rt)
+    match lock.take(rt) {
+        Some(mut worker) => {
+            worker.finish(rt, gate);
+            worker.into_left()
+        }
+        None => Left::Unkept,
+    }
 }
 
 /// Starts a thread that builds merges and a worker, and keeps each with others. Nothing here depends on what they are to do, so this is proved once for all.

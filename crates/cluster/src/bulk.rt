@@ -24,11 +24,11 @@ struct BegunBulk<J: IndexName> {
     endings: Receiver<BulkEnding<J>, Global>,
 }
 
-impl<D: LogDevice, J: IndexName> Client<D, J> {
+impl<R: Wait + Drop, D: LogDevice, J: IndexName> Client<R, D, J> {
     /// Has the primary do the writes of a bulk with one step, and waits until every member has those that were kept. A bulk for which the window of the
     /// primary has no room waits for it, and what comes to that copy from callers after it. Where there is no primary since the master could make
     /// none, its fault says why.
-    pub fn bulk<R: Wait>(&self, rt: &R, writes: Writes) -> Result<ConfirmedBulk<J>, WriteFault<J>>
+    pub fn bulk(&self, rt: &R, writes: Writes) -> Result<ConfirmedBulk<J>, WriteFault<J>>
         ensures confirmed { IfOk result (IsBulkConfirmed writes) }
         ensures refused { IfErr result (IsBulkRefused writes) }
     {
@@ -42,7 +42,7 @@ impl<D: LogDevice, J: IndexName> Client<D, J> {
     }
 
     /// A bulk's refusal; in place of one for want of a primary the master's fault, where it could make none.
-    fn or_unled_bulk<R: Wait>(&self, rt: &R, writes: &Writes, fault: WriteFault<J>) -> WriteFault<J>
+    fn or_unled_bulk(&self, rt: &R, writes: &Writes, fault: WriteFault<J>) -> WriteFault<J>
         requires { IsBulkRefused writes.now fault }
         ensures { IsBulkRefused writes.now result }
     {
@@ -56,12 +56,7 @@ impl<D: LogDevice, J: IndexName> Client<D, J> {
     }
 
     /// Hands a bulk to a copy, and waits for its entry.
-    fn begin_bulk<R: Wait>(
-        &self,
-        rt: &R,
-        copy: u32,
-        writes: Writes,
-    ) -> Result<BegunBulk<J>, ClusterFault> {
+    fn begin_bulk(&self, rt: &R, copy: u32, writes: Writes) -> Result<BegunBulk<J>, ClusterFault> {
         let (first, answers) = bounded(self.alloc, 1)?;
         let (second, endings) = bounded(self.alloc, 1)?;
         self.send(rt, copy, Post::Bulk(writes, first, second))?;

@@ -13,6 +13,7 @@ use crate::checks::{
 };
 use crate::confirmed::Confirmed;
 use crate::fault::{ClusterFault, WriteFault};
+use crate::locks::CopyLocks;
 use crate::post::{Answered, Ending, Post};
 use crate::refreshed::Refreshed;
 use crate::shared::Shared;
@@ -28,31 +29,37 @@ use std::sync::{Arc, Wait};
 use translog::LogDevice;
 
 /// Asks the copies of a cluster, from any thread. A cluster gives it out, and ends what it asks.
-pub struct Client<D: LogDevice, J: IndexName> {
+pub struct Client<R: Wait + Drop, D: LogDevice, J: IndexName> {
     pub(crate) alloc: Global,
     pub(crate) shared: Arc<Shared<D, J>, Global>,
+    pub(crate) locks: CopyLocks<R, D, J>,
 }
 
-impl<D: LogDevice, J: IndexName> Drop for Client<D, J> {
+impl<R: Wait + Drop, D: LogDevice, J: IndexName> Drop for Client<R, D, J> {
     fn drop(self) {
         let Client {
             alloc: _,
             shared: _shared,
+            locks: _locks,
         } = self;
     }
 }
 
-impl<D: LogDevice, J: IndexName> Client<D, J> {
+impl<R: Wait + Drop, D: LogDevice, J: IndexName> Client<R, D, J> {
     /// What it asks.
     pub(crate) fn into_shared(self) -> Arc<Shared<D, J>, Global>
         ensures { result ≡ self.shared }
     {
-        let Client { alloc: _, shared } = self;
+        let Client {
+            alloc: _,
+            shared,
+            locks: _locks,
+        } = self;
         shared
     }
 
     /// Has the primary do a write, and waits until every member has it. Where there is no primary since the master could make none, its fault says why.
-    pub fn write<R: Wait>(&self, rt: &R, write: Write) -> Result<Confirmed<J>, WriteFault<J>>
+    pub fn write(&self, rt: &R, write: Write) -> Result<Confirmed<J>, WriteFault<J>>
         ensures confirmed { IfOk result (IsConfirmed write) }
         ensures refused { IfErr result (IsWriteRefused write) }
     {
@@ -66,7 +73,7 @@ impl<D: LogDevice, J: IndexName> Client<D, J> {
     }
 
     /// A write's refusal; in place of one for want of a primary the master's fault, where it could make none.
-    fn or_unled<R: Wait>(&self, rt: &R, write: &Write, fault: WriteFault<J>) -> WriteFault<J>
+    fn or_unled(&self, rt: &R, write: &Write, fault: WriteFault<J>) -> WriteFault<J>
         requires { IsWriteRefused write.now fault }
         ensures { IsWriteRefused write.now result }
     {
@@ -79,8 +86,8 @@ impl<D: LogDevice, J: IndexName> Client<D, J> {
         fault
     }
 
-    /// Hands a write to a copy, and waits for its entry.
-    fn begin<R: Wait>(&self, rt: &R, copy: u32, write: Write) -> Result<Begun<J>, ClusterFault> {
+    /// Has a copy do a write, and waits for its entry.
+    fn begin(&self, rt: &R, copy: u32, write: Write) -> Result<Begun<J>, ClusterFault> {
         let (first, answers) = bounded(self.alloc, 1)?;
         let (second, endings) = bounded(self.alloc, 1)?;
         self.send(rt, copy, Post::Write(write, first, second))?;
@@ -88,8 +95,8 @@ impl<D: LogDevice, J: IndexName> Client<D, J> {
         Ok(Begun { receipt, endings })
     }
 
-    /// What a copy has of an id, of all its records. It waits for those that asked before, and leaves no entry.
-    pub fn get<R: Wait>(&self, rt: &R, copy: u32, id: DocId) -> Result<Got<J>, ClusterFault>
+    /// What a copy has of an id, of all its records. It leaves no entry.
+    pub fn get(&self, rt: &R, copy: u32, id: DocId) -> Result<Got<J>, ClusterFault>
         ensures { IfOk result (λ g. IsGot g × (g.node ≡ copy) × (g.id ≡ id)) }
     {
         let asked = id.copy(self.alloc)?;
@@ -103,7 +110,7 @@ impl<D: LogDevice, J: IndexName> Client<D, J> {
     }
 
     /// Has a copy do a get or a refresh, and waits for its entry.
-    pub fn call<R: Wait>(&self, rt: &R, copy: u32, input: Input) -> Result<Receipt<J>, ClusterFault>
+    pub fn call(&self, rt: &R, copy: u32, input: Input) -> Result<Receipt<J>, ClusterFault>
         ensures { IfOk result (λ r. IsAnswerTo copy input r × IsEntry r × IsOk r.deed.answer) }
     {
         let asked = input.copy(self.alloc)?;
@@ -112,19 +119,25 @@ impl<D: LogDevice, J: IndexName> Client<D, J> {
     }
 
     /// Hands an input to a copy, and waits for its entry.
-    fn entry<R: Wait>(&self, rt: &R, copy: u32, input: Input) -> Result<Receipt<J>, ClusterFault> {
+    fn entry(&self, rt: &R, copy: u32, input: Input) -> Result<Receipt<J>, ClusterFault> {
         let (to, answers) = bounded(self.alloc, 1)?;
-        self.send(rt, copy, Post::Ask(input, to))?;
+        self.mail(rt, copy, Post::Ask(input, to))?;
         received(rt, &answers)
     }
 
-    /// Hands a post to the worker of a copy.
-    pub(crate) fn send<R: Wait>(
-        &self,
-        rt: &R,
-        copy: u32,
-        post: Post<J>,
-    ) -> Result<(), ClusterFault> {
+    /// Has a copy do what a post asks: on this thread, or else on the copy's own.
+    pub(crate) fn send(&self, rt: &R, copy: u32, post: Post<J>) -> Result<(), ClusterFault> {
+        let Some(lock) = self.locks.of(rt, copy) else {
+            return self.mail(rt, copy, post);
+        };
+        match lock.done(rt, post) {
+            None => Ok(()),
+            Some(post) => self.mail(rt, copy, post),
+        }
+    }
+
+    /// Hands a post to the thread of a copy.
+    fn mail(&self, rt: &R, copy: u32, post: Post<J>) -> Result<(), ClusterFault> {
         if self.shared.hand(rt, copy, post) {
             Ok(())
         } else {
@@ -134,7 +147,7 @@ impl<D: LogDevice, J: IndexName> Client<D, J> {
 
     /// A searcher of a copy, which sees what the copy shows from then on, and waits for nobody. Eight are given out at once, else `NoSeat`; one that
     /// is dropped makes room.
-    pub fn searcher<R: Wait>(&self, rt: &R, copy: u32) -> Result<CopySearcher<J>, ClusterFault>
+    pub fn searcher(&self, rt: &R, copy: u32) -> Result<CopySearcher<J>, ClusterFault>
         ensures { IfOk result (λ s. s.node ≡ copy) }
     {
         let (to, answers) = bounded(self.alloc, 1)?;
@@ -154,7 +167,7 @@ impl<D: LogDevice, J: IndexName> Client<D, J> {
 
     /// Refreshes each copy that isn't gone, and gives the entries of those in sync, in the order of their ids. One that is closed is passed over.
     #[tactic(auto, using(crate::proofs::Refreshes::are_refreshed))]
-    pub fn refresh<R: Wait>(&self, rt: &R) -> Result<Refreshed<J>, ClusterFault>
+    pub fn refresh(&self, rt: &R) -> Result<Refreshed<J>, ClusterFault>
         ensures { IfOk result (λ r. AreRefreshed r.past r.primary r.entries.items) }
     {
         let Known { state, past } = self.state(rt)?;
@@ -168,7 +181,7 @@ impl<D: LogDevice, J: IndexName> Client<D, J> {
 
     /// The entries by which the copies are refreshed that are in sync.
     #[tactic(auto, using(crate::proofs::Refreshes::none_so_far, crate::proofs::Refreshes::all_so_far))]
-    fn refreshed_in<R: Wait>(&self, rt: &R, state: &State) -> Result<Vec<Receipt<J>>, ClusterFault>
+    fn refreshed_in(&self, rt: &R, state: &State) -> Result<Vec<Receipt<J>>, ClusterFault>
         ensures { IfOk result (λ rs. AreAbove state.now 0 rs.items) }
     {
         let mut entries = Vec::new(self.alloc);
@@ -180,7 +193,7 @@ impl<D: LogDevice, J: IndexName> Client<D, J> {
 
     /// Refreshes a copy that isn't gone, and adds its entry where it is in sync.
     #[tactic(auto, using(crate::proofs::Refreshes::no_more))]
-    fn add_refresh<R: Wait>(
+    fn add_refresh(
         &self,
         rt: &R,
         state: &State,
@@ -205,7 +218,7 @@ impl<D: LogDevice, J: IndexName> Client<D, J> {
 
     /// The entry by which a copy is refreshed; nothing where it refuses.
     #[tactic(auto, using(crate::proofs::Refreshes::refreshed_by))]
-    fn refreshed<R: Wait>(&self, rt: &R, copy: u32) -> Result<Option<Receipt<J>>, ClusterFault>
+    fn refreshed(&self, rt: &R, copy: u32) -> Result<Option<Receipt<J>>, ClusterFault>
         ensures { IfOk result (λ o. IfSome o (IsRefreshOf copy)) }
     {
         match self.call(rt, copy, Input::Refresh) {
@@ -215,21 +228,21 @@ impl<D: LogDevice, J: IndexName> Client<D, J> {
     }
 
     /// Has the master make a copy the primary.
-    pub fn promote<R: Wait>(&self, rt: &R, copy: u32) -> Result<Decided<J>, ClusterFault>
+    pub fn promote(&self, rt: &R, copy: u32) -> Result<Decided<J>, ClusterFault>
         ensures { IfOk result (λ d. IsDecided (Promote copy) d.decision d.past) }
     {
         Ok(self.shared.ask(rt, self.alloc, 0, Request::Promote(copy))?)
     }
 
     /// The primary, as the master knows it.
-    pub fn primary<R: Wait>(&self, rt: &R) -> Leading<J>
+    pub fn primary(&self, rt: &R) -> Leading<J>
         ensures { IsLeading result.past result.primary }
     {
         self.shared.leading(rt)
     }
 
     /// What the master knows.
-    pub fn state<R: Wait>(&self, rt: &R) -> Result<Known<J>, ClusterFault>
+    pub fn state(&self, rt: &R) -> Result<Known<J>, ClusterFault>
         ensures { IfOk result (λ k. IsKnown k.past k.state) }
     {
         Ok(self.shared.known(rt, self.alloc)?)
@@ -344,9 +357,9 @@ pub(crate) fn refusal_of<J: IndexName>(receipt: Receipt<J>) -> WriteFault<J>
     if is_no_primary(&receipt) {
         return WriteFault::NoPrimary(receipt);
     }
-    match refusal_in(&receipt) {
-        Some(fault) => WriteFault::Cluster(ClusterFault::Copy(fault)),
-        None => WriteFault::Cluster(ClusterFault::Stray(receipt.place())),
+    match &receipt.deed().answer {
+        Ok(_) => WriteFault::Cluster(ClusterFault::Stray(receipt.place())),
+        Err(_) => WriteFault::Refused(receipt),
     }
 }
 

@@ -6,7 +6,7 @@ ghost use Rattle.master.specs.Log.{kept_state};
 ghost use Rattle.master.specs.Logged.{begun_state};
 ghost use Rattle.cluster.specs.Given.{given};
 ghost use Rattle.cluster.specs.Journals.{stray_in, AreHandedOut, IsLostBy};
-ghost use Rattle.cluster.specs.Opened.{copy_of, AreNew, AreTried, HasKept, IdsRiseFrom, IsLed, IsLeftOut, IsNewIndex, IsOpened, IsOpenedAs, IsPromoted, IsReopened, IsStarted};
+ghost use Rattle.cluster.specs.Opened.{copy_of, AreNew, AreTried, HasKept, IdsRiseFrom, IsLed, IsLeftOut, IsNewIndex, IsOpened, IsOpenedAs, IsPromoted, IsReopened, IsStarted, LeadsBy};
 ghost use Rattle.cluster.specs.Opening.{keeps, BeganWith};
 ghost use Rattle.ruled.specs.declared.entry.MasterEntry.TheVariants.{Opened as Starts};
 ghost use Rattle.ruled.specs.Entries.{IsDecided};
@@ -18,9 +18,11 @@ use crate::fault::{ClusterFault, OpenFault, ShortLog, Unopened, of_master_log};
 use crate::gate::Gate;
 use crate::handing::{HandedOut, handed_out};
 use crate::left::Left;
+use crate::locks::CopyLocks;
 use crate::opening::{
     Journals, Opened, beginning, birth_of, joining_copy, kept_copy, lacking, leader_of, new_copy,
 };
+use crate::post::Post;
 use crate::ready::Ready;
 use crate::routes::stop;
 use crate::shared::Shared;
@@ -35,7 +37,7 @@ use ruled::{Decided, Known, MasterEntry, Past, Ruled};
 use std::alloc::{AllocError, Global};
 use std::sync::{Arc, Mutex, Wait};
 use std::thread::{JoinHandle, Threads};
-use translog::LogDevice;
+use translog::{LogDevice, LogFault};
 
 /// What a cluster is made of, apart from its nodes.
 #[derive(Drop)]
@@ -49,18 +51,21 @@ struct Setting<V, G, J: IndexName> {
 }
 
 /// The master and its copies, each copy on a thread of its own. End it by `close`.
-pub struct Cluster<D: LogDevice, V: Devices<D>, G: Gate, J: IndexName> {
+pub struct Cluster<R: Wait + Drop, D: LogDevice, V: Devices<D>, G: Gate, J: IndexName> {
     label: IndexLabel<J>,
     devices: V,
     journals: Journals,
-    crew: Crew<D, G, J>,
+    crew: Crew<R, D, G, J>,
     /// The master's entries up to the one by which a copy leads.
     past: Past<J>,
     unopened: Vec<Unopened>,
+    /// The fault of the master's log that kept the copy from leading that led last.
+    unled: Option<LogFault>,
     short_log: Option<ShortLog>,
 }
 
-impl<D: LogDevice, V: Devices<D>, G: Gate, J: IndexName> Drop for Cluster<D, V, G, J> {
+impl<R: Wait + Drop, D: LogDevice, V: Devices<D>, G: Gate, J: IndexName> Drop
+    for Cluster<R, D, V, G, J> {
     fn drop(self) {
         let Cluster {
             label: _label,
@@ -69,13 +74,15 @@ impl<D: LogDevice, V: Devices<D>, G: Gate, J: IndexName> Drop for Cluster<D, V, 
             crew: _crew,
             past: _past,
             unopened: _unopened,
+            unled: _unled,
             short_log: _short_log,
         } = self;
     }
 }
 
-impl<D, V, G, J> Cluster<D, V, G, J>
+impl<R, D, V, G, J> Cluster<R, D, V, G, J>
 where
+    R: Threads + Wait + Copy + Send + Drop + 'static,
     D: LogDevice + Send + 'static,
     V: Devices<D>,
     G: Gate + Send + Sync + 'static,
@@ -83,7 +90,7 @@ where
 {
     /// Starts a new index of one copy to five, over devices that hold nothing: copy 1 is the primary of term 1. Its journals are in these ledgers, those of
     /// its copies in the registry, and are of no other cluster.
-    pub fn start<R: Threads + Wait + Copy + Send + Drop + 'static>(
+    pub fn start(
         rt: &R,
         alloc: Global,
         label: IndexLabel<J>,
@@ -92,7 +99,7 @@ where
         gate: G,
         journals: Journals,
         ledgers: Ledgers<Deed, MasterEntry, J>,
-    ) -> Result<Cluster<D, V, G, J>, ClusterFault>
+    ) -> Result<Cluster<R, D, V, G, J>, ClusterFault>
         requires { (1 ≤ copies) × (copies ≤ 5) }
         ensures threads { IfOk result (λ c. vec_len c.crew.threads ≡ copies) }
         ensures journals { IfOk result (λ c. c.journals ≡ journals) }
@@ -117,8 +124,9 @@ where
     ///
     /// It opens each copy that is in sync; the others are gone permanently. The master makes its primary the primary of the next term; or
     /// where that doesn't open, or another copy has an operation after its last one, the first of those that have most, for its log has then lost
-    /// what it kept. The new primary reports those that didn't open. Where none opens the cluster is refused, and nothing is decided.
-    pub fn open<R: Threads + Wait + Copy + Send + Drop + 'static>(
+    /// what it kept. The new primary reports those that didn't open. Where none opens the cluster is refused, and nothing is decided. Where the log of the
+    /// master can't be written, as on a full disk, the primary is open for reading, and leads once that log can be (`unled`).
+    pub fn open(
         rt: &R,
         alloc: Global,
         label: IndexLabel<J>,
@@ -127,10 +135,10 @@ where
         gate: G,
         journals: Journals,
         ledgers: Ledgers<Deed, MasterEntry, J>,
-    ) -> Result<Cluster<D, V, G, J>, ClusterFault>
+    ) -> Result<Cluster<R, D, V, G, J>, ClusterFault>
         requires { (1 ≤ copies) × (copies ≤ 5) }
         ensures journals { IfOk result (λ c. c.journals ≡ journals) }
-        ensures opened { IfOk result (λ c. IsOpened (V.gave c.devices) label.mapping copies c.crew.began.items c.unopened.items c.past) }
+        ensures opened { IfOk result (λ c. IsOpened (V.gave c.devices) label.mapping copies c.crew.began.items c.unopened.items c.unled c.past) }
     {
         let mut setting = Setting {
             alloc,
@@ -149,12 +157,12 @@ where
     }
 
     /// The copies come first: where the master's log has a frame, each copy has its log.
-    fn begin<R: Threads + Wait + Copy + Send + Drop + 'static>(
+    fn begin(
         rt: &R,
         setting: Setting<V, G, J>,
         copies: u8,
         device: D,
-    ) -> Result<Cluster<D, V, G, J>, ClusterFault>
+    ) -> Result<Cluster<R, D, V, G, J>, ClusterFault>
         requires { (1 ≤ copies) × (copies ≤ 5) }
         ensures threads { IfOk result (λ c. vec_len c.crew.threads ≡ copies) }
         ensures journals { IfOk result (λ c. c.journals ≡ setting.journals) }
@@ -180,12 +188,12 @@ where
     }
 
     /// A cluster of copies that are to be served, where the master has begun too.
-    fn begin_over<R: Threads + Wait + Copy + Send + Drop + 'static>(
+    fn begin_over(
         rt: &R,
         setting: Setting<V, G, J>,
         ready: Vec<Ready<D, J>>,
         master: Result<Master<D>, ClusterFault>,
-    ) -> Result<Cluster<D, V, G, J>, ClusterFault>
+    ) -> Result<Cluster<R, D, V, G, J>, ClusterFault>
         requires { IfOk master (λ m. m.closed ≡ false) }
         ensures threads { IfOk result (λ c. vec_len c.crew.threads ≡ vec_len ready) }
         ensures journals { IfOk result (λ c. c.journals ≡ setting.journals) }
@@ -205,11 +213,11 @@ where
     }
 
     /// Starts the threads of copies, where the cluster that they are of could be made.
-    fn launch_over<R: Threads + Wait + Copy + Send + Drop + 'static>(
+    fn launch_over(
         rt: &R,
-        cluster: Result<Cluster<D, V, G, J>, ClusterFault>,
+        cluster: Result<Cluster<R, D, V, G, J>, ClusterFault>,
         ready: Vec<Ready<D, J>>,
-    ) -> Result<Cluster<D, V, G, J>, ClusterFault>
+    ) -> Result<Cluster<R, D, V, G, J>, ClusterFault>
         requires threads { IfOk cluster (λ c. vec_len c.crew.threads ≡ 0) }
         requires began { IfOk cluster (λ c. c.crew.began.items ≡ []) }
         ensures threads { IfOk result (λ c. vec_len c.crew.threads ≡ vec_len ready) }
@@ -231,15 +239,15 @@ where
         }
     }
 
-    fn reopen<R: Threads + Wait + Copy + Send + Drop + 'static>(
+    fn reopen(
         rt: &R,
         setting: Setting<V, G, J>,
         count: u8,
         device: D,
-    ) -> Result<Cluster<D, V, G, J>, ClusterFault>
+    ) -> Result<Cluster<R, D, V, G, J>, ClusterFault>
         ensures journals { IfOk result (λ c. c.journals ≡ setting.journals) }
         ensures gave { IfOk result (λ c. IsPrefix (V.gave setting.devices) (V.gave c.devices)) }
-        ensures opened { IfOk result (λ c. IsReopened (V.gave c.devices) (D.bytes device) setting.label.mapping count c.crew.began.items c.unopened.items c.past) }
+        ensures opened { IfOk result (λ c. IsReopened (V.gave c.devices) (D.bytes device) setting.label.mapping count c.crew.began.items c.unopened.items c.unled c.past) }
     {
         let master = kept_master(setting.alloc, device)?;
         let mut cluster = Cluster::over(setting, master)?;
@@ -251,7 +259,7 @@ where
     fn over(
         setting: Setting<V, G, J>,
         master: Master<D>,
-    ) -> Result<Cluster<D, V, G, J>, ClusterFault>
+    ) -> Result<Cluster<R, D, V, G, J>, ClusterFault>
         requires { master.closed ≡ false }
         ensures threads { IfOk result (λ c. vec_len c.crew.threads ≡ 0) }
         ensures journals { IfOk result (λ c. c.journals ≡ setting.journals) }
@@ -259,6 +267,7 @@ where
         ensures label { IfOk result (λ c. c.label ≡ setting.label) }
         ensures began { IfOk result (λ c. c.crew.began.items ≡ []) }
         ensures unopened { IfOk result (λ c. c.unopened.items ≡ []) }
+        ensures unled { IfOk result (λ c. c.unled ≡ None) }
         ensures past { IfOk result (λ c. c.past ≡ Starts master.state ∷ []) }
     {
         let Setting {
@@ -287,23 +296,28 @@ where
             crew: Crew {
                 gate: Arc::new(alloc, gate)?,
                 registry,
-                client: Client { alloc, shared },
+                client: Client {
+                    alloc,
+                    shared,
+                    locks: CopyLocks::new(alloc),
+                },
                 threads: Vec::new(alloc),
                 mergers: Vec::new(alloc),
                 began: Vec::new(alloc),
             },
             past,
             unopened: Vec::new(alloc),
+            unled: None,
             short_log: None,
         })
     }
 
     /// The cluster, or the fault that it is closed for.
-    fn or_closed<R: Threads + Wait>(
+    fn or_closed(
         self,
         rt: &R,
         done: Result<(), ClusterFault>,
-    ) -> Result<Cluster<D, V, G, J>, ClusterFault>
+    ) -> Result<Cluster<R, D, V, G, J>, ClusterFault>
         ensures same { IfOk result (λ c. c ≡ self) }
         ensures done { IsOk result → IsOk done }
     {
@@ -317,28 +331,24 @@ where
     }
 
     /// Ends a cluster whose journals nobody wants.
-    fn let_go<R: Threads + Wait>(self, rt: &R) {
+    fn let_go(self, rt: &R) {
         drop(self.ended(rt));
     }
 
     /// Opens the copies that are in sync, and has one of them lead.
-    fn open_all<R: Threads + Wait + Copy + Send + Drop + 'static>(
-        &mut self,
-        rt: &R,
-        count: u8,
-    ) -> Result<(), ClusterFault>
-        requires { (self.old.crew.began.items ≡ []) × (self.old.unopened.items ≡ []) }
+    fn open_all(&mut self, rt: &R, count: u8) -> Result<(), ClusterFault>
+        requires { (self.old.crew.began.items ≡ []) × (self.old.unopened.items ≡ []) × (self.old.unled ≡ None) }
         ensures same { (self.new.journals ≡ self.old.journals) × (self.new.label ≡ self.old.label) }
         ensures gave { IsPrefix (V.gave self.old.devices) (V.gave self.new.devices) }
         ensures past { IsPrefix self.old.past self.new.past }
-        ensures led { OnOk result (IsLed (V.gave self.new.devices) self.new.label.mapping count self.new.crew.began.items self.new.unopened.items self.new.past) }
+        ensures led { OnOk result (IsLed (V.gave self.new.devices) self.new.label.mapping count self.new.crew.began.items self.new.unopened.items self.new.unled self.new.past) }
     {
         let Known { state, past } = self.crew.client.state(rt)?;
         let opened = self.open_each(rt, &state.in_sync, count)?;
         match leader_of(state.primary, opened.as_slice()) {
             Some(leader) => {
                 self.note_short_log(state.primary, leader, opened.as_slice());
-                self.lead(rt, &past, leader)
+                self.lead_or_wait(rt, &past, state.primary, leader)
             }
             None => {
                 let alloc = self.crew.client.alloc;
@@ -348,11 +358,61 @@ where
         }
     }
 
-    /// Has a copy lead, by an entry of the master after those that are known.
-    #[tactic(auto, using(crate::proofs::Opened::self_begins))]
-    fn lead<R: Wait>(&mut self, rt: &R, known: &Past<J>, leader: u32) -> Result<(), ClusterFault>
+    /// Has a copy lead. Where the master's log keeps the one that led last from leading, that copy leads once the log can be written.
+    #[tactic(auto, using(crate::proofs::Opened::leads_now, crate::proofs::Opened::leads_later))]
+    fn lead_or_wait(
+        &mut self,
+        rt: &R,
+        known: &Past<J>,
+        last: u32,
+        leader: u32,
+    ) -> Result<(), ClusterFault>
+        requires { self.old.unled ≡ None }
         ensures same { (self.new.journals ≡ self.old.journals) × (self.new.label ≡ self.old.label) }
         ensures others { (self.new.devices ≡ self.old.devices) × (self.new.crew ≡ self.old.crew) × (self.new.unopened ≡ self.old.unopened) }
+        ensures past { IsPrefix self.old.past self.new.past }
+        ensures since { OnOk result (IsPrefix known.now self.new.past) }
+        ensures by { OnOk result (LeadsBy self.new.unled last leader self.new.past) }
+    {
+        let led = self.lead(rt, known, leader);
+        if leader != last {
+            return led;
+        }
+        match led {
+            Err(ClusterFault::Master(MasterFault::Log(fault))) => {
+                self.wait_to_lead(rt, known, leader, fault)
+            }
+            other => other,
+        }
+    }
+
+    /// Has a copy lead as soon as the master's log can be written.
+    #[tactic(auto, using(crate::proofs::Opened::self_begins))]
+    fn wait_to_lead(
+        &mut self,
+        rt: &R,
+        known: &Past<J>,
+        leader: u32,
+        fault: LogFault,
+    ) -> Result<(), ClusterFault>
+        ensures same { (self.new.journals ≡ self.old.journals) × (self.new.label ≡ self.old.label) }
+        ensures others { (self.new.devices ≡ self.old.devices) × (self.new.crew ≡ self.old.crew) × (self.new.unopened ≡ self.old.unopened) }
+        ensures past { IsPrefix self.old.past self.new.past }
+        ensures since { OnOk result (IsPrefix known.now self.new.past) }
+        ensures unled { OnOk result (self.new.unled ≡ Some fault) }
+    {
+        if !known.is_within(&self.past) || !self.crew.client.shared.hand(rt, leader, Post::Lead) {
+            return Err(ClusterFault::Stray(0));
+        }
+        self.unled = Some(fault);
+        Ok(())
+    }
+
+    /// Has a copy lead, by an entry of the master after those that are known.
+    #[tactic(auto, using(crate::proofs::Opened::self_begins))]
+    fn lead(&mut self, rt: &R, known: &Past<J>, leader: u32) -> Result<(), ClusterFault>
+        ensures same { (self.new.journals ≡ self.old.journals) × (self.new.label ≡ self.old.label) }
+        ensures others { (self.new.devices ≡ self.old.devices) × (self.new.crew ≡ self.old.crew) × (self.new.unopened ≡ self.old.unopened) × (self.new.unled ≡ self.old.unled) }
         ensures past { IsPrefix self.old.past self.new.past }
         ensures since { OnOk result (IsPrefix known.now self.new.past) }
         ensures promoted { OnOk result (IsPromoted leader self.new.past) }
@@ -367,7 +427,7 @@ where
     }
 
     /// Opens copies, in order, and says what each is that opened.
-    fn open_each<R: Threads + Wait + Copy + Send + Drop + 'static>(
+    fn open_each(
         &mut self,
         rt: &R,
         copies: &CopyIds,
@@ -375,6 +435,7 @@ where
     ) -> Result<Vec<Opened>, ClusterFault>
         requires { (self.old.crew.began.items ≡ []) × (self.old.unopened.items ≡ []) }
         ensures same { (self.new.journals ≡ self.old.journals) × (self.new.label ≡ self.old.label) × (self.new.past ≡ self.old.past) }
+        ensures unled { self.new.unled ≡ self.old.unled }
         ensures gave { IsPrefix (V.gave self.old.devices) (V.gave self.new.devices) }
         ensures tried { IfOk result (λ os. AreTried (V.gave self.new.devices) self.new.label.mapping count copies.now self.new.crew.began.items self.new.unopened.items os.items) }
     {
@@ -404,13 +465,9 @@ where
 
     /// Opens a copy and starts its thread, and answers the number after its last operation, where it opened. Want of memory is no reason to give it
     /// up.
-    fn open_one<R: Threads + Wait + Copy + Send + Drop + 'static>(
-        &mut self,
-        rt: &R,
-        id: u32,
-        count: u8,
-    ) -> Result<Option<Opened>, ClusterFault>
+    fn open_one(&mut self, rt: &R, id: u32, count: u8) -> Result<Option<Opened>, ClusterFault>
         ensures same { (self.new.journals ≡ self.old.journals) × (self.new.label ≡ self.old.label) × (self.new.past ≡ self.old.past) }
+        ensures unled { self.new.unled ≡ self.old.unled }
         ensures gave { IsPrefix (V.gave self.old.devices) (V.gave self.new.devices) }
         ensures opened { IfOk result (λ o. IfSome o (λ x. IsOpenedAs (V.gave self.new.devices) self.new.label.mapping count id self.old.crew.began.items self.new.crew.began.items x × (self.new.unopened ≡ self.old.unopened))) }
         ensures left { IfOk result (λ o. IfNone o ((self.new.crew ≡ self.old.crew) × IsLeftOut id self.old.unopened.items self.new.unopened.items)) }
@@ -466,6 +523,12 @@ where
         self.unopened.as_slice()
     }
 
+    /// The fault of the master's log that kept the copy from leading that led last, when the cluster was opened: gets and searches are answered, and it leads
+    /// once the log can be written.
+    pub fn unled(&self) -> Option<&LogFault> {
+        self.unled.as_ref()
+    }
+
     /// The copy that led last, where its log has lost operations that another one has.
     pub fn short_log(&self) -> Option<ShortLog>
         ensures { result ≡ self.now.short_log }
@@ -474,10 +537,7 @@ where
     }
 
     /// Adds a copy, which the primary brings up to date.
-    pub fn allocate<R: Threads + Wait + Copy + Send + Drop + 'static>(
-        &mut self,
-        rt: &R,
-    ) -> Result<Decided<J>, ClusterFault>
+    pub fn allocate(&mut self, rt: &R) -> Result<Decided<J>, ClusterFault>
         ensures decided { IfOk result (λ d. IsDecided Allocate d.decision d.past) }
         ensures runs { OnOk result (vec_len self.new.crew.threads ≡ vec_len self.old.crew.threads + 1) }
     {
@@ -512,7 +572,7 @@ where
     }
 
     /// What callers ask the copies by.
-    pub fn client(&self) -> &Client<D, J>
+    pub fn client(&self) -> &Client<R, D, J>
         ensures { result.now ≡ self.now.crew.client }
     {
         &self.crew.client
@@ -522,7 +582,7 @@ where
     /// copy that began. Each entry of a copy has its receipt in the pass of the copy's worker, and the receipts that callers kept
     /// and hand in stand there too, else `Stray` names the place of the first that doesn't. `NoMemory` also where a copy has no journal, since there was
     /// no memory to start its threads.
-    pub fn close<R: Threads + Wait>(
+    pub fn close(
         self,
         rt: &R,
         receipts: &[Receipt<J>],
@@ -553,7 +613,7 @@ where
     }
 
     /// Ends all threads.
-    fn ended<R: Threads + Wait>(self, rt: &R) -> Result<Ended<D, J>, ClusterFault>
+    fn ended(self, rt: &R) -> Result<Ended<D, J>, ClusterFault>
         ensures journals { IfOk result (λ e. e.journals ≡ self.journals) }
         ensures all { IfOk result (λ e. vec_len e.lefts ≡ vec_len self.crew.threads) }
         ensures began { IfOk result (λ e. e.began.items ≡ self.crew.began.items) }
@@ -567,6 +627,7 @@ where
             crew,
             past: _past,
             unopened: _unopened,
+            unled: _unled,
             short_log: _short_log,
         } = self;
         let Crew {

@@ -28,10 +28,10 @@ use translog::LogDevice;
 
 /// The copies that are served, each by a thread of its own, what each was when its journal began, in the order of their ids, and what callers ask them by.
 #[derive(Drop)]
-pub(crate) struct Crew<D: LogDevice, G: Gate, J: IndexName> {
+pub(crate) struct Crew<R: Wait + Drop, D: LogDevice, G: Gate, J: IndexName> {
     pub(crate) gate: Arc<G, Global>,
     pub(crate) registry: Registry<Deed, J>,
-    pub(crate) client: Client<D, J>,
+    pub(crate) client: Client<R, D, J>,
     pub(crate) threads: Vec<JoinHandle<Left<J>>>,
     /// The threads that build merges, one for each of the others.
     pub(crate) mergers: Vec<JoinHandle<()>>,
@@ -39,15 +39,16 @@ pub(crate) struct Crew<D: LogDevice, G: Gate, J: IndexName> {
     pub(crate) ghost rising: { IdsRiseFrom 0 began.items } by { IdsRiseFrom-prop 0 began.items },
 }
 
-impl<D, G, J> Crew<D, G, J>
+impl<R, D, G, J> Crew<R, D, G, J>
 where
+    R: Threads + Wait + Copy + Send + Drop + 'static,
     D: LogDevice + Send + 'static,
     G: Gate + Send + Sync + 'static,
     J: IndexName + Send + Sync + 'static,
 {
     /// Starts the threads of some copies.
     #[tactic(auto, using(crate::proofs::Opened::began_none, crate::proofs::Opened::began_more))]
-    pub(crate) fn launch_all<R: Threads + Wait + Copy + Send + Drop + 'static>(
+    pub(crate) fn launch_all(
         &mut self,
         rt: &R,
         copies: Vec<Ready<D, J>>,
@@ -62,11 +63,7 @@ where
     }
 
     /// Starts the thread of a copy, which posts reach from now on.
-    pub(crate) fn launch<R: Threads + Wait + Copy + Send + Drop + 'static>(
-        &mut self,
-        rt: &R,
-        ready: Ready<D, J>,
-    ) -> Result<(), ClusterFault>
+    pub(crate) fn launch(&mut self, rt: &R, ready: Ready<D, J>) -> Result<(), ClusterFault>
         ensures threads { OnOk result (vec_len self.new.threads ≡ vec_len self.old.threads + 1) }
         ensures began { OnOk result (self.new.began.items ≡ self.old.began.items ++ ready.copy ∷ []) }
     {
@@ -80,7 +77,7 @@ where
     }
 
     /// Has the master add a copy, and starts its thread.
-    pub(crate) fn join<R: Threads + Wait + Copy + Send + Drop + 'static>(
+    pub(crate) fn join(
         &mut self,
         rt: &R,
         copy: u32,
@@ -99,11 +96,11 @@ where
         }
     }
 
-    fn join_by<R: Threads + Wait + Copy + Send + Drop + 'static>(
+    fn join_by(
         &mut self,
         rt: &R,
         copy: u32,
-        start: Start<D, G, J>,
+        start: Start<R, D, J>,
         ready: Ready<D, J>,
     ) -> Result<Decided<J>, ClusterFault>
         ensures decided { IfOk result (λ d. IsDecided Allocate d.decision d.past) }
@@ -132,43 +129,36 @@ where
     }
 
     /// What the threads of a copy are to be started with, whom posts reach from now on.
-    fn start_of<R: Wait>(&self, rt: &R, copy: u32) -> Result<Start<D, G, J>, ClusterFault> {
+    fn start_of(&self, rt: &R, copy: u32) -> Result<Start<R, D, J>, ClusterFault> {
         let alloc = self.client.alloc;
         let (to, merges) = unbounded(alloc)?;
         let tools = self.tools(to)?;
+        let lock = self.client.locks.add(rt, alloc, copy)?;
         match inbox_of(rt, alloc, &*self.client.shared, copy) {
             Ok((worker, inbox)) => Ok(Start {
                 alloc,
                 tools,
+                lock,
                 inbox,
                 merges,
                 worker,
             }),
             Err(fault) => {
                 drop(tools);
+                drop(lock);
                 Err(fault)
             }
         }
     }
 
     /// What the worker of a copy needs apart from it.
-    fn tools(&self, merges: Sender<Merging, Global>) -> Result<Tools<D, G, J>, AllocError> {
-        let gate = another(&self.gate)?;
+    fn tools(&self, merges: Sender<Merging, Global>) -> Result<Tools<D, J>, AllocError> {
         let shared = another(&self.client.shared)?;
-        Ok(Tools {
-            gate,
-            shared,
-            merges,
-        })
+        Ok(Tools { shared, merges })
     }
 
     /// Starts the threads of a copy, and waits until it serves. Where it gets no threads, or the copy doesn't serve, it answers `NoMemory`.
-    fn run<R: Threads + Wait + Copy + Send + Drop + 'static>(
-        &mut self,
-        rt: &R,
-        start: Start<D, G, J>,
-        ready: Ready<D, J>,
-    ) -> Result<(), ClusterFault>
+    fn run(&mut self, rt: &R, start: Start<R, D, J>, ready: Ready<D, J>) -> Result<(), ClusterFault>
         ensures threads { OnOk result (vec_len self.new.threads ≡ vec_len self.old.threads + 1) }
         ensures began { OnOk result (self.new.began.items ≡ self.old.began.items ++ ready.copy ∷ []) }
     {
@@ -200,16 +190,22 @@ where
         Ok(copy)
     }
 
-    fn run_over<R: Threads + Wait + Copy + Send + Drop + 'static>(
+    fn run_over(
         &mut self,
         rt: &R,
-        start: Start<D, G, J>,
+        start: Start<R, D, J>,
         copy: Journaling<D, J>,
     ) -> Result<(), ClusterFault>
         ensures threads { OnOk result (vec_len self.new.threads ≡ vec_len self.old.threads + 1) }
         ensures began { self.new.began ≡ self.old.began }
     {
+        let Ok(gate) = another(&self.gate) else {
+            drop(start);
+            drop(copy);
+            return Err(ClusterFault::NoMemory);
+        };
         let Ok((begun, heard)) = bounded(self.client.alloc, 1) else {
+            drop(gate);
             drop(start);
             drop(copy);
             return Err(ClusterFault::NoMemory);
@@ -217,6 +213,7 @@ where
         let Start {
             alloc,
             tools,
+            lock,
             inbox,
             merges,
             worker,
@@ -224,8 +221,10 @@ where
         let bench = Bench {
             rt: *rt,
             alloc,
+            gate,
             begun,
             tools,
+            lock,
             inbox,
             copy,
         };

@@ -63,6 +63,8 @@ impl Display for ShortLog {
 pub enum WriteFault<J: IndexName> {
     /// The copy that the master names isn't the primary, or is closed; with the entry that says so.
     NoPrimary(Receipt<J>),
+    /// The copy refused the write or the bulk for another cause; with the entry that says so.
+    Refused(Receipt<J>),
     /// The copy kept the write, and was the primary no more before it was acknowledged: the write's entry, and the one that ended the role.
     Lost(Receipt<J>, Receipt<J>),
     /// The copy kept the write, and the wait for its acknowledgement ended without one: another copy was made the primary, memory ran out, or the
@@ -76,6 +78,10 @@ impl<J: IndexName> Display for WriteFault<J> {
     fn fmt<W: fmt::Write>(&self, f: &mut fmt::Formatter<W>) -> fmt::Result {
         match self {
             WriteFault::NoPrimary(_) => write!(f, "no copy is the primary"),
+            WriteFault::Refused(receipt) => match &receipt.deed().answer {
+                Ok(_) => write!(f, "the copy refused it"),
+                Err(fault) => write!(f, "the copy: {fault}"),
+            },
             WriteFault::Lost(_, _) => {
                 write!(f, "the copy is the primary no more; the write may be kept")
             }

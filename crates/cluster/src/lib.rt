@@ -18,6 +18,7 @@ pub mod gate;
 pub mod gave;
 pub mod handing;
 mod left;
+mod locks;
 mod mending;
 mod merging;
 pub mod opening;

@@ -1,6 +1,5 @@
 //! A copy whose log has failed: it is opened again, and leads again where it is the primary; one that doesn't open is given up.
 
-use crate::gate::Gate;
 use crate::post::Post;
 use crate::worker::Worker;
 use cell::IndexName;
@@ -12,7 +11,7 @@ use translog::LogDevice;
 /// How often a copy is opened again before it is given up.
 const RESTARTS: u64 = 3;
 
-impl<D: LogDevice, G: Gate, J: IndexName> Worker<D, G, J> {
+impl<R: Wait + Drop, D: LogDevice, J: IndexName> Worker<R, D, J> {
     pub(crate) fn is_open(&self) -> bool {
         self.copy().snapshot().is_some()
     }
@@ -24,18 +23,22 @@ impl<D: LogDevice, G: Gate, J: IndexName> Worker<D, G, J> {
         }
     }
 
-    /// Opens the copy again where its log has failed, and has it lead where the master's primary is this copy. It is done before each post, so a
-    /// cluster whose last copy is closed takes writes again as soon as that opens.
-    pub(crate) fn mend<R: Wait>(&mut self, rt: &R) {
+    /// Opens the copy again where its log has failed. It is done before each post, so a cluster whose last copy is closed answers again as soon as that opens.
+    pub(crate) fn mend(&mut self, rt: &R) {
         if !self.is_open() {
             self.reopen(rt);
-        } else if self.is_to_lead {
+        }
+    }
+
+    /// Has the copy lead where the master's primary is this copy, which couldn't lead when it was opened. It is done before each write.
+    pub(crate) fn lead_again(&mut self, rt: &R) {
+        if self.is_open() && self.is_to_lead {
             self.lead(rt);
         }
     }
 
     /// Opens the copy again, and has it lead where the master's primary is this copy; one that doesn't open is given up.
-    pub(crate) fn reopen<R: Wait>(&mut self, rt: &R) {
+    pub(crate) fn reopen(&mut self, rt: &R) {
         if !self.restart(rt) {
             self.give_up(rt);
             return;
@@ -46,13 +49,13 @@ impl<D: LogDevice, G: Gate, J: IndexName> Worker<D, G, J> {
     }
 
     /// Opens the copy again where its log has failed since.
-    pub(crate) fn mend_since<R: Wait>(&mut self, rt: &R, was_open: bool) {
+    pub(crate) fn mend_since(&mut self, rt: &R, was_open: bool) {
         if was_open {
             self.mend(rt);
         }
     }
 
-    fn restart<R: Wait>(&mut self, rt: &R) -> bool {
+    fn restart(&mut self, rt: &R) -> bool {
         let tries = if self.given_up { 1 } else { RESTARTS };
         for _ in 0..tries {
             let was_open = self.is_open();
@@ -63,8 +66,8 @@ impl<D: LogDevice, G: Gate, J: IndexName> Worker<D, G, J> {
         false
     }
 
-    /// Has the master make this copy the primary of the next term, where it is the primary.
-    fn lead<R: Wait>(&mut self, rt: &R) {
+    /// Has the master make this copy the primary of the next term, where it is the primary. A copy that can't keep that is opened for reading.
+    fn lead(&mut self, rt: &R) {
         let id = self.id();
         if self.shared.primary(rt) != id {
             self.is_to_lead = false;
@@ -74,10 +77,13 @@ impl<D: LogDevice, G: Gate, J: IndexName> Worker<D, G, J> {
             self.call(rt, Input::Take(message));
         }
         self.is_to_lead = !self.leads();
+        if !self.is_open() {
+            self.restart(rt);
+        }
     }
 
     /// Has the primary report this copy; or where it is the primary itself, has another one promoted.
-    pub(crate) fn give_up<R: Wait>(&mut self, rt: &R) {
+    pub(crate) fn give_up(&mut self, rt: &R) {
         if self.given_up {
             return;
         }
@@ -94,7 +100,7 @@ impl<D: LogDevice, G: Gate, J: IndexName> Worker<D, G, J> {
     }
 
     /// Has the master make the first copy in sync the primary that isn't this one, and that it takes.
-    pub(crate) fn hand_over<R: Wait>(&self, rt: &R, state: &State) {
+    pub(crate) fn hand_over(&self, rt: &R, state: &State) {
         let id = self.id();
         for other in state.in_sync.as_slice() {
             if *other != id

@@ -1,7 +1,6 @@
 //! Merges of a copy's segments: they are built on a thread of its own, and put in place between two posts.
 
 use crate::channels::sent;
-use crate::gate::Gate;
 use crate::post::Post;
 use crate::worker::Worker;
 use cell::IndexName;
@@ -67,7 +66,7 @@ impl Merges {
     }
 }
 
-impl<D: LogDevice, G: Gate, J: IndexName> Worker<D, G, J> {
+impl<R: Wait + Drop, D: LogDevice, J: IndexName> Worker<R, D, J> {
     /// Notes before a refresh how many segments merges leave: fewer if the refresh shows nothing new, since then the copy is at rest.
     pub(crate) fn note_rest(&mut self) {
         self.merges.few = if self.is_open() && self.copy().is_all_shown() {
@@ -78,7 +77,7 @@ impl<D: LogDevice, G: Gate, J: IndexName> Worker<D, G, J> {
     }
 
     /// Has a merge built where searches look through many segments and none is being built. Without memory for that the next refresh tries again.
-    pub(crate) fn begin_merge<R: Wait>(&mut self, rt: &R) {
+    pub(crate) fn begin_merge(&mut self, rt: &R) {
         if self.merges.is_under_way || !self.is_open() {
             return;
         }
@@ -90,7 +89,7 @@ impl<D: LogDevice, G: Gate, J: IndexName> Worker<D, G, J> {
 
     /// Puts a merge in place that was built. One whose segments are gone by then is dropped, and the next one is begun; without memory for one the next
     /// refresh begins it.
-    pub(crate) fn put_merged<R: Wait>(&mut self, rt: &R, merged: Option<Merged>) {
+    pub(crate) fn put_merged(&mut self, rt: &R, merged: Option<Merged>) {
         self.merges.is_under_way = false;
         if merged.is_none() {
             return;
@@ -102,7 +101,7 @@ impl<D: LogDevice, G: Gate, J: IndexName> Worker<D, G, J> {
     }
 
     /// Has searches look through the merged segment, by a refresh, where that shows them nothing else; where it would, they do from the next one on.
-    fn show_merged<R: Wait>(&mut self, rt: &R) {
+    fn show_merged(&mut self, rt: &R) {
         if self.is_open() && self.copy().is_all_shown() {
             self.call(rt, Input::Refresh);
         }

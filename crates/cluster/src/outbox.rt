@@ -6,6 +6,7 @@ use crate::post::{Answered, BulkEnding, Ending};
 use cell::IndexName;
 use crossbeam_channel::Sender;
 use node::{Got, NodeFault, Receipt};
+use op::Msg;
 use std::alloc::Global;
 use std::collections::VecDeque;
 
@@ -40,6 +41,15 @@ pub(crate) enum Parcel<J: IndexName> {
     Got(Got<J>, Sender<Result<Durable<Got<J>>, NodeFault>, Global>),
     /// The writes that wait by then are to wait no longer.
     EndOfWaits,
+}
+
+/// Messages that leave together for one copy.
+#[derive(Drop)]
+pub(crate) struct Mail {
+    pub(crate) to: u32,
+    /// Whether the sender was the primary after the entries that send them.
+    pub(crate) leads: bool,
+    pub(crate) messages: Vec<Durable<Msg>>,
 }
 
 /// The parcels of a worker, oldest first.

@@ -1,4 +1,4 @@
-//! A copy that its worker alone calls.
+//! A copy that one caller at a time calls, with one pass.
 ghost use Rattle.std.specs.Prelude.{◌≡◌, []};
 ghost use Rattle.cluster.specs.Owned.{IsOwnPass};
 
@@ -13,14 +13,21 @@ use std::marker::Model;
 use std::sync::Wait;
 use translog::LogDevice;
 
-/// The cell of a copy, and the pass of its worker, which makes all calls of it: so each entry of the journal has its receipt there, where the journal is kept.
-/// It is not `Drop`: end it by `into_left`.
-pub(crate) struct OwnCell<D: LogDevice, J: IndexName> {
+/// The cell of a copy, and the pass by which all calls of it are made: so each entry of the journal has its receipt there, where the journal is kept. It has
+/// the handle by which it waits at its end for searches that are just taking what is shown.
+pub(crate) struct OwnCell<R: Wait + Drop, D: LogDevice, J: IndexName> {
+    rt: R,
     cell: CopyCell<D, J>,
     pass: Pass<J>,
 }
 
-impl<D: LogDevice, J: IndexName> Model for OwnCell<D, J> {
+impl<R: Wait + Drop, D: LogDevice, J: IndexName> Drop for OwnCell<R, D, J> {
+    fn drop(self) {
+        drop(self.into_left());
+    }
+}
+
+impl<R: Wait + Drop, D: LogDevice, J: IndexName> Model for OwnCell<R, D, J> {
     ghost use Rattle.cell.specs.Publishing.{CellData};
     ghost use Rattle.cluster.specs.Owned.{IsOwnPass};
 
@@ -31,15 +38,16 @@ impl<D: LogDevice, J: IndexName> Model for OwnCell<D, J> {
     ghost invariant = { λ o. IsOwnPass o.cell.journal o.pass };
 }
 
-impl<D: LogDevice, J: IndexName> OwnCell<D, J> {
+impl<R: Wait + Drop, D: LogDevice, J: IndexName> OwnCell<R, D, J> {
     /// A copy that nobody has called since its journal began.
     #[tactic(auto, using(crate::proofs::Owned::own_new))]
-    pub(crate) fn new(alloc: Global, cell: CopyCell<D, J>) -> OwnCell<D, J>
+    pub(crate) fn new(rt: R, alloc: Global, cell: CopyCell<D, J>) -> OwnCell<R, D, J>
         requires { cell.journal.deeds ≡ [] }
         ensures { result ≡ cell }
     {
         let node = cell.held().node();
         OwnCell {
+            rt,
             cell,
             pass: Pass::new(alloc, node as u64),
         }
@@ -53,14 +61,9 @@ impl<D: LogDevice, J: IndexName> OwnCell<D, J> {
     }
 
     /// One call of the copy: its entry, also where the copy refuses.
-    pub(crate) fn call<R: Wait>(
-        &mut self,
-        rt: &R,
-        alloc: Global,
-        input: Input,
-    ) -> Result<Receipt<J>, NodeFault> {
+    pub(crate) fn call(&mut self, alloc: Global, input: Input) -> Result<Receipt<J>, NodeFault> {
         self.forget(alloc);
-        match self.enter(rt, alloc, input) {
+        match self.enter(alloc, input) {
             Ok(receipt) => Ok(receipt),
             Err(NodeFault::Copy(fault)) => match self.pass.receipts().last() {
                 Some(receipt) => Ok(receipt.copy(alloc)?),
@@ -84,13 +87,8 @@ impl<D: LogDevice, J: IndexName> OwnCell<D, J> {
 
     /// The call, whose receipt is the last of the pass.
     #[tactic(auto, using(crate::proofs::Owned::own_after))]
-    fn enter<R: Wait>(
-        &mut self,
-        rt: &R,
-        alloc: Global,
-        input: Input,
-    ) -> Result<Receipt<J>, NodeFault> {
-        self.cell.call(rt, alloc, &mut self.pass, input)
+    fn enter(&mut self, alloc: Global, input: Input) -> Result<Receipt<J>, NodeFault> {
+        self.cell.call(&self.rt, alloc, &mut self.pass, input)
     }
 
     /// What the copy has of an id; it makes no entry.
@@ -143,8 +141,8 @@ impl<D: LogDevice, J: IndexName> OwnCell<D, J> {
     }
 
     /// What is left of it. It waits for searches that are just taking what is shown.
-    pub(crate) fn into_left<R: Wait>(self, rt: &R) -> Left<J> {
-        let OwnCell { cell, pass } = self;
-        Left::served(rt, cell, pass)
+    pub(crate) fn into_left(self) -> Left<J> {
+        let OwnCell { rt, cell, pass } = self;
+        Left::served(&rt, cell, pass)
     }
 }

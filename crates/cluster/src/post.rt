@@ -42,10 +42,14 @@ pub(crate) enum Post<J: IndexName> {
     Write(Write, Sender<Answered<J>, Global>, Sender<Ending<J>, Global>),
     /// A bulk: its own entry is answered first, and how it ended when it has.
     Bulk(Writes, Sender<Answered<J>, Global>, Sender<BulkEnding<J>, Global>),
+    /// Messages, which are taken one after another.
+    Mail(Vec<Durable<Msg>>),
     /// A message, and how often it was refused for a while.
     Hand(Durable<Msg>, u32),
     /// A copy that the primary is to report.
     Report(u32),
+    /// To lead as soon as the master can decide that.
+    Lead,
     /// The term of which another copy was made the primary.
     Depose(u64),
     /// To answer what the copy has of an id.

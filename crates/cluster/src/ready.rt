@@ -95,13 +95,20 @@ pub(crate) struct Journaling<D: LogDevice, J: IndexName> {
 
 impl<D: LogDevice, J: IndexName> Journaling<D, J> {
     /// The copy with what searches see of it; without memory for that it is given back.
-    pub(crate) fn begin<R: Wait>(self, rt: &R, alloc: Global) -> Result<OwnCell<D, J>, Held<D, J>>
+    pub(crate) fn begin<R: Wait + Drop>(
+        self,
+        rt: R,
+        alloc: Global,
+    ) -> Result<OwnCell<R, D, J>, Held<D, J>>
         ensures begun { IfOk result (IsBegun self.held) }
         ensures refused { IfErr result (λ h. h ≡ self.held) }
     {
-        match CopyCell::begin(rt, alloc, self.held) {
-            Ok(cell) => Ok(OwnCell::new(alloc, cell)),
-            Err(held) => Err(held),
+        match CopyCell::begin(&rt, alloc, self.held) {
+            Ok(cell) => Ok(OwnCell::new(rt, alloc, cell)),
+            Err(held) => {
+                drop(rt);
+                Err(held)
+            }
         }
     }
 }

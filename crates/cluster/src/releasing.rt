@@ -7,14 +7,16 @@ use crate::channels::give;
 use crate::checks::{is_shut, items_in, written_in};
 use crate::durable::Durable;
 use crate::gate::Gate;
-use crate::outbox::{Asked, Entry, Parcel};
+use crate::outbox::{Asked, Entry, Mail, Parcel};
 use crate::post::{BulkEnding, Ending, Post};
 use crate::worker::Worker;
 use cell::IndexName;
 use crossbeam_channel::{Receiver, Sender};
 use node::{Got, NodeFault, OnDisk, Receipt};
+use op::Msg;
 use replica::CopyFault;
 use std::alloc::Global;
+use std::mem;
 use std::sync::Wait;
 use translog::{LogDevice, LogFault};
 
@@ -29,37 +31,41 @@ pub(crate) fn unsynced() -> NodeFault {
     NodeFault::Copy(CopyFault::Log(LogFault::Device))
 }
 
-impl<D: LogDevice, G: Gate, J: IndexName> Worker<D, G, J> {
+impl<R: Wait + Drop, D: LogDevice, J: IndexName> Worker<R, D, J> {
     /// Does a post, and those that wait after it as long as something of it isn't on the disk; then what they send leaves. Says whether it goes on.
     /// Where each append is synced, each post leaves by itself.
-    pub(crate) fn serve_waiting<R: Wait>(
+    pub(crate) fn serve_waiting<G: Gate>(
         &mut self,
         rt: &R,
+        gate: &G,
         inbox: &Receiver<Post<J>, Global>,
         first: Post<J>,
     ) -> bool {
-        let mut goes_on = self.serve(rt, first);
+        let mut goes_on = self.admit(rt, gate, first);
         for _ in 1..TOGETHER {
             if !goes_on || !self.is_open() || self.cell.is_synced() {
                 break;
             }
-            let Some(post) = self.next_there(rt, inbox) else {
+            let Ok(post) = inbox.try_recv(rt) else {
                 break;
             };
-            goes_on = self.serve(rt, post);
+            goes_on = self.admit(rt, gate, post);
         }
-        self.release(rt);
+        self.settle(rt, gate);
         goes_on
     }
 
     /// Keeps a parcel until it is on the disk. Without memory for that it leaves at once, after those that wait; a copy that can do neither is given up.
-    pub(crate) fn keep<R: Wait>(&mut self, rt: &R, parcel: Parcel<J>) {
+    pub(crate) fn keep(&mut self, rt: &R, parcel: Parcel<J>) {
         let Err(parcel) = self.outbox.push(parcel) else {
             return;
         };
         self.flush(rt);
         match self.cell.sync() {
-            Ok(on_disk) => self.leave(rt, parcel, &on_disk),
+            Ok(on_disk) => {
+                self.leave(rt, parcel, &on_disk);
+                self.deliver(rt);
+            }
             Err(_) => {
                 self.withdraw(rt, parcel);
                 self.give_up(rt);
@@ -69,7 +75,7 @@ impl<D: LogDevice, G: Gate, J: IndexName> Worker<D, G, J> {
 
     /// Syncs the log, and lets all leave that waits for it. Where that fails those who asked hear only that, and the copy is opened again,
     /// which brings to the disk what it has; then the rest leaves. Of a copy that doesn't open nothing leaves.
-    pub(crate) fn release<R: Wait>(&mut self, rt: &R) {
+    pub(crate) fn release(&mut self, rt: &R) {
         for _ in 0..SYNCS {
             if self.flush(rt) {
                 return;
@@ -88,20 +94,24 @@ impl<D: LogDevice, G: Gate, J: IndexName> Worker<D, G, J> {
     }
 
     /// Syncs the log, and lets all leave that waits for it. Where that fails all of it goes on waiting.
-    fn flush<R: Wait>(&mut self, rt: &R) -> bool {
+    fn flush(&mut self, rt: &R) -> bool {
         if self.outbox.is_empty() {
             return true;
+        }
+        if !self.cell.is_synced() {
+            self.syncs_later = true;
         }
         match self.cell.sync() {
             Ok(on_disk) => {
                 self.let_go(rt, &on_disk);
+                self.deliver(rt);
                 true
             }
             Err(_) => false,
         }
     }
 
-    fn let_go<R: Wait>(&mut self, rt: &R, on_disk: &OnDisk) {
+    fn let_go(&mut self, rt: &R, on_disk: &OnDisk) {
         for _ in 0..self.outbox.len() {
             let Some(parcel) = self.outbox.next() else {
                 return;
@@ -110,7 +120,7 @@ impl<D: LogDevice, G: Gate, J: IndexName> Worker<D, G, J> {
         }
     }
 
-    fn leave<R: Wait>(&mut self, rt: &R, parcel: Parcel<J>, on_disk: &OnDisk) {
+    fn leave(&mut self, rt: &R, parcel: Parcel<J>, on_disk: &OnDisk) {
         match parcel {
             Parcel::Entry(entry) => self.tell(rt, entry, on_disk),
             Parcel::Got(got, to) => tell_got(rt, got, to, on_disk),
@@ -121,7 +131,7 @@ impl<D: LogDevice, G: Gate, J: IndexName> Worker<D, G, J> {
         }
     }
 
-    fn tell<R: Wait>(&mut self, rt: &R, entry: Entry<J>, on_disk: &OnDisk) {
+    fn tell(&mut self, rt: &R, entry: Entry<J>, on_disk: &OnDisk) {
         let Entry {
             receipt,
             leads,
@@ -136,7 +146,7 @@ impl<D: LogDevice, G: Gate, J: IndexName> Worker<D, G, J> {
 
     /// Sends what an entry sends, reports what it acknowledges, and answers it. It notes who waits for a write before it reports what the entry
     /// acknowledges, since one copy acknowledges its write at once.
-    fn tell_durable<R: Wait>(
+    fn tell_durable(
         &mut self,
         rt: &R,
         entry: Durable<Receipt<J>>,
@@ -188,7 +198,7 @@ impl<D: LogDevice, G: Gate, J: IndexName> Worker<D, G, J> {
         }
     }
 
-    fn follow<R: Wait>(&mut self, rt: &R, entry: &Durable<Receipt<J>>, leads: bool, term: u64) {
+    fn follow(&mut self, rt: &R, entry: &Durable<Receipt<J>>, leads: bool, term: u64) {
         for at in 0..entry.sent().len() {
             self.send(rt, entry, at, leads);
         }
@@ -196,22 +206,63 @@ impl<D: LogDevice, G: Gate, J: IndexName> Worker<D, G, J> {
         self.tell_lost(rt, entry, leads, term);
     }
 
-    /// Sends a message of an entry on its way.
-    fn send<R: Wait>(&mut self, rt: &R, entry: &Durable<Receipt<J>>, at: usize, leads: bool)
+    /// Has the master decide a message of an entry, or puts it to those that leave for its copy.
+    fn send(&mut self, rt: &R, entry: &Durable<Receipt<J>>, at: usize, leads: bool)
         requires { at < length (sent_by entry.now.deed.answer) }
     {
+        let to = entry.sent()[at].to;
         let is_sent = match entry.message(self.alloc, at) {
-            Ok(message) => self.shared.post(rt, self.alloc, self.number, message),
+            Ok(message) if to == 0 => self
+                .shared
+                .tell(rt, self.alloc, self.number, message.what()),
+            Ok(message) => self.pack(message, to, leads),
             Err(_) => false,
         };
         if !is_sent {
-            self.miss(rt, entry.sent()[at].to, leads);
+            self.miss(rt, to, leads);
+        }
+    }
+
+    /// Puts a message to those that leave for its copy. Says whether there was memory for that.
+    fn pack(&mut self, message: Durable<Msg>, to: u32, leads: bool) -> bool {
+        if let Some(place) = self
+            .mails
+            .iter()
+            .position(|mail| mail.to == to && mail.leads == leads)
+        {
+            return self.mails[place].messages.push(message).is_ok();
+        }
+        let mut messages = Vec::new(self.alloc);
+        if messages.push(message).is_err() {
+            return false;
+        }
+        self.mails
+            .push(Mail {
+                to,
+                leads,
+                messages,
+            })
+            .is_ok()
+    }
+
+    /// Sends what was put together for each copy on its way, as one post.
+    fn deliver(&mut self, rt: &R) {
+        let mails = mem::replace(&mut self.mails, Vec::new(self.alloc));
+        for mail in mails {
+            let Mail {
+                to,
+                leads,
+                messages,
+            } = mail;
+            if !self.shared.hand(rt, to, Post::Mail(messages)) {
+                self.miss(rt, to, leads);
+            }
         }
     }
 
     /// A message that didn't arrive: the primary is to report the copy that it is to, or that sent it. What the master didn't take, or nobody
     /// can report, ends all waits.
-    fn miss<R: Wait>(&mut self, rt: &R, to: u32, leads: bool) {
+    fn miss(&mut self, rt: &R, to: u32, leads: bool) {
         let id = self.id();
         let told = if to == 0 {
             false
@@ -226,7 +277,7 @@ impl<D: LogDevice, G: Gate, J: IndexName> Worker<D, G, J> {
     }
 
     /// Answers those whose writes an entry acknowledges.
-    fn tell_acknowledged<R: Wait>(&mut self, rt: &R, entry: &Durable<Receipt<J>>) {
+    fn tell_acknowledged(&mut self, rt: &R, entry: &Durable<Receipt<J>>) {
         if let Ok(output) = &entry.what().deed().answer {
             for op in output.acknowledged.as_slice() {
                 self.waits.acknowledge(rt, op, entry);
@@ -236,7 +287,7 @@ impl<D: LogDevice, G: Gate, J: IndexName> Worker<D, G, J> {
     }
 
     /// Answers those who wait where the copy was the primary no more, or of a later term than that of their writes.
-    fn tell_lost<R: Wait>(&mut self, rt: &R, entry: &Durable<Receipt<J>>, leads: bool, term: u64) {
+    fn tell_lost(&mut self, rt: &R, entry: &Durable<Receipt<J>>, leads: bool, term: u64) {
         let leads = leads && !is_shut(entry.what());
         if !leads || !self.waits.are_of(term) {
             self.waits.lose(rt, entry);
@@ -244,7 +295,7 @@ impl<D: LogDevice, G: Gate, J: IndexName> Worker<D, G, J> {
     }
 
     /// Answers all who asked: the log has failed. What entries send and acknowledge goes on waiting.
-    fn refuse_all<R: Wait>(&mut self, rt: &R) {
+    fn refuse_all(&mut self, rt: &R) {
         for _ in 0..self.outbox.len() {
             let Some(parcel) = self.outbox.next() else {
                 return;
@@ -253,7 +304,7 @@ impl<D: LogDevice, G: Gate, J: IndexName> Worker<D, G, J> {
         }
     }
 
-    fn refuse_one<R: Wait>(&mut self, rt: &R, parcel: Parcel<J>) {
+    fn refuse_one(&mut self, rt: &R, parcel: Parcel<J>) {
         match parcel {
             Parcel::Entry(entry) => {
                 let Entry {
@@ -282,14 +333,14 @@ impl<D: LogDevice, G: Gate, J: IndexName> Worker<D, G, J> {
     }
 
     /// Puts a parcel after the others again; there is room for it.
-    fn put_back<R: Wait>(&mut self, rt: &R, parcel: Parcel<J>) {
+    fn put_back(&mut self, rt: &R, parcel: Parcel<J>) {
         if let Err(parcel) = self.outbox.push(parcel) {
             self.withdraw(rt, parcel);
         }
     }
 
     /// Lets nothing leave of what waits. Whether a write stands that waits for its acknowledgement is open.
-    fn withdraw_all<R: Wait>(&mut self, rt: &R) {
+    fn withdraw_all(&mut self, rt: &R) {
         for _ in 0..self.outbox.len() {
             let Some(parcel) = self.outbox.next() else {
                 return;
@@ -299,7 +350,7 @@ impl<D: LogDevice, G: Gate, J: IndexName> Worker<D, G, J> {
         self.end_waits();
     }
 
-    fn withdraw<R: Wait>(&mut self, rt: &R, parcel: Parcel<J>) {
+    fn withdraw(&mut self, rt: &R, parcel: Parcel<J>) {
         match parcel {
             Parcel::Entry(entry) => {
                 let Entry { receipt, asked, .. } = entry;

@@ -185,23 +185,8 @@ impl<D: LogDevice, J: IndexName> Shared<D, J> {
         }
     }
 
-    /// Sends a message of a copy, and says whether it is on its way.
-    pub(crate) fn post<R: Wait>(
-        &self,
-        rt: &R,
-        alloc: Global,
-        pass: u64,
-        message: Durable<Msg>,
-    ) -> bool {
-        let to = message.what().to;
-        if to == 0 {
-            return self.tell(rt, alloc, pass, message.what());
-        }
-        self.hand(rt, to, Post::Hand(message, 0))
-    }
-
     /// Has the master decide what a message asks. A refusal by its table counts as decided.
-    fn tell<R: Wait>(&self, rt: &R, alloc: Global, pass: u64, message: &Msg) -> bool {
+    pub(crate) fn tell<R: Wait>(&self, rt: &R, alloc: Global, pass: u64, message: &Msg) -> bool {
         match request_of(message) {
             Some(request) => match self.ask(rt, alloc, pass, request) {
                 Ok(_decided) => true,

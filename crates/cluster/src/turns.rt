@@ -2,11 +2,8 @@
 
 use crate::gate::Gate;
 use crate::post::Post;
-use crate::releasing::TOGETHER;
 use crate::worker::Worker;
 use cell::IndexName;
-use crossbeam_channel::Receiver;
-use std::alloc::Global;
 use std::sync::Wait;
 use translog::LogDevice;
 
@@ -14,8 +11,10 @@ use translog::LogDevice;
 fn is_of_caller<J: IndexName>(post: &Post<J>) -> bool {
     match post {
         Post::Ask(_, _) | Post::Write(_, _, _) | Post::Bulk(_, _, _) | Post::Get(_, _) => true,
-        Post::Hand(_, _)
+        Post::Mail(_)
+        | Post::Hand(_, _)
         | Post::Report(_)
+        | Post::Lead
         | Post::Depose(_)
         | Post::Merged(_)
         | Post::Seat(_)
@@ -23,46 +22,29 @@ fn is_of_caller<J: IndexName>(post: &Post<J>) -> bool {
     }
 }
 
-impl<D: LogDevice, G: Gate, J: IndexName> Worker<D, G, J> {
-    /// The next post that is to be done: of those that are held back the oldest, where it may be done now; else one that comes, for which it waits.
-    /// Nothing where nobody can send one any more.
-    pub(crate) fn next<R: Wait>(
-        &mut self,
-        rt: &R,
-        inbox: &Receiver<Post<J>, Global>,
-    ) -> Option<Post<J>> {
-        if let Some(post) = self.next_held() {
-            return Some(post);
+impl<R: Wait + Drop, D: LogDevice, J: IndexName> Worker<R, D, J> {
+    /// Does a post, or holds it back. Says whether it goes on.
+    pub(crate) fn admit<G: Gate>(&mut self, rt: &R, gate: &G, post: Post<J>) -> bool {
+        if let Post::Stop = &post {
+            drop(post);
+            return false;
         }
-        for _ in rt.forever() {
-            let Ok(post) = inbox.recv(rt) else {
-                return None;
-            };
-            if let Some(post) = self.admitted(post) {
-                return Some(post);
-            }
+        if let Some(post) = self.admitted(post) {
+            self.serve(rt, gate, post);
         }
-        None
+        true
     }
 
-    /// The next post to do of those that are there; it waits for none.
-    pub(crate) fn next_there<R: Wait>(
-        &mut self,
-        rt: &R,
-        inbox: &Receiver<Post<J>, Global>,
-    ) -> Option<Post<J>> {
-        if let Some(post) = self.next_held() {
-            return Some(post);
-        }
-        for _ in 0..TOGETHER {
-            let Ok(post) = inbox.try_recv(rt) else {
-                return None;
+    /// Lets leave what waits for the disk; then it does the posts that are held back, as far as they may be done now.
+    pub(crate) fn settle<G: Gate>(&mut self, rt: &R, gate: &G) {
+        self.release(rt);
+        for _ in 0..self.backlog.len() {
+            let Some(post) = self.next_held() else {
+                break;
             };
-            if let Some(post) = self.admitted(post) {
-                return Some(post);
-            }
+            self.serve(rt, gate, post);
+            self.release(rt);
         }
-        None
     }
 
     /// The oldest post that is held back, where it may be done now.
@@ -115,12 +97,12 @@ impl<D: LogDevice, G: Gate, J: IndexName> Worker<D, G, J> {
     }
 
     /// Does all that is held back, for a worker that is to end.
-    pub(crate) fn finish<R: Wait>(&mut self, rt: &R) {
+    pub(crate) fn finish<G: Gate>(&mut self, rt: &R, gate: &G) {
         for _ in 0..self.backlog.len() {
             let Some(post) = self.backlog.next() else {
                 break;
             };
-            self.serve(rt, post);
+            self.serve(rt, gate, post);
         }
         self.release(rt);
     }

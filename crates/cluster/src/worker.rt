@@ -1,4 +1,4 @@
-//! What the thread of a copy does.
+//! What a copy of a cluster does for those who ask it.
 
 use crate::backlog::Backlog;
 use crate::channels::give;
@@ -7,7 +7,7 @@ use crate::fate::{Fate, fate_of, is_of_primary};
 use crate::gate::Gate;
 use crate::left::Left;
 use crate::merging::Merges;
-use crate::outbox::{Asked, Entry, Outbox, Parcel};
+use crate::outbox::{Asked, Entry, Mail, Outbox, Parcel};
 use crate::own::OwnCell;
 use crate::post::{Answered, BulkEnding, Ending, Post, Seated};
 use crate::releasing::unsynced;
@@ -27,22 +27,23 @@ use translog::LogDevice;
 /// How often a message is handed again that is refused for a while.
 const TRIES: u32 = 100;
 
-/// What a worker has apart from its copy: the gate, what all workers share, and who builds its merges.
+/// What a worker has apart from its copy: what all workers share, and who builds its merges.
 #[derive(Drop)]
-pub(crate) struct Tools<D: LogDevice, G: Gate, J: IndexName> {
-    pub(crate) gate: Arc<G, Global>,
+pub(crate) struct Tools<D: LogDevice, J: IndexName> {
     pub(crate) shared: Arc<Shared<D, J>, Global>,
     pub(crate) merges: Sender<Merging, Global>,
 }
 
-/// A copy, what hasn't left it yet, who waits for it, which posts are held back, and its merges. It is not `Drop`: end it by `into_left`.
-pub(crate) struct Worker<D: LogDevice, G: Gate, J: IndexName> {
+/// A copy, what hasn't left it yet, who waits for it, which posts are held back, and its merges. It stands behind a lock (`CopyLock`).
+#[derive(Drop)]
+pub(crate) struct Worker<R: Wait + Drop, D: LogDevice, J: IndexName> {
     pub(crate) alloc: Global,
     pub(crate) number: u64,
-    pub(crate) gate: Arc<G, Global>,
     pub(crate) shared: Arc<Shared<D, J>, Global>,
-    pub(crate) cell: OwnCell<D, J>,
+    pub(crate) cell: OwnCell<R, D, J>,
     pub(crate) outbox: Outbox<J>,
+    /// The messages that leave next, those to one copy together.
+    pub(crate) mails: Vec<Mail>,
     pub(crate) waits: Waits<J>,
     pub(crate) backlog: Backlog<J>,
     pub(crate) merges: Merges,
@@ -52,32 +53,31 @@ pub(crate) struct Worker<D: LogDevice, G: Gate, J: IndexName> {
     pub(crate) given_up: bool,
     /// Whether the copy was opened again, and may have to lead.
     pub(crate) is_to_lead: bool,
+    /// Whether the log is synced later than in each append, so that one sync does for many steps.
+    pub(crate) syncs_later: bool,
 }
 
-impl<D: LogDevice, G: Gate, J: IndexName> Worker<D, G, J> {
+impl<R: Wait + Drop, D: LogDevice, J: IndexName> Worker<R, D, J> {
     pub(crate) fn new(
         alloc: Global,
-        tools: Tools<D, G, J>,
-        cell: OwnCell<D, J>,
-    ) -> Worker<D, G, J> {
-        let Tools {
-            gate,
-            shared,
-            merges,
-        } = tools;
+        tools: Tools<D, J>,
+        cell: OwnCell<R, D, J>,
+    ) -> Worker<R, D, J> {
+        let Tools { shared, merges } = tools;
         Worker {
             alloc,
             number: cell.held().node() as u64,
-            gate,
             shared,
             cell,
             outbox: Outbox::new(alloc),
+            mails: Vec::new(alloc),
             waits: Waits::new(alloc),
             backlog: Backlog::new(alloc),
             merges: Merges::new(merges),
             deposed: 0,
             given_up: false,
             is_to_lead: false,
+            syncs_later: false,
         }
     }
 
@@ -90,36 +90,42 @@ impl<D: LogDevice, G: Gate, J: IndexName> Worker<D, G, J> {
         self.copy().id()
     }
 
-    /// Does what a post asks, and says whether it goes on.
-    pub(crate) fn serve<R: Wait>(&mut self, rt: &R, post: Post<J>) -> bool {
-        if let Post::Stop = &post {
-            drop(post);
-            return false;
+    /// Does what a post asks. Each of its steps passes the gate first.
+    pub(crate) fn serve<G: Gate>(&mut self, rt: &R, gate: &G, post: Post<J>) {
+        if let Post::Mail(messages) = post {
+            for message in messages {
+                self.step(rt, gate, Post::Hand(message, 0));
+            }
+        } else {
+            self.step(rt, gate, post);
         }
-        self.gate.pass(self.id());
-        self.mend(rt);
-        self.answer(rt, post);
-        true
     }
 
-    fn answer<R: Wait>(&mut self, rt: &R, post: Post<J>) {
+    fn step<G: Gate>(&mut self, rt: &R, gate: &G, post: Post<J>) {
+        gate.pass(self.id());
+        self.mend(rt);
+        self.answer(rt, post);
+    }
+
+    fn answer(&mut self, rt: &R, post: Post<J>) {
         match post {
             Post::Ask(input, to) => self.ask(rt, input, to),
             Post::Write(write, first, second) => self.write(rt, write, first, second),
             Post::Bulk(writes, first, second) => self.bulk(rt, writes, first, second),
             Post::Hand(message, tries) => self.take(rt, message, tries),
             Post::Report(copy) => self.report(rt, copy),
+            Post::Lead => self.is_to_lead = true,
             Post::Depose(term) => self.depose(rt, term),
             Post::Get(id, to) => self.get(rt, id, to),
             Post::Merged(merged) => self.put_merged(rt, merged),
             Post::Seat(to) => self.seat(rt, to),
-            stop => drop(stop),
+            none => drop(none),
         }
     }
 
     /// One call of the copy: its entry, also where the copy refuses.
-    fn made<R: Wait>(&mut self, rt: &R, input: Input) -> Result<Receipt<J>, NodeFault> {
-        self.cell.call(rt, self.alloc, input)
+    fn made(&mut self, input: Input) -> Result<Receipt<J>, NodeFault> {
+        self.cell.call(self.alloc, input)
     }
 
     /// An entry, with what the copy is after it.
@@ -133,8 +139,8 @@ impl<D: LogDevice, G: Gate, J: IndexName> Worker<D, G, J> {
     }
 
     /// A call that nobody waits for, and whether the copy accepts it. What it sends and acknowledges leaves when it is on the disk.
-    pub(crate) fn call<R: Wait>(&mut self, rt: &R, input: Input) -> bool {
-        let Ok(receipt) = self.made(rt, input) else {
+    pub(crate) fn call(&mut self, rt: &R, input: Input) -> bool {
+        let Ok(receipt) = self.made(input) else {
             return false;
         };
         let is_accepted = receipt.deed().answer.is_ok();
@@ -144,7 +150,7 @@ impl<D: LogDevice, G: Gate, J: IndexName> Worker<D, G, J> {
     }
 
     /// Does a call. A refresh shows searches only what is on the disk, and adds a segment.
-    fn ask<R: Wait>(&mut self, rt: &R, input: Input, to: Sender<Answered<J>, Global>) {
+    fn ask(&mut self, rt: &R, input: Input, to: Sender<Answered<J>, Global>) {
         if let Input::Refresh = &input {
             drop(input);
             self.refresh(rt, to);
@@ -153,7 +159,7 @@ impl<D: LogDevice, G: Gate, J: IndexName> Worker<D, G, J> {
         }
     }
 
-    fn refresh<R: Wait>(&mut self, rt: &R, to: Sender<Answered<J>, Global>) {
+    fn refresh(&mut self, rt: &R, to: Sender<Answered<J>, Global>) {
         self.release(rt);
         if self.cell.sync().is_err() {
             give(rt, to, Err(unsynced()));
@@ -164,9 +170,9 @@ impl<D: LogDevice, G: Gate, J: IndexName> Worker<D, G, J> {
         self.begin_merge(rt);
     }
 
-    fn do_asked<R: Wait>(&mut self, rt: &R, input: Input, to: Sender<Answered<J>, Global>) {
+    fn do_asked(&mut self, rt: &R, input: Input, to: Sender<Answered<J>, Global>) {
         let was_open = self.is_open();
-        match self.made(rt, input) {
+        match self.made(input) {
             Ok(receipt) => {
                 let parcel = self.entry(receipt, Asked::Call(to));
                 self.keep(rt, parcel);
@@ -177,15 +183,16 @@ impl<D: LogDevice, G: Gate, J: IndexName> Worker<D, G, J> {
     }
 
     /// A write. A copy that the write has closed is mended before its answer, so that the next write finds a primary.
-    fn write<R: Wait>(
+    fn write(
         &mut self,
         rt: &R,
         write: Write,
         first: Sender<Answered<J>, Global>,
         second: Sender<Ending<J>, Global>,
     ) {
+        self.lead_again(rt);
         let was_open = self.is_open();
-        match self.made(rt, Input::Write(write)) {
+        match self.made(Input::Write(write)) {
             Ok(receipt) => {
                 let parcel = self.entry(receipt, Asked::Write(first, second));
                 self.keep(rt, parcel);
@@ -199,15 +206,16 @@ impl<D: LogDevice, G: Gate, J: IndexName> Worker<D, G, J> {
     }
 
     /// A bulk. A copy that the bulk has closed is mended before its answer.
-    fn bulk<R: Wait>(
+    fn bulk(
         &mut self,
         rt: &R,
         writes: Writes,
         first: Sender<Answered<J>, Global>,
         second: Sender<BulkEnding<J>, Global>,
     ) {
+        self.lead_again(rt);
         let was_open = self.is_open();
-        match self.made(rt, Input::Bulk(writes)) {
+        match self.made(Input::Bulk(writes)) {
             Ok(receipt) => {
                 let parcel = self.entry(receipt, Asked::Bulk(first, second));
                 self.keep(rt, parcel);
@@ -221,7 +229,7 @@ impl<D: LogDevice, G: Gate, J: IndexName> Worker<D, G, J> {
     }
 
     /// Takes a message.
-    fn take<R: Wait>(&mut self, rt: &R, message: Durable<Msg>, tries: u32) {
+    fn take(&mut self, rt: &R, message: Durable<Msg>, tries: u32) {
         let Ok(kept) = message.again(self.alloc) else {
             self.again(rt, message, tries, 1);
             return;
@@ -237,9 +245,9 @@ impl<D: LogDevice, G: Gate, J: IndexName> Worker<D, G, J> {
     }
 
     /// Has the copy take a message, and says what becomes of it.
-    fn fate<R: Wait>(&mut self, rt: &R, message: Msg) -> Fate {
+    fn fate(&mut self, rt: &R, message: Msg) -> Fate {
         let was_open = self.is_open();
-        let made = self.made(rt, Input::Take(message));
+        let made = self.made(Input::Take(message));
         let fate = fate_of(&made);
         match made {
             Ok(receipt) => {
@@ -254,7 +262,7 @@ impl<D: LogDevice, G: Gate, J: IndexName> Worker<D, G, J> {
 
     /// Hands a message again, after those that wait; at last it is refused, and the writes that wait are to wait no longer. A message of the master to a
     /// copy that is closed isn't handed again: the copy is promoted again.
-    fn again<R: Wait>(&mut self, rt: &R, message: Durable<Msg>, tries: u32, cost: u32) {
+    fn again(&mut self, rt: &R, message: Durable<Msg>, tries: u32, cost: u32) {
         let from = message.what().from;
         if from == 0 && !self.is_open() {
             drop(message);
@@ -278,7 +286,7 @@ impl<D: LogDevice, G: Gate, J: IndexName> Worker<D, G, J> {
     }
 
     /// What a copy can't take: the primary that sent it is to report the copy; where it makes the copy itself the primary, another one is promoted.
-    fn refuse<R: Wait>(&mut self, rt: &R, message: &Msg) {
+    fn refuse(&mut self, rt: &R, message: &Msg) {
         let id = self.id();
         if is_of_primary(message) {
             self.shared.hand(rt, message.from, Post::Report(id));
@@ -295,8 +303,8 @@ impl<D: LogDevice, G: Gate, J: IndexName> Worker<D, G, J> {
     }
 
     /// Reports a copy. Where that isn't possible nobody knows whether the copies that are left are enough, so all waits end.
-    fn report<R: Wait>(&mut self, rt: &R, copy: u32) {
-        let Ok(receipt) = self.made(rt, Input::Report(copy)) else {
+    fn report(&mut self, rt: &R, copy: u32) {
+        let Ok(receipt) = self.made(Input::Report(copy)) else {
             self.keep(rt, Parcel::EndOfWaits);
             return;
         };
@@ -309,19 +317,14 @@ impl<D: LogDevice, G: Gate, J: IndexName> Worker<D, G, J> {
     }
 
     /// Ends the waits of a copy that the master has replaced: it may never hear of it.
-    fn depose<R: Wait>(&mut self, rt: &R, term: u64) {
+    fn depose(&mut self, rt: &R, term: u64) {
         self.deposed = self.deposed.max(term);
         if self.copy().term() < self.deposed {
             self.keep(rt, Parcel::EndOfWaits);
         }
     }
 
-    fn get<R: Wait>(
-        &mut self,
-        rt: &R,
-        id: DocId,
-        to: Sender<Result<Durable<Got<J>>, NodeFault>, Global>,
-    ) {
+    fn get(&mut self, rt: &R, id: DocId, to: Sender<Result<Durable<Got<J>>, NodeFault>, Global>) {
         match self.cell.get(self.alloc, id) {
             Ok(got) => self.keep(rt, Parcel::Got(got, to)),
             Err(fault) => give(rt, to, Err(fault)),
@@ -329,7 +332,7 @@ impl<D: LogDevice, G: Gate, J: IndexName> Worker<D, G, J> {
     }
 
     /// Hands out a searcher of the copy.
-    fn seat<R: Wait>(&mut self, rt: &R, to: Sender<Seated<J>, Global>) {
+    fn seat(&mut self, rt: &R, to: Sender<Seated<J>, Global>) {
         let searcher = match self.cell.copy_searcher() {
             Ok(searcher) => Ok(searcher),
             Err(_) => Err(NodeFault::NoSeat),
@@ -338,27 +341,8 @@ impl<D: LogDevice, G: Gate, J: IndexName> Worker<D, G, J> {
     }
 
     /// Ends what searches see of the copy, which waits for those that are just taking it.
-    pub(crate) fn into_left<R: Wait>(self, rt: &R) -> Left<J> {
-        let Worker {
-            cell,
-            waits,
-            backlog,
-            outbox,
-            merges,
-            alloc: _,
-            number: _,
-            gate,
-            shared,
-            deposed: _,
-            given_up: _,
-            is_to_lead: _,
-        } = self;
-        drop(gate);
-        drop(shared);
-        drop(outbox);
-        drop(waits);
-        drop(backlog);
-        drop(merges);
-        cell.into_left(rt)
+    pub(crate) fn into_left(self) -> Left<J> {
+        let Worker { cell, .. } = self;
+        cell.into_left()
     }
 }

@@ -15,7 +15,7 @@ outcome os o =
     else if is_stale os o then Stale
     else Taken
 
--- what becomes of a record, beside these operations
+-- what becomes of a record where these operations are there
 abbrev pub applied_of : List Op → Record → Applied
 applied_of os (Kept g o) = outcome os o
 applied_of os (Resync term g tail) = Taken

@@ -1,4 +1,4 @@
--- What came behind what searches show.
+-- What came after what searches show.
 -- For proofs alone: no public contract rests on it.
 use Rattle.std.specs.Prelude.{◌≡◌, ◌≤◌, ◌++◌, ℕ, true, All, List, [], ◌∷◌, length}
 use Rattle.std.specs.FinMap.Entries.{is_sorted}

@@ -3,7 +3,7 @@
 use Rattle.std.specs.Prelude.{ℕ, Bool, false, List, [], ◌∷◌, ◌+◌, ◌*◌, ◌%◌, length, slice_index_or}
 use Rattle.doc.specs.Id.{Id}
 
--- a number for the bytes of an id, behind those that made this one
+-- a number for the bytes of an id, after those that made this one
 abbrev pub hash_from : ℕ → Id → ℕ
 hash_from hash [] = hash
 hash_from hash (b ∷ bs) = hash_from (((hash + b) + 1) * 16777619 % 4294967296) bs

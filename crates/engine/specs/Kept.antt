@@ -1,4 +1,4 @@
--- Operations that are kept beside their records.
+-- Operations that are kept next to their records.
 -- For proofs alone: no public contract rests on it.
 use Rattle.std.specs.Prelude.{◌≡◌, ◌≤◌, ◌-◌, ◌^◌, ◌++◌, ℕ, false, List, [], ◌∷◌, drop, Option, None, Some, Vec}
 use Rattle.std.specs.declared.sync.Arc.{Arc}
@@ -28,7 +28,7 @@ pub record HistoryData : Type 0 where
   pub records : List Record
   pub begin : ℕ
 
--- behind the first n of some records, before which these operations are there, each one that isn't an operation leaves the operations as they are
+-- after the first n of some records, before which these operations are there, each record that isn't an operation leaves the operations as they are
 abbrev pub IsQuiet : List Op → ℕ → List Record → Type 0
 IsQuiet os n [] = Unit {0}
 IsQuiet os n (r ∷ rs) = (n ≡ 0 → is_op r ≡ false → after_record os r ≡ os) × IsQuiet (after_record os r) (n - 1) rs
@@ -39,6 +39,6 @@ IsNext os (Kept g o) = next_seq os ≤ o.seq
 IsNext os (Resync term g tail) = ⊥
 IsNext os (Recover term all) = ⊥
 
--- from each place on behind the first n records, the operations are those that were there and those that stand in the records since
+-- from each place on after the first n records, the operations are those that were there and those that stand in the records since
 pub record HasRisen (n : ℕ) (rs : List Record) : Type 0 where
   pub since : (p : ℕ) → n ≤ p → operations rs ≡ shown rs p ++ operations_in (drop p rs)

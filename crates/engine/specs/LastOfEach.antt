@@ -6,12 +6,12 @@ use Rattle.std.specs.Map.{keys_of, values_of, lookup, update_all}
 use Rattle.std.specs.Ordering.{is_eq, eq_by_cmp}
 use Rattle.std.specs.declared.cmp.Ordering.{Ordering}
 
--- a pair and those behind it, without each that has an equal key right behind it
+-- a pair and those after it, without each that a pair of an equal key directly follows
 abbrev pub last_from : {K V : Type 0} → (K → K → Bool) → K × V → List (K × V) → List (K × V)
 last_from eq p [] = p ∷ []
 last_from eq p (q ∷ ps) = if eq q.0 p.0 then last_from eq q ps else p ∷ last_from eq q ps
 
--- pairs, without each that has an equal key right behind it
+-- pairs, without each that a pair of an equal key directly follows
 abbrev pub last_of_runs : {K V : Type 0} → (K → K → Bool) → List (K × V) → List (K × V)
 last_of_runs eq [] = []
 last_of_runs eq (p ∷ ps) = last_from eq p ps

@@ -34,7 +34,7 @@ AreOn ps = AllByRecursion (λ p. is_on p.0.now p.1.now ≡ true) ps
 abbrev pub latest_at : List (Key × Bor Op) → Id → Option Op
 latest_at es id = option_map (λ o. o.now) (lookup (λ k. is_eq (slice_cmp nat_cmp id k.now)) es)
 
--- by id, the operations that are told
+-- the operations that `told` gives, in order of their ids
 pub record AreLastBy (told : Id → Option Op) (os : List (Bor Op)) : Type 0 where
   pub entries : List (Key × Bor Op)
   pub are : os ≡ values_of entries

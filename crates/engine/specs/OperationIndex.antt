@@ -8,7 +8,7 @@ use Rattle.op.specs.declared.record.Record.TheVariants.{Op as Kept, Resync, Reco
 use Rattle.op.specs.Operations.{IsAscending, last_on, local_count}
 use Rattle.engine.specs.declared.id_key.IdKey.{IdKey}
 
--- beside operations in order: at each id the number of the last on it, and how many are there from number 0 up without a gap
+-- what is kept in addition to operations in order: at each id the number of the last on it, and how many are there from number 0 up without a gap
 pub record IsIndexed (os : List Op) (latest : Id → Option ℕ) (local : ℕ) : Type 0 where
   pub ascending : IsAscending os
   pub last : (id : Id) → latest id ≡ option_map (λ o. o.seq) (last_on os id)

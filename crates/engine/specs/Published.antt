@@ -62,7 +62,7 @@ pub data IsLeft (taken : List Published) : List Published → List Published →
   remains : (s : Published) (old left : List Published) → (Contains taken s → ⊥) → IsLeft taken old left → IsLeft taken (s ∷ old) (s ∷ left)
   was_taken : (s : Published) (old left : List Published) → Contains taken s → IsLeft taken old left → IsLeft taken (s ∷ old) left
 
--- one segment, of this number and mapping, stands behind those that weren't taken
+-- one segment, of this number and mapping, stands after those that weren't taken
 pub record IsReplaced (taken : List Published) (number : ℕ) (mapping : MappingData) (old new : List Published) : Type 0 where
   pub left : List Published
   pub merged : Published
@@ -95,12 +95,12 @@ pub record HasMerged (old new : Segments) : Type 0 where
 abbrev pub AreTold : List Published → List Published → Type 0
 AreTold taken ss = All (λ s. All (λ t. t.number ≡ s.number → t ≡ s) taken) ss
 
--- by their numbers alone these segments are told among those that are there, now and later
+-- the number of each of these segments identifies it among those that are there, now and later
 pub record AreKnown (next : ℕ) (ss known : List Published) : Type 0 where
   pub below : All (λ t. t.number < next) known
   pub told : AreTold known ss
 
--- a merge may take these segments, and by their numbers alone they are told among those that are there
+-- a merge may take these segments, and the number of each identifies it among those that are there
 pub record IsBegun (next : ℕ) (ss taken : List Published) : Type 0 where
   pub are : are_taken taken ≡ true
   pub below : All (λ t. t.number < next) taken

@@ -19,15 +19,15 @@ ops ss = map (λ s. s.op) ss
 abbrev pub IsReplaced : List Op → Op → Type 0
 IsReplaced os o = (id : Id) → is_on id o ≡ true → is_newer (last_on os id) o.seq ≡ true
 
--- only the texts of operations that newer ones replaced were let go
+-- memory dropped only the texts of operations that newer ones replaced
 abbrev pub AreHeld : List Op → List SlotData → Type 0
 AreHeld os ss = AllByRecursion (λ s. s.gone ≡ true → IsReplaced os s.op) ss
 
--- no text was let go
+-- memory dropped no text
 abbrev pub AreWhole : List SlotData → Type 0
 AreWhole ss = AllByRecursion (λ s. s.gone ≡ false) ss
 
--- the operations of which no text was let go
+-- the operations whose text memory has
 abbrev pub whole_ops : List SlotData → List Op
 whole_ops [] = []
 whole_ops (s ∷ ss) = if s.gone then whole_ops ss else s.op ∷ whole_ops ss

@@ -31,7 +31,7 @@ is_op (Kept g o) = true
 is_op (Resync term g tail) = false
 is_op (Recover term all) = false
 
--- only operations came behind the point
+-- only operations came after the point
 abbrev pub OnlyOps : EngineData → Type 0
 OnlyOps e = AllPass is_op (drop e.point e.records)
 
@@ -41,7 +41,7 @@ is_write id (Kept g o) = is_on id o
 is_write id (Resync term g tail) = false
 is_write id (Recover term all) = false
 
--- whether a record behind the point is an operation on the id
+-- whether a record after the point is an operation on the id
 abbrev pub is_written : EngineData → Id → Bool
 is_written e id = list_any (is_write id) (drop e.point e.records)
 

@@ -1,4 +1,4 @@
-//! Operations that stand behind those of an engine.
+//! Operations that stand after those of an engine.
 ghost use Rattle.std.specs.Prelude.{◌≡◌, ◌≤◌, ◌++◌, ◌∷◌, [], OnOk, OnErr};
 ghost use Rattle.std.specs.Option.{option_copied};
 ghost use Rattle.op.specs.Operations.{last_on, next_seq};

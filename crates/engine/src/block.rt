@@ -73,7 +73,7 @@ impl Shown {
 pub(crate) struct Block {
     documents: Vec<Shown>,
     segment: Segment,
-    /// Most ids that no document has are told by it alone.
+    /// It rules out most ids that no document has, without a look at the documents.
     ids: IdFilter,
 }
 
@@ -195,7 +195,7 @@ impl Block {
         find(alloc, &self.segment, live, query, wanted)
     }
 
-    /// The same where all documents are live.
+    /// The documents that the query means, where all are live: how many there are, and the places of the first of them, rising, no more than wanted.
     pub(crate) fn find_all(
         &self,
         alloc: Global,
@@ -225,7 +225,7 @@ impl Block {
         Ok(entries)
     }
 
-    /// The same without making entries.
+    /// The documents at some places, without making entries.
     pub(crate) fn shown_at<'a>(
         &'a self,
         alloc: Global,

@@ -1,4 +1,4 @@
-//! What came behind what searches show.
+//! What came after what searches show.
 ghost use Rattle.std.specs.Prelude.{◌≡◌, ◌≤◌, ◌++◌, length, IfOk, IfSome, OnOk};
 ghost use Rattle.std.specs.Arc.{arc_value};
 ghost use Rattle.op.specs.Documents.{documents};
@@ -14,7 +14,8 @@ use std::alloc::{AllocError, Global};
 use std::marker::Model;
 use std::sync::Arc;
 
-/// Operations that came behind what searches show, each with a number above all before it, as of so many records; and parts that searches looked through.
+/// Operations that came after what searches show, each with a number above all before it, as of so many records;
+/// and parts that searches looked through.
 #[derive(Drop)]
 pub(crate) struct Changes {
     point: usize,
@@ -42,7 +43,8 @@ impl Model for Changes {
 }
 
 impl Changes {
-    /// What came behind a point, if only operations came there, each with a number above all before it, and memory forgot all before it. No record is copied.
+    /// What came after a point, if only operations came there, each with a number above all before it, and memory forgot all before it.
+    /// No record is copied.
     pub(crate) fn of(
         alloc: Global,
         history: &mut History,

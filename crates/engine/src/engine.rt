@@ -57,7 +57,7 @@ pub struct Engine {
     point: usize,
     /// What a refresh that was begun will show.
     pending: Option<Begun>,
-    /// A merge that was begun beside.
+    /// The merge that `begin_merge_beside` began, until `finish_merge` takes it.
     merging: Option<BegunMerge>,
 }
 
@@ -104,7 +104,7 @@ impl Engine {
         Engine::open_with(&Segment::build, alloc, mapping, records)
     }
 
-    /// The same; the segment is built by the builder.
+    /// The engine of these records; searches show them all, through one segment, which the builder builds and whose number is 0.
     pub fn open_with<
         F: Fn(Global, &Arc<Mapping, Global>, Vec<Source>) -> Result<Segment, AllocError>,
     >(
@@ -141,7 +141,7 @@ impl Engine {
         self.history.apply(alloc, kept)
     }
 
-    /// Keeps these records, all of them or, where memory is wanting, none. Searches don't show them yet.
+    /// Keeps these records: all of them, or none where memory runs out. Searches don't show them yet.
     pub fn apply_all(&mut self, alloc: Global, records: Vec<Record>) -> Result<(), AllocError>
         requires { RiseFrom (next_seq (operations self.old.records)) records.items }
         ensures ok { OnOk result (self.new ≡ record self.old { records = self.old.records ++ records.items }) }
@@ -307,8 +307,8 @@ impl Engine {
         self.showing.begin_merge_of(alloc, numbers)
     }
 
-    /// The same, to be put in place by `finish_merge`. It changes nothing yet, but that a merge which was begun before
-    /// so can't be finished any more.
+    /// Begins a merge of the same segments as `begin_merge_of`, which `finish_merge` puts in place. It changes no segment.
+    /// A merge that it began before can't be finished any more.
     pub fn begin_merge_beside(
         &mut self,
         alloc: Global,
@@ -331,8 +331,8 @@ impl Engine {
         Ok(Merging { parts })
     }
 
-    /// Puts the segment in place that was built for the merge begun last by `begin_merge_beside`, as `swap_merged` does, in place of those that are there still; no
-    /// documents are compared, since they are those of this engine. Where none is there, none was built or none was begun, it is `false` and all stay.
+    /// Puts the segment that was built for the last merge of `begin_merge_beside` in place of those of its segments that are still there. It compares
+    /// no documents, since they are those of this engine. Where none is there, none was built or none was begun, it answers `false` and all stay.
     pub fn finish_merge(&mut self, alloc: Global) -> Result<bool, AllocError>
         ensures merged { IfOk result (λ b. b ≡ true → HasMerged (segments_of self.old) (segments_of self.new)) }
         ensures stays { IfOk result (λ b. b ≡ false → self.new ≡ self.old) }
@@ -448,7 +448,7 @@ impl Engine {
         }
     }
 
-    /// The operation with the number, unless its text was let go.
+    /// The operation with the number, unless memory dropped its text.
     pub fn op_at(&self, seq: u64) -> Result<Option<&Op>, LetGo>
         ensures ok { IfOk result (λ o. option_copied o ≡ op_at (operations self.now.records) seq) }
         ensures gone { OnErr result (is_some (op_at (operations self.now.records) seq) ≡ true) }
@@ -488,7 +488,7 @@ impl Engine {
         self.history.is_stale(op)
     }
 
-    /// The operations above a global checkpoint, in order of number; above -1 all of them. Refused, as for want of memory, where the text of one of them was let go.
+    /// The operations above a global checkpoint, in order of number; above -1 all of them. It fails where memory dropped the text of one of them.
     pub fn above(&self, alloc: Global, global: i64) -> Result<Vec<Op>, AllocError>
         ensures { IfOk result (λ v. v.items ≡ from_number (known global) (operations self.now.records)) }
     {
@@ -502,7 +502,7 @@ impl Engine {
         self.history.last_ops(alloc)
     }
 
-    /// Whether no text was let go.
+    /// Whether memory dropped no text.
     pub fn has_all(&self) -> bool {
         self.history.has_all()
     }
@@ -512,12 +512,12 @@ impl Engine {
         self.history.has_above(global)
     }
 
-    /// Whether a resync from a checkpoint on needs no text that was let go: it leaves all as it is, or all are there.
+    /// Whether a resync from a checkpoint on needs no text that memory dropped: it leaves all as it is, or all texts are there.
     pub fn may_resync(&self, global: i64, tail: &Operations) -> bool {
         self.history.may_resync(global, tail)
     }
 
-    /// Brings back the texts that were let go, from its own records. It changes nothing else, and a refresh lets them go again.
+    /// Brings back the texts that memory dropped, from its own records. It changes nothing else, and a refresh drops them again.
     pub fn take_back(&mut self, alloc: Global, records: Vec<Record>) -> Result<(), AllocError>
         requires own { records.items ≡ self.old.records }
         requires rules { All IsRecord records.items }
@@ -541,7 +541,7 @@ impl Engine {
     }
 }
 
-/// What is told of an operation.
+/// The number, term and version of an operation, and whether it leaves a document.
 fn last_of(op: &Op) -> Last
     ensures { result ≡ last_of op.now }
 {

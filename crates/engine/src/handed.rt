@@ -96,7 +96,7 @@ impl<I: Drop, O: MadeOf<I> + Drop> Handed<I, O> {
         Ok(Handed { slots, written })
     }
 
-    /// The same once more.
+    /// Another handle on what was handed out.
     pub(crate) fn again(&self) -> Result<Handed<I, O>, AllocError>
         ensures { IfOk result (λ h. h ≡ self.now) }
     {

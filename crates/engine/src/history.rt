@@ -133,7 +133,7 @@ impl History {
         self.operations.seed()
     }
 
-    /// Brings back the texts that were let go, from its own records. It changes nothing else.
+    /// Brings back the texts that memory dropped, from its own records. It changes nothing else.
     pub(crate) fn take_back(
         &mut self,
         alloc: Global,
@@ -148,7 +148,7 @@ impl History {
         Ok(())
     }
 
-    /// Whether no text was let go.
+    /// Whether memory dropped no text.
     pub(crate) fn has_all(&self) -> bool {
         self.operations.has_all()
     }
@@ -158,7 +158,7 @@ impl History {
         self.operations.has_from(checkpoint::count(global))
     }
 
-    /// Whether a resync from a checkpoint on needs no text that was let go: it leaves all as it is, or all are there.
+    /// Whether a resync from a checkpoint on needs no text that memory dropped: it leaves all as it is, or all texts are there.
     pub(crate) fn may_resync(&self, global: i64, tail: &Operations) -> bool {
         self.has_all() || self.operations.is_resynced(checkpoint::count(global), tail)
     }
@@ -180,7 +180,8 @@ impl History {
         }
     }
 
-    /// Lets memory forget the records that were handed out, where they end at a point, and texts that newer operations replaced. They are the caller's to let go of.
+    /// Lets memory forget texts that newer operations replaced, and the records that were handed out, where they end at a point.
+    /// The caller gets these records and drops them.
     pub(crate) fn forget_to(&mut self, point: usize) -> Option<Arc<Vec<Record>, Global>>
         requires begin { self.old.begin ≤ point }
         requires within { point ≤ length self.old.records }
@@ -196,7 +197,7 @@ impl History {
         self.shared.take()
     }
 
-    /// Hands out the records behind a point, where memory forgot all before it, only operations came there, and each had a number above all before it.
+    /// Hands out the records after a point, where memory forgot all before it, only operations came there, and each had a number above all before it.
     pub(crate) fn share(
         &mut self,
         alloc: Global,
@@ -280,7 +281,7 @@ impl History {
         checkpoint::from_count(self.operations.local())
     }
 
-    /// The same once an operation is kept whose number is free.
+    /// The greatest number up to which none is missing, or -1, once an operation is kept whose number is free.
     pub(crate) fn local_with(&self, op: &Op) -> i64
         requires small { op.now.seq < 2 ^ 63 }
         requires free { op_at (operations self.now.records) op.now.seq ≡ None }
@@ -296,7 +297,7 @@ impl History {
         self.operations.is_stale(op)
     }
 
-    /// The operations above a checkpoint; refused, as for want of memory, where the text of one of them was let go.
+    /// The operations above a checkpoint. It fails where memory dropped the text of one of them.
     pub(crate) fn above(&self, alloc: Global, global: i64) -> Result<Vec<Op>, AllocError>
         ensures { IfOk result (λ v. v.items ≡ from_number (known global) (operations self.now.records)) }
     {
@@ -311,7 +312,7 @@ impl History {
         self.operations.last_ops(alloc)
     }
 
-    /// The ids of the operations that came behind a point, if nothing else came there that changed the operations.
+    /// The ids of the operations that came after a point, if nothing else came there that changed the operations.
     pub(crate) fn ids_since(
         &self,
         alloc: Global,
@@ -337,7 +338,7 @@ impl History {
         Ok(Some(ids))
     }
 
-    /// The records behind a point.
+    /// The records after a point.
     fn since(&self, alloc: Global, point: usize) -> Result<Vec<Record>, AllocError>
         requires begin { self.now.begin ≤ point }
         requires within { point ≤ length self.now.records }
@@ -375,7 +376,7 @@ impl History {
         Ok(applied)
     }
 
-    /// Keeps these records, all of them or, where memory is wanting, none.
+    /// Keeps these records: all of them, or none where memory runs out.
     pub(crate) fn apply_all(
         &mut self,
         alloc: Global,
@@ -408,7 +409,7 @@ fn operations_of(
     Ok(OperationIndex::over(ordered, latest))
 }
 
-/// Notes records behind those that are noted.
+/// Notes records after those that are noted.
 pub(crate) fn append_all(
     chronicle: &Chronicle<Record>,
     before: &mut Writer<Record>,
@@ -432,7 +433,7 @@ fn shared_of(shared: &Option<Arc<Vec<Record>, Global>>) -> &[Record]
     }
 }
 
-/// Records that were handed out, once more.
+/// Another handle on records that were handed out.
 fn again(
     shared: &Option<Arc<Vec<Record>, Global>>,
 ) -> Result<Option<Arc<Vec<Record>, Global>>, AllocError>

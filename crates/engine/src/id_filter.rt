@@ -1,4 +1,4 @@
-//! Which ids may be among some, told by a bit for each.
+//! Tells by a bit for each id which ids may be among some.
 ghost use Rattle.std.specs.Prelude.{◌≡◌, ◌<◌, ◌^◌, ◌%◌, true, length, slice_set};
 ghost use Rattle.engine.specs.IdFilter.{has_bit, hash_from, place_in};
 

@@ -18,7 +18,7 @@ pub(crate) fn last_of_each<K: Ord + Drop, V: Copy>(
     Ok(last)
 }
 
-/// The same pairs in order of their keys. The pairs of one key stay in their order.
+/// Sorts the pairs by their keys. The pairs of one key stay in their order.
 fn sorted<K: Ord + Drop, V: Copy>(mut pairs: Vec<(K, V)>) -> Result<Vec<(K, V)>, AllocError>
     ensures same { IfOk result (λ v. ChangeAlike K.cmp pairs.items v.items) }
     ensures sorted { IfOk result (λ v. IsSortedByKey (λ e. e.0) K.cmp v.items) }

@@ -121,7 +121,7 @@ impl Latest {
         raise_in(alloc, &mut self.tables[at], id, seq)
     }
 
-    /// Notes numbers at ids in turn, all of them or, where memory is wanting, none.
+    /// Notes numbers at ids in turn: all of them, or none where memory runs out.
     pub(crate) fn note_all(
         &mut self,
         alloc: Global,

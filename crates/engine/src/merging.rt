@@ -30,7 +30,7 @@ pub(crate) fn merge<'a>(
     Ok(all)
 }
 
-/// The same of lists that aren't needed any more: where the first has none, the second stands as it is.
+/// Merges lists that aren't needed any more, in byte order of their ids. Where the first is empty, it answers the second as it is.
 pub(crate) fn merge_owned<'a>(
     alloc: Global,
     left: Vec<Entry<'a>>,

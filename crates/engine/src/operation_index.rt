@@ -1,4 +1,4 @@
-//! The operations of a copy in order of number, found by number and by id without a walk. Texts are let go of operations that newer ones replaced.
+//! The operations of a copy in order of number, found by number and by id without a walk. Memory drops the texts of those that newer ones replaced.
 ghost use Rattle.std.specs.Prelude.{◌≡◌, ◌≤◌, ◌^◌, ◌++◌, true, false, ℕ, Option, None, [], fold, is_some, if◌then◌else◌, IfOk, IfSome, OnOk, OnErr};
 ghost use Rattle.std.specs.Option.{option_copied, option_map, option_or};
 ghost use Rattle.doc.specs.Id.{Id, is_id};
@@ -119,7 +119,7 @@ impl OperationIndex {
     {
         let slots = ordered.into_slots();
         let local = operations::local_count_on(&slots, 0);
-        // As many ids as operations: none of these replaced another.
+        // Where there are as many ids as operations, none of these replaced another.
         let settled = if latest.len() == slots.len() {
             slots.len()
         } else {
@@ -142,7 +142,7 @@ impl OperationIndex {
         &self.slots
     }
 
-    /// Whether no text was let go.
+    /// Whether memory dropped no text.
     pub(crate) fn has_all(&self) -> bool {
         self.has_all
     }
@@ -172,7 +172,7 @@ impl OperationIndex {
         }
     }
 
-    /// The operations from a number on; refused, as for want of memory, where the text of one of them was let go.
+    /// The operations from a number on. It fails where memory dropped the text of one of them.
     pub(crate) fn from_number(&self, alloc: Global, first: u64) -> Result<Vec<Op>, AllocError>
         ensures { IfOk result (λ v. v.items ≡ from_number first self.now) }
     {
@@ -288,7 +288,7 @@ impl OperationIndex {
         }
     }
 
-    /// The same once an operation is kept whose number is free: how many are there without a gap.
+    /// How many operations from number 0 up are there without a gap, once an operation is kept whose number is free.
     pub(crate) fn local_with(&self, op: &Op) -> u64
         requires { op_at self.now op.now.seq ≡ None }
         ensures { result ≡ local_count (add self.now op.now) }
@@ -316,8 +316,8 @@ impl OperationIndex {
         }
     }
 
-    /// Takes these operations behind so many numbers, and tells whether all stays as it is. A copy that goes on where it was is resynced at each start; then nothing
-    /// is made anew. Where something is, it is refused, as for want of memory, if the text of an operation that stays was let go.
+    /// Takes these operations after those below number `count`, and tells whether all stays as it is. A copy that continues where it was is resynced
+    /// at each start; this makes nothing anew. If it has to make anything anew, it fails where memory dropped the text of an operation that stays.
     fn resync(&mut self, alloc: Global, count: u64, tail: &Operations) -> Result<bool, AllocError>
         requires { RunsFrom count tail.now }
         ensures ok { OnOk result (self.new ≡ below count self.old ++ tail.now) }
@@ -332,7 +332,7 @@ impl OperationIndex {
         Ok(false)
     }
 
-    /// Whether these operations behind so many numbers leave all as it is, as far as memory knows.
+    /// Whether these operations, taken after those below number `count`, leave all as it is, as far as memory knows.
     pub(crate) fn is_resynced(&self, count: u64, tail: &Operations) -> bool
         ensures { result ≡ true → RunsFrom count tail.now → below count self.now ++ tail.now ≡ self.now }
     {
@@ -358,7 +358,7 @@ impl OperationIndex {
         }
     }
 
-    /// Adds the operations of these records behind all, or, where memory is wanting, none.
+    /// Adds the operations of these records after all others, or none of them where memory runs out.
     pub(crate) fn add_all(&mut self, alloc: Global, records: &[Record]) -> Result<(), AllocError>
         requires { RiseFrom (next_seq self.old) records.now }
         ensures ok { OnOk result (self.new ≡ fold after_record self.old records.now) }
@@ -372,7 +372,7 @@ impl OperationIndex {
         Ok(())
     }
 
-    /// Lets the texts of operations go that newer ones on their ids replaced. An operation that replaced one has to have many behind it.
+    /// Drops the texts of operations that newer ones on their ids replaced, once many operations follow the newer one.
     pub(crate) fn let_go(&mut self)
         ensures { self.new ≡ self.old }
     {
@@ -383,7 +383,7 @@ impl OperationIndex {
         self.settled = self.settled.max(end);
     }
 
-    /// Lets the text of the operation go that the one at a place replaced.
+    /// Drops the text of the operation that the one at a place replaced.
     fn settle(&mut self, at: usize)
         ensures { self.new ≡ self.old }
     {
@@ -516,7 +516,7 @@ fn note_slots(alloc: Global, latest: &mut Latest, slots: Vec<Slot>) -> Result<Ve
     let numbers = numbers_of(alloc, &noted)?;
     let known = latest.len();
     latest.note_all(alloc, numbers)?;
-    // As many ids came as operations that are the first on theirs: no two of these are on one.
+    // Where as many new ids came as operations that are the first on theirs, no two of these are on one id.
     if latest.len().saturating_sub(known) == operations::count_first(&noted) {
         operations::note_first(&mut noted);
     }

@@ -63,7 +63,7 @@ pub(crate) fn last_number_on(slots: &[Slot], id: &DocId) -> Option<u64>
     last
 }
 
-/// The first operations up to a number, and the tail of a resync; refused where the text of one of the first was let go.
+/// The operations below a number, and after them the tail of a resync. It fails where memory dropped the text of one of the former.
 pub(crate) fn resynced(
     alloc: Global,
     slots: &[Slot],
@@ -84,7 +84,7 @@ pub(crate) fn resynced(
     Ok(all)
 }
 
-/// Whether a resync behind so many numbers, that brings these operations, leaves all as they are, as far as memory knows.
+/// Whether a resync that brings these operations after those below number `count` leaves all as they are, as far as memory knows.
 pub(crate) fn is_resynced(slots: &[Slot], count: u64, tail: &[Op]) -> bool
     requires { IsAscending (ops slots.now) }
     ensures { result ≡ true → RunsFrom count tail.now → below count (ops slots.now) ++ tail.now ≡ ops slots.now }
@@ -148,7 +148,7 @@ fn reached(from: u64, slots: &[Slot]) -> u64
     next
 }
 
-/// Once an operation is kept whose number is free: how many are there from number 0 up without a gap.
+/// How many operations from number 0 up are there without a gap, once an operation is kept whose number is free.
 pub(crate) fn local_count_with(slots: &[Slot], count: u64, op: &Op) -> u64
     requires up { IsAscending (ops slots.now) }
     requires counted { count ≡ local_count (ops slots.now) }
@@ -161,7 +161,7 @@ pub(crate) fn local_count_with(slots: &[Slot], count: u64, op: &Op) -> u64
     reached(count + 1, &slots[count as usize..])
 }
 
-/// The same where operations came behind those that it was counted in.
+/// How many operations from number 0 up are there without a gap, where `count` were before others came after them.
 pub(crate) fn local_count_on(slots: &[Slot], count: u64) -> u64
     requires { count ≤ length slots.now }
     ensures { result ≡ reached count (drop count (ops slots.now)) }
@@ -169,7 +169,7 @@ pub(crate) fn local_count_on(slots: &[Slot], count: u64) -> u64
     reached(count, &slots[count as usize..])
 }
 
-/// The operations from a number on; refused where the text of one of them was let go.
+/// The operations from a number on. It fails where memory dropped the text of one of them.
 pub(crate) fn from_number(alloc: Global, slots: &[Slot], first: u64) -> Result<Vec<Op>, AllocError>
     ensures { IfOk result (λ v. v.items ≡ from_number first (ops slots.now)) }
 {
@@ -192,7 +192,7 @@ pub(crate) fn has_from(slots: &[Slot], first: u64) -> bool {
     true
 }
 
-/// The operations of which no text was let go.
+/// The operations whose text memory has.
 pub(crate) fn whole(alloc: Global, slots: &[Slot]) -> Result<Vec<Op>, AllocError>
     ensures { IfOk result (λ v. v.items ≡ whole_ops slots.now) }
 {

@@ -57,7 +57,7 @@ impl Ordered {
         Ok(ordered)
     }
 
-    /// They, as memory has them.
+    /// The operations, as memory has them.
     pub(crate) fn slots(&self) -> &[Slot]
         ensures same { ops result.now ≡ self.now }
         ensures ascending { IsAscending (ops result.now) }
@@ -66,7 +66,7 @@ impl Ordered {
         &self.slots
     }
 
-    /// The same, for whoever keeps them.
+    /// Hands over the operations, as memory has them, to whoever keeps them.
     pub(crate) fn into_slots(self) -> Vec<Slot>
         ensures same { ops result.items ≡ self }
         ensures ascending { IsAscending (ops result.items) }
@@ -91,7 +91,7 @@ impl Ordered {
         }
     }
 
-    /// Takes these operations behind so many numbers.
+    /// Takes these operations after those below number `count`.
     fn resync(&mut self, alloc: Global, count: u64, tail: &Operations) -> Result<(), AllocError>
         requires { RunsFrom count tail.now }
         ensures { OnOk result (self.new ≡ below count self.old ++ tail.now) }

@@ -21,7 +21,7 @@ pub(crate) struct Pivot<'a> {
     rank: usize,
 }
 
-/// As many documents of all lists as the size says behind the first so many, in byte order of their ids.
+/// The first `size` documents of all lists after the first `from`, in byte order of their ids.
 /// No entry is made for a document before the pivot.
 pub(crate) fn page_behind<'a>(
     alloc: Global,
@@ -108,7 +108,7 @@ pub(crate) fn find_pivot<'a>(lists: &[Vec<&'a Shown>], from: usize) -> Option<Pi
     found
 }
 
-/// The same, among the ids of a list and one that was found.
+/// The furthest pivot that is found by halving a list, or the one that was found before.
 fn pivot_in<'a>(
     lists: &[Vec<&'a Shown>],
     list: &[&'a Shown],

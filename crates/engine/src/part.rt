@@ -71,7 +71,7 @@ pub(crate) struct Share<'a> {
     pub(crate) first: Vec<Entry<'a>>,
 }
 
-/// The same without entries.
+/// What there is for a query: how many documents, and the first of them, without entries.
 #[derive(Drop)]
 pub(crate) struct PartHits<'a> {
     pub(crate) total: u64,
@@ -139,7 +139,7 @@ impl Part {
         self.block.is_under(mapping)
     }
 
-    /// The same part, which shares all that it has.
+    /// A copy of the part, which shares all that the part has.
     pub(crate) fn copy(&self) -> Result<Part, AllocError>
         ensures { IfOk result (λ p. p ≡ self.now) }
     {
@@ -154,7 +154,7 @@ impl Part {
         })
     }
 
-    /// The same part under another number.
+    /// Gives the part another number.
     pub(crate) fn numbered(self, number: u64) -> Part
         ensures { result ≡ record self { number = number } }
     {
@@ -253,7 +253,7 @@ impl Part {
         are_same(&self.live, &other.live)
     }
 
-    /// What it has for a query: how many documents, and as many of them as the size says behind the first so many, for which no entry is made.
+    /// What it has for a query: how many documents, and the first `size` of them after the first `from`. It makes no entry for those before.
     pub(crate) fn find(
         &self,
         alloc: Global,
@@ -299,7 +299,7 @@ impl Part {
         self.chosen_hits(alloc, query, wanted)
     }
 
-    /// The same by the places of those that the query means.
+    /// How many documents it has for a query, and the first of them, no more than wanted, by the places of those that the query means.
     fn chosen_hits(
         &self,
         alloc: Global,
@@ -330,7 +330,7 @@ impl Part {
         }
     }
 
-    /// The same with marks of its own.
+    /// The part without the documents that have one of the ids, with live marks of its own.
     fn unmarked(&self, alloc: Global, ids: &[Sought<'_>]) -> Result<Part, AllocError>
         ensures { IfOk result (λ p. p ≡ record self.now { documents = without ids.now self.now.documents }) }
     {
@@ -354,7 +354,7 @@ impl Part {
     }
 }
 
-/// The same parts.
+/// Copies of the parts, each of which shares all that its part has.
 pub(crate) fn copies_of(alloc: Global, parts: &[Part]) -> Result<Vec<Part>, AllocError>
     ensures { IfOk result (λ v. v.items ≡ parts.now) }
 {

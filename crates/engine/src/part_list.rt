@@ -159,7 +159,7 @@ impl PartList {
         Ok(Some(numbers))
     }
 
-    /// What there is for a query: how many documents, and as many of them as the size says behind the first so many.
+    /// What there is for a query: how many documents, and the first `size` of them after the first `from`.
     pub(crate) fn page(
         &self,
         alloc: Global,
@@ -219,8 +219,8 @@ impl PartList {
         Part::of(&weaver, alloc, &self.mapping, 0, &entries)
     }
 
-    /// The same with one part of this number in place of those that were taken and are there still, unless none is. It shows what is live in them, by a
-    /// part that was made of them where that can be. Where their numbers tell which they are, no documents are compared.
+    /// The list with one part of this number in place of the taken parts that are still there; none where none is. The new part shows what is live in
+    /// those, and reuses `made` where it can. Where `by_number` holds, numbers identify the parts and no documents are compared.
     pub(crate) fn swapped(
         &self,
         alloc: Global,
@@ -256,7 +256,7 @@ impl PartList {
     }
 }
 
-/// The documents that operations in ascending order leave. By what they were found is let go of.
+/// The documents that operations in ascending order leave. It drops the entries by which it finds them.
 fn documents_left(alloc: Global, slots: &[Slot]) -> Result<Vec<Shown>, AllocError>
     requires ascending { IsAscending (ops slots.now) }
     requires held { AreHeld (ops slots.now) slots.now }
@@ -266,7 +266,7 @@ fn documents_left(alloc: Global, slots: &[Slot]) -> Result<Vec<Shown>, AllocErro
     shown_of(alloc, &entries)
 }
 
-/// What parts under the mapping have for a query: how many documents, and as many of them as the size says behind the first so many.
+/// What parts under the mapping have for a query: how many documents, and the first `size` of them after the first `from`.
 /// No entry is made for most documents that are passed over.
 fn page_of<'a>(
     alloc: Global,
@@ -300,7 +300,8 @@ fn page_of<'a>(
     }
 }
 
-/// The same by entries for all documents up to the end of the page.
+/// What parts under the mapping have for a query: how many documents, and those of the page.
+/// It makes entries for all documents up to the end of the page.
 fn merged_page<'a>(
     alloc: Global,
     _mapping: &Mapping,

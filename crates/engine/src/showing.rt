@@ -83,7 +83,7 @@ impl Showing {
         shown(alloc, parts, number.saturating_add(1))
     }
 
-    /// The same once more.
+    /// A copy, which shares the parts and the snapshot.
     pub(crate) fn copy(&self) -> Result<Showing, AllocError>
         ensures { IfOk result (λ s. s ≡ self.now) }
     {
@@ -157,7 +157,8 @@ impl Showing {
         Ok(Merging { parts })
     }
 
-    /// The parts that bear these numbers, and a place for the part that is made of them. Where a merge takes them, they are told by their numbers from now on.
+    /// The parts that bear these numbers, and a place for the part that is made of them.
+    /// Where a merge takes them, their numbers identify them from now on.
     pub(crate) fn take(&self, alloc: Global, numbers: &[u64]) -> Result<BegunMerge, AllocError>
         ensures merge { IfOk result (λ l. merge_of (arc_value l) ≡ record {
           taken = taken_of (numbered numbers.now self.now.published);
@@ -171,7 +172,7 @@ impl Showing {
         Handed::out(alloc, parts)
     }
 
-    /// Its parts, by their numbers told from now on; none where one bears the greatest number.
+    /// Its parts, which their numbers identify from now on; none where one bears the greatest number.
     pub(crate) fn told(&self, alloc: Global) -> Result<Vec<Part>, AllocError>
         ensures { IfOk result (λ v. AreKnown self.now.next self.now.published (all_published v.items)) }
     {
@@ -202,7 +203,8 @@ impl Showing {
         self.parts.len()
     }
 
-    /// The same with a merged part in place of those of its parts that are still there, where one is. A merge of none leaves all as it is.
+    /// What searches show with a merged part in place of those of its parts that are still there; none where none is.
+    /// A merge of none leaves all as it is.
     pub(crate) fn swapped(
         &self,
         alloc: Global,
@@ -221,7 +223,8 @@ impl Showing {
         }
     }
 
-    /// The same with the part of a merge that was begun here, once it is made. No documents are compared.
+    /// What searches show with the part of a merge that was begun here in place of those of its parts that are still there.
+    /// It is none where none is there or the part isn't made. It compares no documents.
     pub(crate) fn swapped_beside(
         &self,
         alloc: Global,
@@ -238,7 +241,7 @@ impl Showing {
         }
     }
 
-    /// The same for a merge of all parts of a list, of which this part was made.
+    /// What searches show with `made` in place of those of the taken parts, of which it was made, that are still there; none where none is.
     fn swapped_by(
         &self,
         alloc: Global,

@@ -12,7 +12,7 @@ use std::boxed::Box;
 use std::marker::Model;
 use std::snapshot::Snapshot as Seen;
 
-/// The operation was let go; its number alone is left.
+/// Memory dropped the operation; its number alone is left.
 #[derive(Clone, Copy, Debug, PartialEq, Eq)]
 pub struct LetGo;
 
@@ -33,9 +33,9 @@ impl SlotRule<Seen<Op>> for Anything {
     ghost holds = { λ _ _. Unit {0} };
 }
 
-/// An operation that memory may let go once a newer one is on its id. Clauses see the whole of it, by what takes no memory and may cross threads.
+/// An operation that memory may drop once a newer one is on its id. Clauses see the whole of it, by what takes no memory and may cross threads.
 pub(crate) struct Slot {
-    /// The operation, or its number alone: a small slot stays of one that was let go.
+    /// The operation, or its number alone: a small slot stays of one that memory dropped.
     held: Result<Box<Whole>, u64>,
     whole: Written<Seen<Op>>,
 }
@@ -107,7 +107,7 @@ impl Slot {
         }
     }
 
-    /// The id that it is on, where it wasn't let go.
+    /// The id that it is on, where memory didn't drop it.
     pub(crate) fn id(&self) -> Option<&DocId>
         ensures some { IfSome result (λ i. (id : Id) → is_on id self.now.op ≡ is_id id i.now) }
         ensures none { result ≡ None → self.now.gone ≡ false → (id : Id) → is_on id self.now.op ≡ false }
@@ -122,7 +122,7 @@ impl Slot {
         }
     }
 
-    /// Whether it is on this id and wasn't let go.
+    /// Whether it is on this id and memory didn't drop it.
     pub(crate) fn is_on(&self, id: &DocId) -> bool
         ensures { result ≡ (if self.now.gone then false else is_on id.now self.now.op) }
     {
@@ -132,7 +132,7 @@ impl Slot {
         }
     }
 
-    /// An equal operation; refused, as for want of memory, where it was let go.
+    /// An equal operation. It fails where memory dropped this one.
     pub(crate) fn copy(&self, alloc: Global) -> Result<Op, AllocError>
         ensures { IfOk result (λ o. o ≡ self.now.op) }
     {

@@ -1,4 +1,4 @@
-//! Merges of parts beside searches.
+//! Merges of parts that run concurrently with searches.
 ghost use Rattle.std.specs.Prelude.{◌≡◌, ◌↔◌, ◌<◌, true, false, All, Contains, map, length, nat_lt, IfOk, IfSome, IsTrue};
 ghost use Rattle.std.specs.Arc.{arc_value};
 ghost use Rattle.engine.specs.Parts.{all_published, documents_of_parts, merge_of, published_of, woven, AllInOrder, IsMade, IsSplit};
@@ -43,7 +43,7 @@ impl Model for Merging {
 }
 
 impl Merging {
-    /// Builds one segment of what searches showed when the merge was begun. It may be called again after want of memory.
+    /// Builds one segment of what searches showed when the merge was begun. It may be called again after it ran out of memory.
     pub fn build(&self, alloc: Global) -> Result<Merged, AllocError>
         ensures { IfOk result (λ m. m ≡ self.now) }
     {

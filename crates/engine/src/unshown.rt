@@ -39,7 +39,7 @@ pub struct Unshown {
     alloc: Global,
     mapping: Arc<Mapping, Global>,
     begun: Begun,
-    /// What memory forgot when they were handed out. It is let go of with them.
+    /// What memory forgot when they were handed out. It is dropped with them.
     forgotten: Option<Arc<Vec<Record>, Global>>,
 }
 

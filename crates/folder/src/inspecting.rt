@@ -83,7 +83,7 @@ fn bytes_of<R: Files + AllocGlobal>(rt: &R, file: &str) -> Result<Vec<u8>, Inspe
     }
 }
 
-/// The sums that are kept beside a log; none where it isn't named as one.
+/// The sums that are kept next to a log; none where the file isn't named as a log.
 fn sums_beside<R: Files<File = File> + AllocGlobal>(
     rt: &R,
     file: &str,

@@ -96,7 +96,7 @@ pub(crate) fn frames_seen(alloc: Global, log: &[u8], sums: Sums) -> Result<Seen,
     Ok(Seen { end, sums })
 }
 
-/// The file of a copy's sums, beside its log.
+/// The path of the file of a copy's sums, next to its log.
 pub(crate) fn sums_path(alloc: Global, folder: &str, copy: u32) -> Result<String, AllocError> {
     format!(in alloc; "{folder}/copy-{copy}.sum")
 }

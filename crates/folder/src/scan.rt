@@ -75,7 +75,7 @@ fn end_of(alloc: Global, log: &[u8], rest: &[u8]) -> Result<End, ScanFault> {
     Ok(End::Torn(offset))
 }
 
-/// The content of the frame in front, and the bytes behind it; nothing where it isn't whole.
+/// The content of the first frame, and the bytes after it; nothing where the frame isn't whole.
 pub(crate) fn first_frame(bytes: &[u8]) -> Option<(&[u8], &[u8])> {
     let mut fields = Fields::of(bytes);
     let length = fields.word()?;

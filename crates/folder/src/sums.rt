@@ -1,4 +1,4 @@
-//! The sums that are kept beside a log.
+//! The sums that are kept next to a log.
 
 use crate::damage::Damage;
 use crate::scan::ScanFault;
@@ -14,9 +14,9 @@ pub(crate) const ENTRY: usize = 8;
 /// The sums of a log's whole blocks.
 #[derive(Drop)]
 pub(crate) struct Sums {
-    /// Those of the blocks that were kept so, from the first on.
+    /// How many blocks, from the first on, have their sums kept already.
     pub(crate) kept: usize,
-    /// Those behind them, which aren't kept yet.
+    /// The sums of the blocks after those, which aren't kept yet.
     pub(crate) made: Vec<u32>,
 }
 

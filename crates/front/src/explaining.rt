@@ -1,18 +1,22 @@
 //! Why a request was refused, in words for whoever wrote it.
 
 use crate::admission::admit;
-use crate::asking::{Asked, ask};
+use crate::asking::{Asked, ask, or_nothing};
 use crate::bulk::{Item, item_write};
+use crate::bulk_reasons::bulk_reason;
 use crate::greeting::{Welcome, check_handled, turned_request, welcome_of};
 use crate::lines::is_blank;
+use crate::parameters::{NONE, is_known, with_parameter};
 use crate::request_fault::RequestFault;
 use crate::rule::Rule;
+use crate::target::origin_of;
 use doc::{DocFault, Mapping};
+use form_urlencoded::parse;
 use query::QueryFault;
 use reasons::document_reason;
 use serde_json::Value;
 use std::alloc::{AllocError, Global};
-use wire::{HeadFault, Request, Whole, text_of};
+use wire::{HeadFault, Request, Whole, cut_at, text_of};
 
 /// Why a request is refused before the service is called, with one text for each fault. The text of a bulk's item names the line of the body with the fault,
 /// counted from 1. If nothing is refused, there is no text. What a service refuses isn't explained here: its page says it.
@@ -31,7 +35,7 @@ pub fn reasons_of(
         }
         Whole::Asked(request) => match admit(&rule.admission, &request.sender) {
             Ok(()) => admitted_reasons(alloc, rule.greets, index, mapping, request),
-            Err(fault) => one_reason(alloc, index, mapping, &fault, &request.body),
+            Err(fault) => one_reason(alloc, rule.greets, index, mapping, &fault, request),
         },
     }
 }
@@ -60,7 +64,7 @@ fn greeted_reasons(
     match welcome_of(alloc, index, request) {
         Ok(Welcome::Nothing) => handled_reasons(alloc, index, mapping, request),
         Ok(_) => Ok(Vec::new(alloc)),
-        Err(fault) => one_reason(alloc, index, mapping, &fault, &request.body),
+        Err(fault) => one_reason(alloc, true, index, mapping, &fault, request),
     }
 }
 
@@ -75,7 +79,7 @@ fn handled_reasons(
             let turned = turned_request(alloc, request)?;
             reasons_in(alloc, true, index, mapping, &turned)
         }
-        Err(fault) => one_reason(alloc, index, mapping, &fault, &request.body),
+        Err(fault) => one_reason(alloc, true, index, mapping, &fault, request),
     }
 }
 
@@ -92,20 +96,61 @@ fn reasons_in(
             Ok(Vec::new(alloc))
         }
         Ok(Asked::Many(_, items)) => item_reasons(alloc, index, mapping, &items, &request.body),
-        Err(fault) => one_reason(alloc, index, mapping, &fault, &request.body),
+        Err(fault) => one_reason(alloc, greets, index, mapping, &fault, request),
     }
 }
 
 fn one_reason(
     alloc: Global,
+    greets: bool,
     index: &str,
     mapping: &Mapping,
     fault: &RequestFault,
-    body: &[u8],
+    request: &Request,
 ) -> Result<Vec<String>, AllocError> {
+    let (path, query) = cut_at(origin_of(&request.target), b'?');
+    let why = match fault {
+        RequestFault::BadParameter => parameter_reason(alloc, or_nothing(query))?,
+        RequestFault::BadBulk => {
+            let named = if path == b"/_bulk".as_slice() {
+                None
+            } else {
+                Some(index)
+            };
+            bulk_reason(alloc, greets, named, &request.body)?
+        }
+        _ => reason(alloc, index, mapping, fault, &request.body)?,
+    };
     let mut reasons = Vec::new(alloc);
-    reasons.push(reason(alloc, index, mapping, fault, body)?)?;
+    reasons.push(why)?;
     Ok(reasons)
+}
+
+/// Which parameter is at fault.
+fn parameter_reason(alloc: Global, query: &[u8]) -> Result<String, AllocError> {
+    let mut found = NONE;
+    for pair in parse(alloc, query) {
+        let (name, value) = pair?;
+        match with_parameter(found, &name, &value) {
+            Ok(next) => found = next,
+            Err(fault) => {
+                drop(fault);
+                return named_reason(alloc, &name, &value);
+            }
+        }
+    }
+    String::from_str(
+        alloc,
+        "a parameter doesn't go with this path and method, or an id isn't UTF-8",
+    )
+}
+
+fn named_reason(alloc: Global, name: &str, value: &str) -> Result<String, AllocError> {
+    if is_known(name) {
+        format!(in alloc; "the parameter {name} comes twice, or can't be {value}")
+    } else {
+        format!(in alloc; "the parameter {name} isn't known")
+    }
 }
 
 /// Why items are refused. Each item has one line, and one more for its source if it indexes or creates. Empty lines may stand between items.
@@ -206,12 +251,6 @@ fn words_for(fault: &RequestFault) -> &'static str {
             "there is no such path; there are /INDEX/_doc/ID, /INDEX/_create/ID, /INDEX/_search, /INDEX/_count, /INDEX/_refresh, /INDEX/_bulk, /INDEX/_promote/COPY and /_bulk"
         }
         RequestFault::BadMethod(_) => "the path doesn't take this method",
-        RequestFault::BadParameter => {
-            "a parameter isn't known, comes twice, has no such value or doesn't go with this method, or an id isn't UTF-8"
-        }
-        RequestFault::BadBulk => {
-            "the body is no bulk: a line of JSON for each action, behind index and create one with the document, and a line feed behind each line"
-        }
         RequestFault::ForeignOrigin => {
             "the request comes from a web page of another origin; --cors ORIGIN lets its pages ask"
         }
@@ -219,10 +258,14 @@ fn words_for(fault: &RequestFault) -> &'static str {
             "the server isn't known under the name in the field host; --host-name NAME gives it this name"
         }
         RequestFault::TypeInPath => {
-            "an endpoint stands behind a type in the path; leave out the type, as in /INDEX/_search"
+            "an endpoint stands after a type in the path; leave out the type, as in /INDEX/_search"
         }
         RequestFault::NoMemory => "out of memory",
-        RequestFault::NoIndex | RequestFault::Document(_) | RequestFault::Query(_) => "refused",
+        RequestFault::NoIndex
+        | RequestFault::BadParameter
+        | RequestFault::BadBulk
+        | RequestFault::Document(_)
+        | RequestFault::Query(_) => "refused",
     }
 }
 

@@ -4,6 +4,7 @@
 pub mod admission;
 mod asking;
 mod bulk;
+mod bulk_reasons;
 pub mod command;
 pub mod explaining;
 mod greeting;

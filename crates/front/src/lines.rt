@@ -61,7 +61,7 @@ impl Action {
 
 /// What an action line says. If it names no index, the index of the path is taken.
 #[tactic(auto, unfolding(crate::specs::BulkReading::line_of))]
-fn line_of(
+pub(crate) fn line_of(
     alloc: Global,
     greets: bool,
     path: Option<&str>,
@@ -107,7 +107,7 @@ fn text_value(alloc: Global, text: &str) -> Result<Value, RequestFault>
     }
 }
 
-fn members_of(value: &Value) -> Result<&Map<String, Value>, RequestFault>
+pub(crate) fn members_of(value: &Value) -> Result<&Map<String, Value>, RequestFault>
     ensures { Gives fault_of (λ m. members_view m.now.entries) result (spec.members_of (view value.now)) }
 {
     match value {
@@ -116,7 +116,7 @@ fn members_of(value: &Value) -> Result<&Map<String, Value>, RequestFault>
     }
 }
 
-fn only(members: &Map<String, Value>) -> Result<(&str, &Value), RequestFault>
+pub(crate) fn only(members: &Map<String, Value>) -> Result<(&str, &Value), RequestFault>
     ensures { Gives fault_of (λ x. (x.0.now, view x.1.now)) result (spec.only (members_view members.now.entries)) }
 {
     let mut entries = members.iter();
@@ -129,7 +129,7 @@ fn only(members: &Map<String, Value>) -> Result<(&str, &Value), RequestFault>
     Ok((name.as_str(), body))
 }
 
-fn action_of(name: &str) -> Result<Action, RequestFault>
+pub(crate) fn action_of(name: &str) -> Result<Action, RequestFault>
     ensures { Gives fault_of (λ a. a) result (spec.action_of name.now) }
 {
     if name == "index" {
@@ -154,7 +154,7 @@ fn check_keys(greets: bool, members: &Map<String, Value>) -> Result<(), RequestF
     Ok(())
 }
 
-fn is_line_key(greets: bool, name: &str) -> bool
+pub(crate) fn is_line_key(greets: bool, name: &str) -> bool
     ensures { result ≡ spec.is_line_key greets name.now }
 {
     matches!(name, "_id" | "_index" | "if_seq_no" | "if_primary_term")
@@ -162,7 +162,7 @@ fn is_line_key(greets: bool, name: &str) -> bool
 }
 
 /// Checks that a type is `_doc`, if there is one.
-fn check_type(value: Option<&Value>) -> Result<(), RequestFault>
+pub(crate) fn check_type(value: Option<&Value>) -> Result<(), RequestFault>
     ensures { Gives fault_of (λ u. u) result (check (spec.is_known_type (option_map (λ v. view v.now) value.entry)) bad_bulk) }
 {
     match value {

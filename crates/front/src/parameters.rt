@@ -50,7 +50,8 @@ fn once_number(old: Option<u64>, new: Option<u64>) -> Result<Option<u64>, Reques
     Ok(new)
 }
 
-fn with_parameter(
+/// The parameters with one more.
+pub(crate) fn with_parameter(
     parameters: Parameters,
     name: &str,
     value: &str,
@@ -111,19 +112,30 @@ fn with_number(
     }
 }
 
+/// No parameter.
+pub(crate) const NONE: Parameters = Parameters {
+    pretty: None,
+    refresh: None,
+    create: None,
+    seq: None,
+    term: None,
+    size: None,
+    from: None,
+};
+
+/// Whether there is a parameter of this name.
+pub(crate) fn is_known(name: &str) -> bool {
+    matches!(
+        name,
+        "pretty" | "refresh" | "op_type" | "if_seq_no" | "if_primary_term" | "size" | "from"
+    )
+}
+
 /// The parameters of a query string. An unknown parameter, one that comes twice and a bad value are `BadParameter`.
 pub(crate) fn parameters_of(alloc: Global, text: &[u8]) -> Result<Parameters, RequestFault>
     ensures { Gives fault_of (λ p. p) result (spec.parameters_of text.now) }
 {
-    let mut found = Parameters {
-        pretty: None,
-        refresh: None,
-        create: None,
-        seq: None,
-        term: None,
-        size: None,
-        from: None,
-    };
+    let mut found = NONE;
     for pair in parse(alloc, text) {
         let (name, value) = pair?;
         let next = with_parameter(found, &name, &value);

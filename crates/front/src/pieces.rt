@@ -191,13 +191,6 @@ impl Page {
         weight
     }
 
-    /// The text with which the page begins.
-    pub fn beginning(&self) -> &str
-        ensures { (rest : List ℕ) × (self.now ≡ result.now ++ rest) }
-    {
-        self.first.as_str()
-    }
-
     /// The page with more fields after its own.
     #[tactic(auto, using(crate::proofs::Heads::fields_over))]
     pub(crate) fn with_fields(self, alloc: Global, fields: &str) -> Result<Page, AllocError>

@@ -67,7 +67,7 @@ impl Unsent {
         }
     }
 
-    /// How many bytes the page has for itself, beside the texts of documents that it shares with the index.
+    /// How many bytes the page has for itself, apart from the texts of documents that it shares with the index.
     pub fn weight(&self) -> usize {
         self.weight
     }

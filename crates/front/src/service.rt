@@ -38,7 +38,7 @@ pub trait Service {
 }
 
 /// A service that many clients call in turn, through any of several threads. What a client knows of the service stays with that client, and the thread that
-/// answers it next goes on from there.
+/// answers it next starts from that knowledge.
 pub trait Resumable: Service {
     /// What a client knows of the service.
     type Known: Drop;

@@ -1,3 +1,4 @@
 pub mod Found
 pub mod Replying
+pub mod Refusing
 pub mod Seeing

@@ -1,5 +1,5 @@
 -- What is seen of a copy by a refresh.
-use Rattle.std.proofs.Common.{◌≡◌, ◌<◌, ◌⊎◌, ℕ, Bool, true, false, List, length, inl, inr, sym, ap, subst, ◌∙◌}
+use Rattle.std.proofs.Common.{◌≡◌, ℕ, Bool, true, false, List, length, sym, ap, subst, ◌∙◌}
 use Rattle.node.specs.Entry.{Receipt}
 use Rattle.cluster.specs.Refreshed.{AreRefreshed}
 use Rattle.ruled.specs.declared.entry.MasterEntry.{MasterEntry}
@@ -35,21 +35,18 @@ is_unwanted wanted before after so same = record {
   unrefreshed = λ _. (ap (λ (k : KnownData). k.seen) same, ap (λ (k : KnownData). k.past) same);
 }
 
-pub has_refreshed : (before after : KnownData) (seen : Heard) (past : List MasterEntry) (primary : ℕ) (entries : List Receipt) (copies : ℕ) → AreRefreshed past primary entries → length entries ≡ copies → 0 < copies → IsPrefix before.past past
-    → (seen ≡ before.seen) ⊎ IsSeenAmong before.heard before.seen primary entries seen → after ≡ known before.heard seen past → HasRefreshed before copies after
-has_refreshed before after seen past primary entries copies are many some later is now =
-    subst (λ (k : KnownData). HasRefreshed before copies k) (sym now) (record { entries = entries; primary = primary; many = many; some = some; refreshed = are; later = later; seen = is })
+pub has_refreshed : (before after : KnownData) (seen : Heard) (past : List MasterEntry) (primary : ℕ) (entries : List Receipt) (copies : ℕ) → AreRefreshed past primary entries → length entries ≡ copies → IsPrefix before.past past
+    → IsSeenAmong before.heard before.seen primary entries seen → after ≡ known before.heard seen past → HasRefreshed before copies after
+has_refreshed before after seen past primary entries copies are many later is now =
+    subst (λ (k : KnownData). HasRefreshed before copies k) (sym now) (record { entries = entries; primary = primary; many = many; refreshed = are; later = later; seen = is })
 
-pub seen_among : (heard before after : Heard) (primary : ℕ) (entries : List Receipt) (r : Receipt) → IsAmong entries r → r.node ≡ primary → IsSeenBy heard before r after → (after ≡ before) ⊎ IsSeenAmong heard before primary entries after
-seen_among heard before after primary entries r among leads seen = inr (record { entry = r; among = among; leads = leads; seen = seen })
-
-pub none_seen : (heard before after : Heard) (primary : ℕ) (entries : List Receipt) → after ≡ before → (after ≡ before) ⊎ IsSeenAmong heard before primary entries after
-none_seen heard before after primary entries same = inl same
+pub seen_among : (heard before after : Heard) (primary : ℕ) (entries : List Receipt) (r : Receipt) → IsAmong entries r → r.node ≡ primary → IsSeenBy heard before r after → IsSeenAmong heard before primary entries after
+seen_among heard before after primary entries r among leads seen = record { entry = r; among = among; leads = leads; seen = seen }
 
 -- ---- behind a write
 
 has_behind : (before after : KnownData) (h : Heard) (copies : ℕ) → HasRefreshed (known h before.seen before.past) copies after → HasRefreshed before copies after
-has_behind before after h copies r = record { entries = r.entries; primary = r.primary; many = r.many; some = r.some; refreshed = r.refreshed; later = r.later; seen = r.seen }
+has_behind before after h copies r = record { entries = r.entries; primary = r.primary; many = r.many; refreshed = r.refreshed; later = r.later; seen = r.seen }
 
 -- what was heard of the write changes nothing else that is known
 as_behind : (wanted : Bool) (before after : KnownData) (h : Heard) → IsRefreshedAs wanted (known h before.seen before.past) after → IsRefreshedAs wanted before after

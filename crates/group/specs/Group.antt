@@ -4,6 +4,9 @@ use Rattle.doc.specs.Id.{Id}
 use Rattle.doc.specs.Mapping.{MappingData}
 use Rattle.op.specs.declared.message.Msg.{Msg}
 use Rattle.replica.specs.declared.fault.CopyFault.{CopyFault}
+use Rattle.replica.specs.declared.fault.CopyFault.TheVariants.{VersionConflict as Conflict}
+use Rattle.replica.specs.declared.input.Input.{Input}
+use Rattle.replica.specs.declared.input.Input.TheVariants.{Write as Client, Bulk}
 use Rattle.replica.specs.declared.output.Answer.{Answer}
 use Rattle.replica.specs.declared.output.Item.{Item}
 use Rattle.replica.specs.declared.output.Output.{Output}
@@ -15,17 +18,19 @@ use Rattle.node.specs.Reading.{GotData, IsGot as IsRead}
 use Rattle.node.specs.Heard.{HasEntry, IsAheadOf, IsNotBefore}
 use Rattle.chronicle.specs.Registered.{PrefixData, prefix}
 use Rattle.journal.specs.declared.journal.Deed.{Deed}
-use Rattle.node.specs.Entry.{Receipt}
+use Rattle.node.specs.Entry.{Receipt, IsEntry}
 use Rattle.cluster.specs.declared.confirmed.Confirmed.{Confirmed}
 use Rattle.cluster.specs.declared.confirmed.ConfirmedBulk.{ConfirmedBulk}
-use Rattle.cluster.specs.Bulks.{bulked as items_in, IsBulkConfirmed}
-use Rattle.cluster.specs.Confirmed.{IsConfirmed}
+use Rattle.cluster.specs.declared.fault.WriteFault.{WriteFault}
+use Rattle.cluster.specs.declared.fault.WriteFault.TheVariants as fault
+use Rattle.cluster.specs.Bulks.{bulked as items_in, IsBulkConfirmed, IsBulkRefused}
+use Rattle.cluster.specs.Confirmed.{IsConfirmed, IsWriteRefused}
 use Rattle.ruled.specs.declared.entry.MasterEntry.{MasterEntry}
 use Rattle.ruled.specs.Entries.{IsDecided}
 use mathlib.Core.List.{IsPrefix}
 use Rattle.front.specs.declared.command.Write.{Write}
 use Rattle.front.specs.declared.reply.Refusal.{Refusal}
-use Rattle.front.specs.declared.reply.Refusal.TheVariants.{OldTerm, NotInSync, IsPrimary, Gone, Log, NoMemory, Full}
+use Rattle.front.specs.declared.reply.Refusal.TheVariants.{VersionConflict, OldTerm, NotInSync, IsPrimary, Gone, Log, NoMemory, Full}
 use Rattle.front.specs.declared.reply.ItemReply.{ItemReply}
 use Rattle.front.specs.Command.{Command, write, bulk, get, search, count, refresh, promote}
 use Rattle.front.specs.Reply.{Reply, bulked, promoted, refused}
@@ -112,7 +117,7 @@ pub record IsMadePrimary (copy : ℕ) (r : Reply) (past : List MasterEntry) : Ty
   pub sent : decision.sent ≡ Some message
   pub told : r ≡ promoted copy message.term
 
--- the master's last decision makes the copy the primary, in a past that goes on from what the client knew of it
+-- the master's last decision makes the copy the primary, in a past that extends what the client knew of it
 pub record IsPromoted (before : KnownData) (copy : ℕ) (r : Reply) (after : KnownData) : Type 0 where
   pub made : IsMadePrimary copy r after.past
   pub later : IsPrefix before.past after.past
@@ -138,11 +143,55 @@ IsDone J m before (count q) r after = IsCounted m before q r after
 IsDone J m before refresh r after = IsRefreshed before r after
 IsDone J m before (promote copy) r after = IsPromoted before copy r after
 
--- the command was refused
-pub record IsRefused (r : Reply) : Type 0 where
+-- a copy has an entry by which it refused the input, since another document stands on the id
+pub record HasConflict (input : Input) : Type 0 where
+  pub entry : Receipt
+  pub asked : entry.deed.input ≡ input
+  pub stands : IsEntry entry
+  pub answer : entry.deed.answer ≡ Err Conflict
+
+-- only a write or a bulk may be in conflict
+abbrev pub MayConflict : Command → Type 0
+MayConflict (write w) = HasConflict (Client (write_of w))
+MayConflict (bulk ws) = HasConflict (Bulk (map write_of ws))
+MayConflict (get id) = ⊥
+MayConflict (search q page) = ⊥
+MayConflict (count q) = ⊥
+MayConflict refresh = ⊥
+MayConflict (promote copy) = ⊥
+
+-- the command was refused; for a conflict only by the entry of a copy that refused it
+pub record IsRefused (c : Command) (r : Reply) : Type 0 where
   pub refusal : Refusal
   pub told : r ≡ refused refusal
+  pub conflict : refusal ≡ VersionConflict → MayConflict c
+
+-- the fault is none of a write's or a bulk's own
+abbrev pub IsOfCluster : {J : Type 0} → WriteFault J → Type 0
+IsOfCluster (fault.NoPrimary r) = ⊥
+IsOfCluster (fault.Refused r) = ⊥
+IsOfCluster (fault.Lost r last) = ⊥
+IsOfCluster (fault.Unconfirmed r) = ⊥
+IsOfCluster (fault.Cluster f) = Unit {0}
+
+-- what the copies' fault shows of the command
+abbrev pub IsFaultOf : {J : Type 0} → Command → WriteFault J → Type 0
+IsFaultOf (write w) f = IsWriteRefused (write_of w) f
+IsFaultOf (bulk ws) f = IsBulkRefused (map write_of ws) f
+IsFaultOf (get id) f = IsOfCluster f
+IsFaultOf (search q page) f = IsOfCluster f
+IsFaultOf (count q) f = IsOfCluster f
+IsFaultOf refresh f = IsOfCluster f
+IsFaultOf (promote copy) f = IsOfCluster f
+
+-- the fault is a copy's refusal, since another document stands on the id
+abbrev pub IsConflict : {J : Type 0} → WriteFault J → Type 0
+IsConflict (fault.NoPrimary r) = ⊥
+IsConflict (fault.Refused r) = r.deed.answer ≡ Err Conflict
+IsConflict (fault.Lost r last) = ⊥
+IsConflict (fault.Unconfirmed r) = ⊥
+IsConflict (fault.Cluster f) = ⊥
 
 -- a reply of copies with one mapping, whose journals are those of one registry; and what the client knows then
 abbrev pub IsTold : Type 0 → MappingData → KnownData → Command → Reply → KnownData → Type 0
-IsTold J m before c r after = IsDone J m before c r after ⊎ (IsRefused r × (after ≡ before))
+IsTold J m before c r after = IsDone J m before c r after ⊎ (IsRefused c r × (after ≡ before))

@@ -1,5 +1,5 @@
 -- What a client knows of the copies of an index.
-use Rattle.std.specs.Prelude.{◌≡◌, ◌⊎◌, ◌<◌, ℕ, List, [], ◌∷◌, Option, Some, None, length, slice_get, IfSome}
+use Rattle.std.specs.Prelude.{◌≡◌, ℕ, List, [], ◌∷◌, Option, Some, None, length, slice_get, IfSome}
 use Rattle.chronicle.specs.Registered.{PrefixData, prefix}
 use Rattle.journal.specs.declared.journal.Deed.{Deed}
 use Rattle.node.specs.Entry.{Receipt}
@@ -38,7 +38,7 @@ heard_by before node (d ∷ ds) = Some (prefix node (d ∷ ds))
 abbrev pub seen_at : KnownData → PointData → List MasterEntry → KnownData
 seen_at k p past = known k.heard (heard_by k.seen p.node p.deeds) past
 
--- the copy is the primary after a past of the master that goes on from the one before
+-- the copy is the primary after a past of the master that extends the earlier one
 pub record IsLedBehind (before : List MasterEntry) (copy : ℕ) (past : List MasterEntry) : Type 0 where
   pub later : IsPrefix before past
   pub leads : IsLeading past copy
@@ -61,12 +61,11 @@ pub record IsSeenAmong (heard before : Heard) (primary : ℕ) (entries : List Re
   pub leads : entry.node ≡ primary
   pub seen : IsSeenBy heard before entry after
 
--- this many copies in sync were refreshed, at least one, each by an entry of its own; the client saw the primary's entry, unless it isn't among them
+-- this many copies in sync were refreshed, each by an entry of its own; the primary is among them, and the client saw its entry
 pub record HasRefreshed (before : KnownData) (copies : ℕ) (after : KnownData) : Type 0 where
   pub entries : List Receipt
   pub primary : ℕ
   pub many : length entries ≡ copies
-  pub some : 0 < copies
   pub refreshed : AreRefreshed after.past primary entries
   pub later : IsPrefix before.past after.past
-  pub seen : (after.seen ≡ before.seen) ⊎ IsSeenAmong after.heard before.seen primary entries after.seen
+  pub seen : IsSeenAmong after.heard before.seen primary entries after.seen

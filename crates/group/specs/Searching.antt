@@ -14,7 +14,7 @@ use Rattle.front.specs.Reply.{Reply, counted, refreshed}
 use Rattle.shard.specs.Answering.{hits_of}
 use Rattle.group.specs.Known.{KnownData, HasRefreshed, IsLedBehind, seen_at}
 
--- the list was published: it is the last of a history in which each list goes on from the one before it. It has this mapping, and its records are those that
+-- the list was published: it is the last of a history in which each list extends the one before it. It has this mapping, and its records are those that
 -- the copy has at this place of its journal
 pub record IsShownAt (m : MappingData) (l : Listing) (at : PointData) : Type 0 where
   pub history : List Listing

@@ -1,17 +1,22 @@
 //! An index of several copies, each on a thread of its own.
-ghost use Rattle.std.specs.Prelude.{◌≡◌, IfOk, IfSome};
+ghost use Rattle.std.specs.Prelude.{◌≡◌, map, Err, IfOk, IfErr, IfSome};
 ghost use Rattle.query.specs.View.{query_view};
 ghost use Rattle.engine.specs.Shown.{hits_view};
 ghost use Rattle.front.specs.CommandView.{command_view};
 ghost use Rattle.front.specs.ReplyView.{reply_view};
 ghost use Rattle.cell.specs.Points.{IsShownBehind};
-ghost use Rattle.group.specs.Group.{counted_in, told_by, IsBulkWritten, IsDone, IsGot, IsPromoted, IsWritten};
+ghost use Rattle.cluster.specs.Bulks.{IsBulkConfirmed, IsBulkRefused};
+ghost use Rattle.cluster.specs.Confirmed.{IsConfirmed, IsWriteRefused};
+ghost use Rattle.front.specs.declared.reply.Refusal.TheVariants.{VersionConflict};
+ghost use Rattle.replica.specs.declared.fault.CopyFault.TheVariants.{VersionConflict as Conflict};
+ghost use Rattle.shard.specs.Answering as spec;
+ghost use Rattle.group.specs.Group.{counted_in, told_by, IsBulkWritten, IsConflict, IsDone, IsFaultOf, IsGot, IsOfCluster, IsPromoted, IsWritten};
 ghost use Rattle.group.specs.Known.{IsLedBehind};
 ghost use Rattle.group.specs.Searching.{IsCounted, IsFound, IsFoundAt};
 
 use crate::bulks::{heard_behind, told_bulk};
 use crate::known::{Known, is_ahead};
-use crate::promoting::{Promotion, is_promotion, promoted, refusal_to};
+use crate::promoting::{Promotion, caught_up, is_promotion, promoted, refusal_to};
 use crate::searching::{Chair, reply_with};
 use cell::{FoundAt, IndexLabel, IndexName};
 use cluster::{Client, ClusterFault, Confirmed, ConfirmedBulk, WriteFault};
@@ -21,7 +26,7 @@ use front::reply::{Refusal, Reply};
 use front::{Resumable, Service};
 use node::{Heard, Receipt};
 use query::{Page, Query, SearchBody};
-use replica::{CopyFault, Output, Writes};
+use replica::{CopyFault, Output, Write as Taken, Writes};
 use ruled::{Leading, Past};
 use shard::answering::{refusal_of, reply_in, write_of, writes_of};
 use std::alloc::Global;
@@ -31,18 +36,18 @@ use translog::LogDevice;
 /// An index of several copies, as one thread has it. The primary answers writes and gets. A search looks at what the primary has published, by a searcher that
 /// waits for no copy. A refresh refreshes each copy.
 #[derive(Drop)]
-pub struct Group<'a, R: Wait, D: LogDevice, J: IndexName> {
+pub struct Group<'a, R: Wait + Drop, D: LogDevice, J: IndexName> {
     pub rt: &'a R,
     pub alloc: Global,
     pub label: &'a IndexLabel<J>,
-    pub client: &'a Client<D, J>,
+    pub client: &'a Client<R, D, J>,
     /// Where the searcher of the last search is kept.
     pub chair: &'a Chair<J>,
     /// What the client that is served knows.
     pub known: Known<J>,
 }
 
-impl<'a, R: Wait, D: LogDevice, J: IndexName> Service for Group<'a, R, D, J> {
+impl<'a, R: Wait + Drop, D: LogDevice, J: IndexName> Service for Group<'a, R, D, J> {
     ghost use Rattle.group.specs.Group.{IsTold};
 
     ghost name = { λ g. J.index.name };
@@ -59,6 +64,7 @@ impl<'a, R: Wait, D: LogDevice, J: IndexName> Service for Group<'a, R, D, J> {
         self.label.mapping()
     }
 
+    #[tactic(auto, using(crate::proofs::Refusing::is_refused))]
     fn call(&mut self, command: Command) -> Reply {
         let promotes = is_promotion(&command);
         match self.answer(command) {
@@ -71,7 +77,7 @@ impl<'a, R: Wait, D: LogDevice, J: IndexName> Service for Group<'a, R, D, J> {
     }
 }
 
-impl<'a, R: Wait, D: LogDevice, J: IndexName> Resumable for Group<'a, R, D, J> {
+impl<'a, R: Wait + Drop, D: LogDevice, J: IndexName> Resumable for Group<'a, R, D, J> {
     type Known = Known<J>;
 
     ghost knows = { λ g. g.known };
@@ -87,10 +93,11 @@ impl<'a, R: Wait, D: LogDevice, J: IndexName> Resumable for Group<'a, R, D, J> {
     }
 }
 
-impl<'a, R: Wait, D: LogDevice, J: IndexName> Group<'a, R, D, J> {
+impl<'a, R: Wait + Drop, D: LogDevice, J: IndexName> Group<'a, R, D, J> {
     /// Has the copies carry out a command. Returns the reply, and what the client knows then.
     fn answer(&self, command: Command) -> Result<(Reply, Known<J>), WriteFault<J>>
-        ensures { IfOk result (λ r. IsDone J J.index.mapping self.now.known (command_view command) (reply_view r.0) r.1) }
+        ensures done { IfOk result (λ r. IsDone J J.index.mapping self.now.known (command_view command) (reply_view r.0) r.1) }
+        ensures refused { IfErr result (IsFaultOf (command_view command)) }
     {
         match command {
             Command::Write(write) => self.write(write),
@@ -105,10 +112,11 @@ impl<'a, R: Wait, D: LogDevice, J: IndexName> Group<'a, R, D, J> {
 
     /// Has the primary do a write, and waits until each member has it. Then refreshes the copies, if the write asks for that.
     fn write(&self, write: Write) -> Result<(Reply, Known<J>), WriteFault<J>>
-        ensures { IfOk result (λ r. IsWritten J self.now.known write (reply_view r.0) r.1) }
+        ensures done { IfOk result (λ r. IsWritten J self.now.known write (reply_view r.0) r.1) }
+        ensures refused { IfErr result (IsWriteRefused (spec.write_of write)) }
     {
         let refresh = write.refresh;
-        let confirmed = self.client.write(self.rt, write_of(write))?;
+        let confirmed = self.confirmed(write_of(write))?;
         if !is_ahead(self.known.heard(), &confirmed.write) {
             return Err(stray(confirmed));
         }
@@ -124,12 +132,13 @@ impl<'a, R: Wait, D: LogDevice, J: IndexName> Group<'a, R, D, J> {
 
     /// Has the primary do the writes of a bulk in one step, and waits until each member has those that were kept.
     fn bulk(&self, writes: Vec<Write>) -> Result<(Reply, Known<J>), WriteFault<J>>
-        ensures { IfOk result (λ r. IsBulkWritten J self.now.known writes.items (reply_view r.0) r.1) }
+        ensures done { IfOk result (λ r. IsBulkWritten J self.now.known writes.items (reply_view r.0) r.1) }
+        ensures refused { IfErr result (IsBulkRefused (map spec.write_of writes.items)) }
     {
         let Some(writes) = Writes::of(writes_of(self.alloc, writes)?) else {
             return Err(WriteFault::Cluster(ClusterFault::Copy(CopyFault::Mismatch)));
         };
-        let confirmed = self.client.bulk(self.rt, writes)?;
+        let confirmed = self.confirmed_bulk(writes)?;
         if !is_ahead(self.known.heard(), &confirmed.bulk) {
             return Err(stray_bulk(confirmed));
         }
@@ -138,6 +147,44 @@ impl<'a, R: Wait, D: LogDevice, J: IndexName> Group<'a, R, D, J> {
         };
         let reply = told_bulk(self.alloc, confirmed)?;
         Ok((reply, self.known.hears(heard)))
+    }
+
+    /// Has the primary do a write. It is done again where the copy that the master names as the primary refused it, not having heard of that yet.
+    fn confirmed(&self, write: Taken) -> Result<Confirmed<J>, WriteFault<J>>
+        ensures confirmed { IfOk result (IsConfirmed write) }
+        ensures refused { IfErr result (IsWriteRefused write) }
+    {
+        let again = write.copy(self.alloc)?;
+        match self.client.write(self.rt, write) {
+            Err(WriteFault::NoPrimary(receipt)) => {
+                drop(receipt);
+                caught_up(self.rt, self.client);
+                self.client.write(self.rt, again)
+            }
+            done => {
+                drop(again);
+                done
+            }
+        }
+    }
+
+    /// Has the primary do a bulk, as `confirmed` does a write.
+    fn confirmed_bulk(&self, writes: Writes) -> Result<ConfirmedBulk<J>, WriteFault<J>>
+        ensures confirmed { IfOk result (IsBulkConfirmed writes) }
+        ensures refused { IfErr result (IsBulkRefused writes) }
+    {
+        let again = writes.copy(self.alloc)?;
+        match self.client.bulk(self.rt, writes) {
+            Err(WriteFault::NoPrimary(receipt)) => {
+                drop(receipt);
+                caught_up(self.rt, self.client);
+                self.client.bulk(self.rt, again)
+            }
+            done => {
+                drop(again);
+                done
+            }
+        }
     }
 
     #[tactic(auto, using(crate::proofs::Seeing::is_got))]
@@ -189,7 +236,7 @@ impl<'a, R: Wait, D: LogDevice, J: IndexName> Group<'a, R, D, J> {
         Ok((reply, self.known.follows(past)))
     }
 
-    /// The primary after a past of the master that goes on from what the client knows of it, as each past does.
+    /// The primary after a past of the master that extends what the client knows of it, as each past does.
     fn leader(&self) -> Result<Leading<J>, ClusterFault>
         ensures { IfOk result (λ l. IsLedBehind self.now.known.past l.primary l.past) }
     {
@@ -227,14 +274,18 @@ struct Looked<J: IndexName> {
 }
 
 /// The fault of a write whose entry doesn't stand after all that the client knows. That never happens.
-fn stray<J: IndexName>(confirmed: Confirmed<J>) -> WriteFault<J> {
+fn stray<J: IndexName>(confirmed: Confirmed<J>) -> WriteFault<J>
+    ensures { IsOfCluster result }
+{
     let place = confirmed.write.place();
     drop(confirmed);
     WriteFault::Cluster(ClusterFault::Stray(place))
 }
 
 /// The fault of a bulk whose entry doesn't stand after all that the client knows, or whose acknowledgements aren't of its journal. That never happens.
-fn stray_bulk<J: IndexName>(confirmed: ConfirmedBulk<J>) -> WriteFault<J> {
+fn stray_bulk<J: IndexName>(confirmed: ConfirmedBulk<J>) -> WriteFault<J>
+    ensures { IsOfCluster result }
+{
     let place = confirmed.bulk.place();
     drop(confirmed);
     WriteFault::Cluster(ClusterFault::Stray(place))
@@ -282,12 +333,36 @@ fn reply_to(answer: Result<Output, CopyFault>, copies: u64) -> Reply
 }
 
 /// The refusal that says why a write isn't confirmed. A write that nobody acknowledges may still be kept.
-pub(crate) fn refusal_of_write<J: IndexName>(promotes: bool, fault: &WriteFault<J>) -> Refusal {
+fn refusal_of_write<J: IndexName>(promotes: bool, fault: &WriteFault<J>) -> Refusal
+    ensures { result ≡ VersionConflict → IsConflict fault.now }
+{
     match fault {
         WriteFault::NoPrimary(_) | WriteFault::Lost(_, _) | WriteFault::Unconfirmed(_) => {
             Refusal::NotPrimary
         }
-        WriteFault::Cluster(fault) => refusal_to(promotes, fault),
+        WriteFault::Refused(receipt) => refusal_in(receipt),
+        WriteFault::Cluster(fault) => without_entry(refusal_to(promotes, fault)),
+    }
+}
+
+/// The refusal that an entry shows.
+#[tactic(auto, using(crate::proofs::Refusing::conflict_of))]
+fn refusal_in<J: IndexName>(receipt: &Receipt<J>) -> Refusal
+    ensures { result ≡ VersionConflict → receipt.now.deed.answer ≡ Err Conflict }
+{
+    match &receipt.deed().answer {
+        Ok(_) => Refusal::Mismatch,
+        Err(fault) => refusal_of(fault),
+    }
+}
+
+/// A refusal that no entry shows, which is no conflict. That never happens.
+fn without_entry(refusal: Refusal) -> Refusal
+    ensures { result ≡ VersionConflict → ⊥ }
+{
+    match refusal {
+        Refusal::VersionConflict => Refusal::Mismatch,
+        other => other,
     }
 }
 

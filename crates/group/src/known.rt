@@ -122,7 +122,7 @@ impl<J: IndexName> Known<J> {
         self.shows(again(&self.seen), past)
     }
 
-    /// Whether a past of the master goes on from what the client knows of it.
+    /// Whether a past of the master extends what the client knows of it.
     pub(crate) fn is_followed_by(&self, past: &Past<J>) -> bool
         ensures behind { IsTrue result → IsPrefix self.now.past past.now }
         ensures fewer { IsFalse result → length past.now < length self.now.past }
@@ -157,7 +157,7 @@ impl<J: IndexName> Known<J> {
 }
 
 /// A duplicate of entries that the client knows.
-pub(crate) fn again<J: IndexName>(told: &Option<Heard<J>>) -> Option<Heard<J>>
+fn again<J: IndexName>(told: &Option<Heard<J>>) -> Option<Heard<J>>
     ensures { result ≡ told.now }
 {
     match told {

@@ -20,15 +20,25 @@ pub(crate) struct Promotion<J: IndexName> {
     pub(crate) past: Past<J>,
 }
 
-/// Has the master make a copy the primary. Each promotion has a message, from which the copy learns its term.
-pub(crate) fn promoted<R: Wait, D: LogDevice, J: IndexName>(
+/// Waits until the copy that the master names as the primary has taken the messages that came to it before, that it is the primary among them.
+pub(crate) fn caught_up<R: Wait + Drop, D: LogDevice, J: IndexName>(
     rt: &R,
-    client: &Client<D, J>,
+    client: &Client<R, D, J>,
+) {
+    let primary = client.primary(rt).primary;
+    drop(client.searcher(rt, primary));
+}
+
+/// Has the master make a copy the primary, and waits until the copy knows. Each promotion has a message, from which the copy learns its term.
+pub(crate) fn promoted<R: Wait + Drop, D: LogDevice, J: IndexName>(
+    rt: &R,
+    client: &Client<R, D, J>,
     copy: u32,
 ) -> Result<Promotion<J>, ClusterFault>
     ensures { IfOk result (λ p. IsMadePrimary copy (reply_view p.reply) p.past) }
 {
     let Decided { decision, past } = client.promote(rt, copy)?;
+    caught_up(rt, client);
     match &decision.sent {
         Some(message) => Ok(Promotion {
             reply: Reply::Promoted(copy, message.term),

@@ -1,12 +1,12 @@
 //! Refreshes of several copies.
-ghost use Rattle.std.specs.Prelude.{◌≡◌, ◌⊎◌, Some, IfOk, IfSome};
+ghost use Rattle.std.specs.Prelude.{◌≡◌, Some, IfOk, IfSome};
 ghost use Rattle.front.specs.ReplyView.{reply_view};
 ghost use Rattle.group.specs.Group.{IsRefreshedAs};
 ghost use Rattle.group.specs.Known.{HasRefreshed, IsAmong, IsSeenAmong, IsSeenBy};
 ghost use Rattle.group.specs.Searching.{IsRefreshed};
 
 use crate::group::Group;
-use crate::known::{Known, again, is_ahead};
+use crate::known::{Known, is_ahead};
 use cell::IndexName;
 use cluster::{Client, ClusterFault, Refreshed};
 use front::reply::Reply;
@@ -15,7 +15,7 @@ use replica::CopyFault;
 use std::sync::Wait;
 use translog::LogDevice;
 
-impl<'a, R: Wait, D: LogDevice, J: IndexName> Group<'a, R, D, J> {
+impl<'a, R: Wait + Drop, D: LogDevice, J: IndexName> Group<'a, R, D, J> {
     #[tactic(auto, using(crate::proofs::Seeing::is_refreshed))]
     pub(crate) fn refresh(&self) -> Result<(Reply, Known<J>), ClusterFault>
         ensures { IfOk result (λ r. IsRefreshed self.now.known (reply_view r.0) r.1) }
@@ -42,12 +42,11 @@ impl<'a, R: Wait, D: LogDevice, J: IndexName> Group<'a, R, D, J> {
     }
 }
 
-/// Refreshes the copies for a client, and returns how many were refreshed, and what the client knows then. If each copy was passed over, nothing was refreshed,
-/// and the result is an error.
+/// Refreshes the copies for a client, and returns how many were refreshed, and what the client knows then.
 #[tactic(auto, using(crate::proofs::Seeing::has_refreshed))]
-fn refresh_copies<R: Wait, D: LogDevice, J: IndexName>(
+fn refresh_copies<R: Wait + Drop, D: LogDevice, J: IndexName>(
     rt: &R,
-    client: &Client<D, J>,
+    client: &Client<R, D, J>,
     known: &Known<J>,
 ) -> Result<(u64, Known<J>), ClusterFault>
     ensures refreshed { IfOk result (λ r. HasRefreshed known.now r.0 r.1) }
@@ -58,29 +57,26 @@ fn refresh_copies<R: Wait, D: LogDevice, J: IndexName>(
         primary,
         past,
     } = client.refresh(rt)?;
-    let copies = entries.len() as u64;
-    if copies == 0 {
-        return Err(ClusterFault::Copy(CopyFault::Closed));
-    }
     if !known.is_followed_by(&past) {
         return Err(ClusterFault::Stray(0));
     }
     let seen = seen_among(known, primary, entries.as_slice())?;
-    Ok((copies, known.shows(seen, past)))
+    let copies = entries.len() as u64;
+    Ok((copies, known.shows(Some(seen), past)))
 }
 
-/// What a client has seen of a copy after these refreshes: the primary's, if it is among them; else what it saw before.
-#[tactic(auto, using(crate::proofs::Seeing::seen_among, crate::proofs::Seeing::none_seen))]
+/// What a client has seen of the primary after these refreshes. If the primary isn't among them, searches show what they showed, and the result is an error.
+#[tactic(auto, using(crate::proofs::Seeing::seen_among))]
 fn seen_among<J: IndexName>(
     known: &Known<J>,
     primary: u32,
     entries: &[Receipt<J>],
-) -> Result<Option<Heard<J>>, ClusterFault>
-    ensures { IfOk result (λ s. (s ≡ known.now.seen) ⊎ IsSeenAmong known.now.heard known.now.seen primary entries.now s) }
+) -> Result<Heard<J>, ClusterFault>
+    ensures { IfOk result (λ h. IsSeenAmong known.now.heard known.now.seen primary entries.now (Some h)) }
 {
     match entry_of(entries, primary) {
-        Some(entry) => Ok(Some(seen_by(known, entry)?)),
-        None => Ok(again(known.seen())),
+        Some(entry) => seen_by(known, entry),
+        None => Err(ClusterFault::Copy(CopyFault::Closed)),
     }
 }
 

@@ -31,18 +31,18 @@ impl<J: IndexName> Drop for Chair<J> {
 
 impl<J: IndexName> Chair<J> {
     /// A place with a searcher of the primary, if the primary gives one now; else the first search at this place asks for one.
-    pub fn new<R: Wait, D: LogDevice>(rt: &R, client: &Client<D, J>) -> Chair<J> {
+    pub fn new<R: Wait + Drop, D: LogDevice>(rt: &R, client: &Client<R, D, J>) -> Chair<J> {
         Chair {
             seat: Mutex::new(client.searcher(rt, client.primary(rt).primary).ok()),
         }
     }
 
     /// What a search of a copy finds, by the searcher at this place.
-    pub(crate) fn search<R: Wait, D: LogDevice>(
+    pub(crate) fn search<R: Wait + Drop, D: LogDevice>(
         &self,
         rt: &R,
         alloc: Global,
-        client: &Client<D, J>,
+        client: &Client<R, D, J>,
         copy: u32,
         query: &Query,
         page: Page,
@@ -61,9 +61,9 @@ impl<J: IndexName> Chair<J> {
 }
 
 /// A searcher of a copy: the one from before if it is of this copy, else a new one.
-fn seated<R: Wait, D: LogDevice, J: IndexName>(
+fn seated<R: Wait + Drop, D: LogDevice, J: IndexName>(
     rt: &R,
-    client: &Client<D, J>,
+    client: &Client<R, D, J>,
     copy: u32,
     before: Option<CopySearcher<J>>,
 ) -> Result<CopySearcher<J>, ClusterFault>

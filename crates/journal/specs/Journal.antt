@@ -66,12 +66,12 @@ abbrev pub found : Copy → Shut → Bool → List Record
 found c f true = f.other
 found c f false = c.records
 
--- which refusals may be answered: a fault of the log where a record is kept or the copy restarts, want of memory always, another where the step has it
+-- which refusals may be answered: a fault of the log if a record is kept or the copy restarts; a lack of memory always; others if the step has them
 abbrev pub MayRefuse : Copy → Input → CopyFault → Bool → Type 0
 MayRefuse c input e true = (is_restart input || keeps_record c (copy_step c input)) ≡ true
 MayRefuse c input e false = IfSome (fault_of e) (λ f. copy_step c input ≡ Err f)
 
--- a closed copy answers that it is closed, want of memory, and to a restart that its log failed
+-- a closed copy answers that it is closed, that memory ran out, or, to a restart, that its log failed
 abbrev pub may_shut : Bool → CopyFault → Bool
 may_shut restart NoMemory = true
 may_shut restart (Log f) = restart
@@ -132,7 +132,7 @@ IsLegal s place (d ∷ ds) = IsLegalAt s d × IsLegal (next s place d) (suc plac
 abbrev pub placed : ℕ → Move → Placed
 placed place m = record { place = place; what = m }
 
--- whether a refused entry is an event: not for want of memory, nor where the copy is closed, its log failed, or the message is to another
+-- whether a refused entry is an event: not where memory ran out, the copy is closed, its log failed, or the message is to another copy
 abbrev pub is_event : CopyFault → Bool
 is_event NoMemory = false
 is_event Closed = false

@@ -1,9 +1,9 @@
--- The refusals of the master, apart from want of memory and faults of the log.
+-- The refusals of the master, apart from lack of memory and faults of the log.
 use Rattle.std.specs.Prelude.{ℕ, Bool, true, false, List, codes, Option, Some, None}
 use Rattle.master.specs.declared.fault.MasterFault.{MasterFault}
 use Rattle.master.specs.declared.fault.MasterFault.TheVariants.{OldTerm, NotInSync, IsPrimary, Gone, Log, NoMemory, Full}
 
--- nothing for want of memory and for a fault of the log
+-- the fault; none for lack of memory and for a fault of the log
 abbrev pub fault_of : MasterFault → Option MasterFault
 fault_of OldTerm = Some OldTerm
 fault_of NotInSync = Some NotInSync

@@ -86,7 +86,7 @@ pub record IsRefusedAs (e : MasterFault) (old new : Logged) (step : MasterStep) 
   pub cause : step ≡ Err e
   pub same : IsSame old new
 
--- why a request is refused: the first cause of the table, want of memory, or the device's failure, after which the master is closed
+-- why a request is refused: the first cause of the table, lack of memory, or the device's failure, after which the master is closed
 abbrev pub IsRefused : MasterFault → Logged → Logged → MasterStep → Type 0
 IsRefused OldTerm old new step = IsRefusedAs OldTerm old new step
 IsRefused NotInSync old new step = IsRefusedAs NotInSync old new step

@@ -42,7 +42,7 @@ IsBarred h p (Stray place) = IsStray h p place
 IsBarred h p (Forgotten place) = IsForgotten h p place
 IsBarred h p (Refused e) = ⊥
 
--- what a refusal leaves: want of memory and a pass that may not call nothing; a refusal of the copy is a call
+-- what a refusal leaves: nothing where memory runs out or the pass may not call; a call where the copy itself refuses
 abbrev pub IsDenied : JournalData → JournalData → PassData → PassData → Input → NodeFault → Type 0
 IsDenied old new p q input NoMemory = (new ≡ old) × (q ≡ p)
 IsDenied old new p q input NoSeat = ⊥

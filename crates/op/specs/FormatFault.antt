@@ -1,4 +1,4 @@
--- Why a record can't be written or read, apart from want of memory.
+-- Why a record can't be written or read, apart from lack of memory.
 use Rattle.std.specs.Prelude.{Option, Some, None}
 use Rattle.op.specs.declared.fault.OpFault.{OpFault}
 use Rattle.op.specs.declared.fault.OpFault.TheVariants.{Malformed, NoMemory, TooLarge}
@@ -7,7 +7,7 @@ pub data Fault : Type 0 where
   malformed : Fault
   too_large : Fault
 
--- nothing for want of memory
+-- the fault; none for lack of memory
 abbrev pub fault_of : OpFault → Option Fault
 fault_of Malformed = Some malformed
 fault_of NoMemory = None

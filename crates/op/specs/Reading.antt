@@ -135,7 +135,7 @@ group_at bytes = do
   count ← number_at w32 bytes
   if is_group_count count.0 then so_many_kept_at count.0 count.1 else Err malformed
 
--- the group that some bytes are behind its tag: they are all read, and each record keeps the rules
+-- the group that some bytes are after its tag: they are all read, and each record keeps the rules
 unfoldable pub group_of : List ℕ → Result (List Record) Fault
 group_of bytes = do
   rs ← group_at bytes

@@ -52,7 +52,7 @@ pub record IsHistory (term n : ℕ) (os : List Op) : Type 0 where
   pub runs : RunsFrom n os
   pub each : AllByRecursion (IsUpTo term) os
 
--- what holds of a record that is kept: an operation is a write; a resync goes on behind its checkpoint, a recovery begins at number 0;
+-- what holds of a record that is kept: an operation is a write; a resync begins after its checkpoint, a recovery begins at number 0;
 -- a checkpoint is at least -1
 abbrev pub IsRecord : Record → Type 0
 IsRecord (Kept g o) = (negsuc 0 ≤ℤ g) × IsOperation o × IsWrite o.body

@@ -24,7 +24,7 @@ pub fn is_record(found: &Record) -> bool
     }
 }
 
-/// Whether an operation makes a record, beside a global checkpoint.
+/// Whether an operation makes a record together with a global checkpoint.
 pub fn is_op_record(known: i64, op: &Op) -> bool
     ensures { result ≡ spec.is_op_record known op.now }
 {

@@ -1,5 +1,5 @@
 -- What a client knows of copies never goes back.
-use Rattle.std.proofs.Common.{◌≡◌, ◌⊎◌, ℕ, Bool, true, false, List, [], ◌∷◌, Some, inl, inr, refl, sym, ap, subst, ◌∙◌, ⊎_elim}
+use Rattle.std.proofs.Common.{◌≡◌, ℕ, Bool, true, false, List, [], ◌∷◌, Some, inl, inr, refl, sym, ap, subst, ◌∙◌}
 use Rattle.std.specs.Prelude.{IfSome}
 use mathlib.Core.List.{IsPrefix}
 use Rattle.chronicle.specs.Registered.{PrefixData, prefix}
@@ -37,8 +37,7 @@ module _ (before after : Heard) (p q : PrefixData Deed) (was : before ≡ Some p
 
 module _ (before after : KnownData) (p q : PrefixData Deed) (was : before.seen ≡ Some p) (is : after.seen ≡ Some q) where
   as_refreshed : (copies : ℕ) → HasRefreshed before copies after → q.number ≡ p.number → IsPrefix p.entries q.entries
-  as_refreshed copies r same =
-      ⊎_elim (λ (e : after.seen ≡ before.seen). as_before before.seen after.seen p q was is e) (λ (s : IsSeenAmong after.heard before.seen r.primary r.entries after.seen). as_seen before.seen after.seen p q was is after.heard r.primary r.entries s same) r.seen
+  as_refreshed copies r same = as_seen before.seen after.seen p q was is after.heard r.primary r.entries r.seen same
 
   as_wanted : (b : Bool) → (b ≡ true → (copies : ℕ) × HasRefreshed before copies after) → (b ≡ false → (after.seen ≡ before.seen) × (after.past ≡ before.past)) → q.number ≡ p.number → IsPrefix p.entries q.entries
   as_wanted true does other same = let r = does refl in as_refreshed r.0 r.1 same

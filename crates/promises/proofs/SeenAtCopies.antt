@@ -1,5 +1,5 @@
 -- What searches of copies see of a client's writes.
-use Rattle.std.proofs.Common.{◌≡◌, ◌⊎◌, ℕ, Bool, true, false, List, Some, None, inl, inr, refl, sym, ap, subst, ◌∙◌, ⊎_elim}
+use Rattle.std.proofs.Common.{◌≡◌, ℕ, Bool, true, false, List, Some, None, inl, inr, refl, sym, ap, subst, ◌∙◌}
 use Rattle.std.specs.Prelude.{IfSome}
 use mathlib.Core.List.{IsPrefix}
 use Rattle.chronicle.specs.Registered.{PrefixData, prefix}
@@ -81,13 +81,12 @@ ahead_if : (heard : Heard) (r : Receipt) → IfSome heard (λ h. IsAheadOf h r) 
 ahead_if None r ahead = tt
 ahead_if (Some h) r ahead = λ same. (ahead same).entries
 
-seen_by : (before after' : KnownData) (copies : ℕ) → HasRefreshed before copies after' → (after'.seen ≡ before.seen) ⊎ IsRefreshSeen after'
-seen_by before after' copies is = ⊎_elim (λ (e : after'.seen ≡ before.seen). inl e)
-    (λ (s : IsSeenAmong after'.heard before.seen is.primary is.entries after'.seen). inr (record {
-      seen = prefix s.entry.node s.entry.deeds;
-      is = s.seen.seen;
-      behind = ahead_if after'.heard s.entry s.seen.unheard;
-    })) is.seen
+seen_by : (before after' : KnownData) (copies : ℕ) → HasRefreshed before copies after' → IsRefreshSeen after'
+seen_by before after' copies is = record {
+  seen = prefix is.seen.entry.node is.seen.entry.deeds;
+  is = is.seen.seen.seen;
+  behind = ahead_if after'.heard is.seen.entry is.seen.seen.unheard;
+}
 
 pub refreshes_are_seen_at_copies : (J : Type 0) (m : MappingData) → RefreshesAreSeenAtCopies J m
 refreshes_are_seen_at_copies J m c r before after' (inr refusal) does fine = not_refused r refusal.0.refusal refusal.0.told fine

@@ -1,6 +1,6 @@
 -- What a client of an index of several copies may rely on. The client knows the first entries of the journal of the copy that it heard of last, and of the
 -- master's journal.
-use Rattle.std.specs.Prelude.{◌≡◌, ◌⊎◌, ◌++◌, ℕ, Bool, true, false, List, [], ◌∷◌, Option, Some, IfSome}
+use Rattle.std.specs.Prelude.{◌≡◌, ◌++◌, ℕ, Bool, true, false, List, [], ◌∷◌, Option, Some, IfSome}
 use mathlib.Core.List.{IsPrefix}
 use Rattle.chronicle.specs.Registered.{PrefixData}
 use Rattle.doc.specs.Id.{Id}
@@ -64,7 +64,7 @@ pub record IsReadAfter (id : Id) (r : Reply) (node : ℕ) (deeds : List Deed) (o
   pub left : os ≡ operations (after (open_at opening) 0 deeds).copy
   pub told : r ≡ reply_of 0 (get_answer (document_of (last_on os id)))
 
--- what a copy has after these entries, which leave it these operations. If it's the copy that confirmed the write, the entries go on from those that the client
+-- what a copy has after these entries, which leave it these operations. If it's the copy that confirmed the write, the entries extend those that the client
 -- knew then; and if no entry after that of the write is a reset, the copy has the write or a newer one
 pub record HasFrom (acked : PrefixData Deed) (id : Id) (seq node : ℕ) (deeds : List Deed) (os : List one.Op) : Type 0 where
   pub goes_on : node ≡ acked.number → IsPrefix acked.entries deeds
@@ -139,7 +139,7 @@ IsReplyAfter m (bulk ws) r node deeds os = ⊥
 IsReplyAfter m refresh r node deeds os = ⊥
 IsReplyAfter m (promote copy) r node deeds os = ⊥
 
--- the reply answers the command from what the primary has: that copy is the primary after a past of the master that goes on from this one
+-- the reply answers the command from what the primary has: that copy is the primary after a past of the master that extends this one
 pub record IsOfPrimary (m : MappingData) (past : List MasterEntry) (c : Command) (r : Reply) : Type 0 where
   pub node : ℕ
   pub deeds : List Deed
@@ -169,10 +169,10 @@ WritesAreSeenAtCopies J m =
     → IsAcknowledged w x asked reply → IsTold J m before asked reply after → after.heard ≡ Some acked → Knows acked later.seen → IsTold J m later c r new
     → is_search c ≡ true → is_refused r ≡ false → IsSeenFrom m acked w.id x.seq c r
 
--- a client that knows from a reply that copies were refreshed, alone or after a write, has seen the primary's refresh, unless the primary was passed over
+-- a client that knows from a reply that copies were refreshed, alone or after a write, has seen the primary's refresh
 abbrev pub RefreshesAreSeenAtCopies : Type 0 → MappingData → Type 0
 RefreshesAreSeenAtCopies J m =
-    (c : Command) (r : Reply) (before after : KnownData) → IsTold J m before c r after → refreshes c ≡ true → is_refused r ≡ false → (after.seen ≡ before.seen) ⊎ IsRefreshSeen after
+    (c : Command) (r : Reply) (before after : KnownData) → IsTold J m before c r after → refreshes c ≡ true → is_refused r ≡ false → IsRefreshSeen after
 
 -- what a client knows of a copy from one reply is the beginning of what it knows of it from the next
 abbrev pub NeverBackAtCopies : Type 0 → MappingData → Type 0
@@ -188,8 +188,8 @@ SearchesNeverBackAtCopies J m =
 abbrev pub MasterNeverBack : Type 0 → MappingData → Type 0
 MasterNeverBack J m = (c : Command) (r : Reply) (before after : KnownData) → IsTold J m before c r after → IsPrefix before.past after.past
 
--- a client knows from a reply that the master made a copy the primary, and goes on from there. Then its replies about documents come from the copy that is the
--- primary after entries of the master's journal that go on from that decision
+-- a client learns from a reply that the master made a copy the primary. Then its later replies about documents come from the copy that is the
+-- primary after entries of the master's journal that extend those up to that decision
 abbrev pub PromotionsAreFollowed : Type 0 → MappingData → Type 0
 PromotionsAreFollowed J m =
     (copy term : ℕ) (c : Command) (r : Reply) (before after later new : KnownData)

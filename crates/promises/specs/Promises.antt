@@ -1,4 +1,4 @@
--- What a client of an index of one copy may rely on. The client goes on from a place of the index's history, and each reply brings it to a place that isn't
+-- What a client of an index of one copy may rely on. The client starts from a place of the index's history, and each reply brings it to a place that isn't
 -- before that.
 use Rattle.std.specs.Prelude.{◌≡◌, ◌≤◌, ℕ, Bool, true, false, List, Option, Some, None, length, slice_get}
 use Rattle.std.specs.List.{flat_map}

@@ -21,7 +21,7 @@ use Rattle.group.specs.Group.{IsTold}
 use Rattle.group.specs.Known.{KnownData}
 use Rattle.promises.specs.Promises.{HasWrite, IsAcknowledged}
 
--- the journal of the copy is among these, and goes on from what the client knows of it
+-- the journal of the copy is among these, and extends what the client knows of it
 pub record IsKnownOf (js : List Journal) (known : PrefixData Deed) : Type 0 where
   pub opening : Copy
   pub deeds : List Deed
@@ -35,7 +35,7 @@ pub record IsHeldIn (w : World) (id : Id) (seq : ℕ) : Type 0 where
 
 -- ---- the promise
 
--- if a client knows from a reply that a write is done, the index has the write at the end of each run in which a journal goes on from what the client knew from
+-- if a client knows from a reply that a write is done, the index has the write at the end of each run in which a journal extends what the client knew from
 -- that reply
 abbrev pub WritesAreHeldInRuns : Type 0 → MappingData → Type 0
 WritesAreHeldInRuns J m =

@@ -49,7 +49,7 @@ pub fn writes_are_seen_at_copies<J: IndexName>()
 {}
 
 /// Of several copies: a client with a reply to a refresh, or to a write with `refresh=true`, has seen the primary's refresh, after all that it heard of the
-/// primary; unless the primary was passed over.
+/// primary.
 pub fn refreshes_are_seen_at_copies<J: IndexName>()
     ensures { RefreshesAreSeenAtCopies J J.index.mapping }
 {}
@@ -72,7 +72,7 @@ pub fn the_master_never_goes_back<J: IndexName>()
 {}
 
 /// Of several copies: after a client has the reply to a promotion, the copy that answers its gets, searches and counts is the primary after entries of the
-/// master's journal that go on from that decision.
+/// master's journal that extend those up to that decision.
 pub fn promotions_are_followed<J: IndexName>()
     ensures { PromotionsAreFollowed J J.index.mapping }
 {}
@@ -80,7 +80,7 @@ pub fn promotions_are_followed<J: IndexName>()
 /// Of several copies, over promotions, recoveries and restarts: at the end of a run each copy that is in sync has a write that a client knows from a reply as
 /// done, or a newer one on its id. A run is a list of events of which the journals of all nodes are made, as an audit finds one. So the law assumes that each
 /// message that came was sent before, and assumes nothing else of messages that are lost, repeated or late. In the run, the journal of the copy that confirmed
-/// the write goes on from what the client knew from that reply.
+/// the write extends what the client knew from that reply.
 pub fn writes_are_held_in_runs<J: IndexName>()
     ensures { WritesAreHeldInRuns J J.index.mapping }
 {}

@@ -1,4 +1,4 @@
--- The faults of queries, apart from want of memory.
+-- The faults of queries, apart from lack of memory.
 use Rattle.std.specs.Prelude.{ℕ, List, codes, Option, Some, None, string_bytes}
 use Rattle.query.specs.declared.fault.QueryFault.{QueryFault}
 use Rattle.query.specs.declared.fault.QueryFault.TheVariants.{Parsing, ParsingAt, TooManyClauses, TooDeep, WrongKind, NoMemory, WindowTooLarge}
@@ -10,7 +10,7 @@ pub data Fault : Type 0 where
   wrong_kind : List ℕ → Fault
   window_too_large : Fault
 
--- nothing for want of memory
+-- the fault; none for lack of memory
 abbrev pub fault_of : QueryFault → Option Fault
 fault_of (Parsing what) = Some parsing
 fault_of (ParsingAt key what) = Some parsing

@@ -18,7 +18,7 @@ max_depth = 20
 abbrev pub max_clauses : ℕ
 max_clauses = 1024
 
--- one after another; each is told how many clauses are left, and tells how many are left after it
+-- one after another; each takes how many clauses are left, and gives how many are left after it
 abbrev pub thread : {A B F : Type 0} → (ℕ → A → Result (B × ℕ) F) → ℕ → List A → Result (List B × ℕ) F
 thread f left [] = Ok ([], left)
 thread f left (x ∷ xs) = f left x >>= λ y. thread f y.1 xs >>= λ ys. Ok (y.0 ∷ ys.0, ys.1)

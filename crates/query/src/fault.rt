@@ -26,7 +26,7 @@ pub enum QueryFault {
 }
 
 impl QueryFault {
-    /// The name of the fault, without what it says beside.
+    /// The name of the fault, without its details.
     pub fn name(&self) -> &'static str
         ensures { MatchOption (fault_of self.now) (result.now ≡ codes "NoMemory") (λ f. result.now ≡ name_of f) }
     {

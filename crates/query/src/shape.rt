@@ -137,7 +137,7 @@ fn is_ignored(name: &str) -> bool
     name == "boost" || name == "_name"
 }
 
-/// The keys that an object of a query may have beside those that are read over.
+/// The keys that an object of a query may have in addition to those that are skipped.
 #[derive(Clone, Copy)]
 pub(crate) enum Keys {
     MatchAll,

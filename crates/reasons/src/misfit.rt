@@ -22,7 +22,7 @@ pub(crate) fn misfit(
     }
 }
 
-/// The same of the members of an object; `rest` is what the keys above them leave of the path.
+/// What is wrong with the first misfit among the members of an object; `rest` is what the keys above them leave of the path.
 #[cycle(misfits)]
 fn misfit_in(
     alloc: Global,
@@ -43,7 +43,7 @@ fn misfit_in(
     Ok(None)
 }
 
-/// The same of the value of a key. A key may have points, so several may begin the same path.
+/// What is wrong with the first misfit in the value of a key. A key may have points, so several may begin the same path.
 #[cycle(misfits)]
 fn misfit_behind(
     alloc: Global,
@@ -65,7 +65,7 @@ fn misfit_behind(
     }
 }
 
-/// The same of the objects that a value has.
+/// What is wrong with the first misfit in the objects that a value has.
 #[cycle(misfits)]
 fn misfit_within(
     alloc: Global,
@@ -86,7 +86,7 @@ fn misfit_within(
     Ok(None)
 }
 
-/// The same of a value that stands at the path.
+/// What is wrong with the first part of a value at the path that doesn't fit.
 fn misfit_at(
     alloc: Global,
     subject: Option<Subject>,

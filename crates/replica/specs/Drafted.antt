@@ -1,4 +1,4 @@
--- Writes of a bulk whose records are kept together with those behind them.
+-- Writes of a bulk whose records are kept together with those of the writes after them.
 -- For proofs alone.
 use Rattle.std.specs.Prelude.{◌≡◌, ℕ, suc, false, ◌≤◌, List, [], ◌∷◌, ◌++◌, length}
 use Rattle.std.specs.List.{AllByRecursion}
@@ -28,7 +28,7 @@ RiseTo n (Kept g o ∷ rs) m = IsRecord (Kept g o) × (n ≤ o.seq) × RiseTo (s
 RiseTo n (Resync term g tail ∷ rs) m = ⊥
 RiseTo n (Recover term all ∷ rs) m = ⊥
 
--- the records go on from those of the copy, and their operations are found ahead
+-- the records follow those of the copy, and their operations are found ahead
 pub record IsDrafted (c : Copy) (d : Draft) : Type 0 where
   pub rise : RiseTo (next_seq (operations c)) d.records.items d.next
   pub next : d.next ≡ next_seq (operations (drafted c d))

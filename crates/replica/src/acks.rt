@@ -10,8 +10,8 @@ use checkpoint::{Span, Tracker};
 use std::alloc::{AllocError, Global};
 use std::marker::Model;
 
-/// Sequence numbers, one behind another. Those that lie near the least take a few words, however many they are; the list behind them has
-/// what doesn't lie there, which is nothing where they rise within a window.
+/// Sequence numbers, one after another. Those near the least take a few words, however many they are; the list after them has the others,
+/// and is empty where the numbers rise within a window.
 pub struct Numbers {
     near: Span,
     far: Vec<u64>,
@@ -45,21 +45,21 @@ impl Numbers {
         }
     }
 
-    /// The numbers of a span, and those of a list behind them.
+    /// The numbers of a span, and after them those of a list.
     pub(crate) fn of(near: Span, far: Vec<u64>) -> Numbers
         ensures { result ≡ near ++ far.items }
     {
         Numbers { near, far }
     }
 
-    /// The span, and the list behind it.
+    /// The span, and the list after it.
     pub(crate) fn parts(&self) -> (&Span, &[u64])
         ensures { result.0.now ++ result.1.now ≡ self.now }
     {
         (&self.near, self.far.as_slice())
     }
 
-    /// These and one more behind them.
+    /// These numbers, and one more after them.
     pub fn then(&self, alloc: Global, number: u64) -> Result<Numbers, AllocError>
         ensures { IfOk result (λ a. a ≡ self.now ++ number ∷ []) }
     {
@@ -167,7 +167,7 @@ impl Acks {
         Tracker::at(-1)
     }
 
-    /// The same, with what a copy has acknowledged in place of what it had.
+    /// The acknowledgements with these numbers of a copy in place of those that it had.
     pub fn with(&self, alloc: Global, id: u32, numbers: &Tracker) -> Result<Acks, AllocError>
         ensures { IfOk result (λ a. a ≡ put nat_cmp id numbers.now self.now) }
     {

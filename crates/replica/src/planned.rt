@@ -48,7 +48,7 @@ pub struct PlannedAll {
 }
 
 impl PlannedAll {
-    /// The same step without the records.
+    /// The step of this bulk without its records.
     pub(crate) fn into_settled(self) -> Settled
         ensures known { result.known ≡ self.known }
         ensures role { result.role ≡ self.role }
@@ -80,7 +80,7 @@ pub struct Settled {
 impl Settled {
     ghost use Rattle.replica.specs.Planned.{with_record};
 
-    /// The same step with a record that it keeps, and the term that it leaves.
+    /// This step with a record that it keeps, and the term that it leaves.
     pub(crate) fn keeping(self, next_record: Record, term: u64) -> Planned
         ensures { result ≡ with_record self next_record term }
     {

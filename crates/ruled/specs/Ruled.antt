@@ -68,7 +68,7 @@ pub record IsRuling (old new : RuledData) (pass : ℕ) (request : Request) (answ
   pub unasked : (before ≡ old.entries) ⊎ IsEntered old before
   pub entries : new.entries ≡ before ++ Answered (ruling pass request answer) ∷ []
 
--- a refusal is an entry too, but for want of memory and a log that fails
+-- a refusal is an entry too, except where memory runs out or the log fails
 abbrev pub IsUnruled : RuledData → RuledData → ℕ → Request → MasterFault → Type 0
 IsUnruled old new pass request OldTerm = IsRuling old new pass request (Err OldTerm)
 IsUnruled old new pass request NotInSync = IsRuling old new pass request (Err NotInSync)

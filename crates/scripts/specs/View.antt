@@ -41,7 +41,7 @@ command_view (TornPut copy kept id source) = command.torn_put copy kept id.now s
 command_view (Bulk copy ids) = command.bulk copy ids
 command_view (TornBulk copy kept ids) = command.torn_bulk copy kept ids
 
--- nothing for want of memory
+-- the refusal that a script sees, or nothing where memory ran out
 abbrev pub refusal_of : Refusal → Option refusal.Refusal
 refusal_of BadLine = Some refusal.bad_line
 refusal_of NotOpen = Some refusal.not_open

@@ -17,7 +17,7 @@ places_posted p es = places_posted_on p [] es
 abbrev pub with_lists : {K : Type 0} → List (K × Places) → List (K × List ℕ)
 with_lists es = map (λ e. (e.0, as_list e.1)) es
 
--- a key with its places, and the keys of the postings behind it, where equal neighbours are one
+-- a key with its places, then the keys of the postings with theirs, where equal neighbours are one
 abbrev pub runs_from : {K : Type 0} → (K → K → Bool) → K → List ℕ → List (K × ℕ) → List (K × List ℕ)
 runs_from eq k ps [] = (k, ps) ∷ []
 runs_from eq k ps (e ∷ es) = if eq e.0 k then runs_from eq k (added ps e.1) es else (k, ps) ∷ runs_from eq e.0 (e.1 ∷ []) es

@@ -30,11 +30,11 @@ IsMakingOr fields docs n name (Some m) = IsColumnOf fields docs name n m
 abbrev pub AreMakings : Fields → List Values → ℕ → BTreeMap (String Global) (Box Making Global) → Type 0
 AreMakings fields docs n ms = (name : List ℕ) → IsMakingOr fields docs n name (making_at ms name)
 
--- documents behind so many that have no values
+-- documents after so many that have no values
 abbrev pub behind : ℕ → List Values → List Values
 behind begin docs = replicate begin [] ++ docs
 
--- the same column, however its texts and numbers are put
+-- the new column has what the old one has, however its texts and numbers are put
 pub record IsPut (old new : Making) : Type 0 where
   pub has : new.has ≡ old.has
   pub texts : (w : List ℕ) → places_so_far new.texts w ≡ places_so_far old.texts w

@@ -41,7 +41,7 @@ places_in m w = option_map_or as_list (get_by_text m w) []
 abbrev pub words_of : {Y Z : Type 0} → Vec (String Y) Z → List (List ℕ)
 words_of v = map string_bytes v.items
 
--- the same of a dictionary in order
+-- the places of a word, none where the dictionary in order hasn't it
 abbrev pub places_at : {Y : Type 0} → BTreeMap (String Y) Places → List ℕ → List ℕ
 places_at m w = option_map_or as_list (tree.get_by_text m w) []
 
@@ -49,7 +49,7 @@ places_at m w = option_map_or as_list (tree.get_by_text m w) []
 abbrev pub has_prefix : List ℕ → List (List ℕ) → Bool
 has_prefix p ws = list_any (λ w. starts_with nat_eq w p) ws
 
--- the same of numbers
+-- the places of a number, none where the dictionary hasn't it
 abbrev pub places_at_long : BTreeMap ℤ Places → ℤ → List ℕ
 places_at_long m z = option_map_or as_list (lookup (int_eq z) m.entries) []
 

@@ -20,7 +20,7 @@ places_so_far (Ordered m) w = places_at m w
 places_so_far (Table m) w = places_in m w
 places_so_far (Listed pairs) w = places_listed (λ k. bytes_eq w (string_bytes k)) pairs.items
 
--- the same of a number
+-- the places of a number in the making
 abbrev pub places_so_far_long : Longs → ℤ → List ℕ
 places_so_far_long (longs.Ordered m) z = places_at_long m z
 places_so_far_long (longs.Posted postings) z = places_posted (int_eq z) postings.items

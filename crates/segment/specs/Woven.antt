@@ -42,7 +42,7 @@ pub record IsAt (zs : List (List ℕ)) (ts : List Bool) (d : List ℕ) (bound at
   pub free : slice_index_or ts at false ≡ false
   pub marked : new ≡ slice_set old at true
 
--- the same of the place that a document is given, which is the next bound; without one nothing changes
+-- a document is the one at the place that it is given, which is the next bound; without a place nothing changes
 abbrev pub Stands : List (List ℕ) → List Bool → List ℕ → ℕ → Option ℕ → ℕ → List Bool → List Bool → Type 0
 Stands zs ts d bound None next old new = (next ≡ bound) × (new ≡ old)
 Stands zs ts d bound (Some at) next old new = (next ≡ at) × IsAt zs ts d bound at old new

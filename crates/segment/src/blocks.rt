@@ -105,7 +105,7 @@ pub(crate) fn blocks_of(
     Ok(closed)
 }
 
-/// Puts a block behind the others where it is full, and begins the next.
+/// Adds a block to the others if it is full, and begins the next.
 fn close_if_full(
     alloc: Global,
     blocks: &mut Vec<Block>,
@@ -140,7 +140,7 @@ pub(crate) fn mark_block(block: &Block, limits: Limits, marks: &mut Marks)
     }
 }
 
-/// The same of numbers, one after another.
+/// Marks the documents of those numbers that lie within the limits, one number after another.
 fn mark_each(numbers: &[Number], limits: Limits, marks: &mut Marks)
     requires { All (λ n. n.place < length marks.old) numbers.now }
     ensures { marks.new ≡ marked marks.old (hits (λ z. spec.is_within (limits_view limits) (scalar.long z)) numbers.now) }

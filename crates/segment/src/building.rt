@@ -26,7 +26,7 @@ pub(crate) fn columns_of(
     finish_all(alloc, makings, sources.len())
 }
 
-/// The columns of documents that stand behind so many others, of so many in all. The documents are read one after another, and only their terms stay.
+/// The columns of documents that stand after so many others, of so many in all. The documents are read one after another, and only their terms stay.
 pub(crate) fn makings_of(
     alloc: Global,
     mapping: &Mapping,

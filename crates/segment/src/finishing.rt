@@ -28,7 +28,7 @@ pub(crate) fn finish_all(
     Ok(columns)
 }
 
-/// The same columns with their texts listed.
+/// Lists the texts of each column, and gives the columns back.
 pub(crate) fn list_all(alloc: Global, makings: Makings) -> Result<Makings, AllocError>
     ensures { IfOk result (ArePut makings) }
 {

@@ -10,7 +10,7 @@ use crate::texts::add_place;
 use std::alloc::{AllocError, Global};
 use std::mem;
 
-/// The same postings in order of their keys. Those of one key stay in their order.
+/// Sorts postings by their keys. Those of one key stay in their order.
 pub(crate) fn in_turn<K: Ord + Drop>(
     mut postings: Vec<(K, u32)>,
 ) -> Result<Vec<(K, u32)>, AllocError>
@@ -53,7 +53,7 @@ fn runs_of<K: Ord + Drop>(
     Ok(closed)
 }
 
-/// Adds a place to the last key, where it has the same, or else a key behind it.
+/// Adds the place of a posting to the last key if that is the posting's; else the posting's key becomes the last.
 fn add_posting<K: Ord + Drop>(
     alloc: Global,
     closed: &mut Vec<(K, Places)>,

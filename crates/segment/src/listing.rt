@@ -1,4 +1,4 @@
-//! Keys with their places, listed behind one another: a key may stand more than once.
+//! Keys with their places, listed one after another: a key may stand more than once.
 ghost use Rattle.std.specs.Prelude.{◌≡◌, ◌∷◌, ◌++◌, [], List, length, IfOk, OnOk};
 ghost use Rattle.std.specs.BTreeMap.{is_at, IsOrdered};
 ghost use Rattle.std.specs.List.{dedup, dedup_from};
@@ -11,7 +11,7 @@ use std::alloc::{AllocError, Global};
 use std::collections::BTreeMap;
 use std::mem;
 
-/// The same pairs in order of their keys. The pairs of one key stay in their order.
+/// Sorts pairs by their keys. The pairs of one key stay in their order.
 pub(crate) fn sorted<K: Ord + Drop>(
     mut pairs: Vec<(K, Places)>,
 ) -> Result<Vec<(K, Places)>, AllocError>
@@ -89,7 +89,7 @@ fn put_together<K: Ord + Drop>(
     Ok(closed)
 }
 
-/// Adds a pair to the last one, where it has the same key, or else behind it.
+/// Adds the places of a pair to the last pair if that has the same key; else the pair becomes the last.
 fn add_pair<K: Ord + Drop>(
     alloc: Global,
     closed: &mut Vec<(K, Places)>,

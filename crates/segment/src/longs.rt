@@ -17,7 +17,7 @@ use std::mem;
 /// The numbers of so many documents are sooner listed as they come, and put in order at the end, than looked for.
 const LEAST_DOCUMENTS: usize = 64;
 
-/// Numbers with their places, in order from the first, or else each with a place as they come. Those of pieces are listed behind one another.
+/// Numbers with their places, in order from the first, or else each with a place as they come. Those of pieces are listed one after another.
 #[derive(Drop)]
 pub enum Longs {
     Ordered(BTreeMap<i64, Places>),
@@ -93,7 +93,7 @@ impl Longs {
         }
     }
 
-    /// The same places. Numbers that are listed as they came are put in order: a piece does so beside the others.
+    /// Sorts postings by their numbers; other lists stay as they are. Each piece does so concurrently with the others.
     pub(crate) fn sorted(self) -> Result<Longs, AllocError>
         ensures { IfOk result (λ l. (z : ℤ) → places_so_far_long l z ≡ places_so_far_long self z) }
     {
@@ -103,7 +103,7 @@ impl Longs {
         }
     }
 
-    /// The same places, listed.
+    /// Lists the numbers with their places: a number may stand more than once.
     pub(crate) fn listed(self, alloc: Global) -> Result<Vec<(i64, Places)>, AllocError>
         ensures { IfOk result (λ v. (z : ℤ) → places_listed (int_eq z) v.items ≡ places_so_far_long self z) }
     {
@@ -114,7 +114,7 @@ impl Longs {
         }
     }
 
-    /// The same places, in order of the numbers.
+    /// Puts the numbers with their places into a map.
     pub(crate) fn in_order(self, alloc: Global) -> Result<BTreeMap<i64, Places>, AllocError>
         ensures { IfOk result (λ m. (z : ℤ) → places_at_long m z ≡ places_so_far_long self z) }
     {
@@ -133,7 +133,7 @@ fn list_of(alloc: Global, longs: BTreeMap<i64, Places>) -> Result<Vec<(i64, Plac
     Vec::from_iter(alloc, longs)
 }
 
-/// The same postings in order of their numbers.
+/// Sorts postings by their numbers.
 fn sort(postings: Vec<(i64, u32)>) -> Result<Vec<(i64, u32)>, AllocError>
     ensures { IfOk result (λ v. (z : ℤ) → places_posted (int_eq z) v.items ≡ places_posted (int_eq z) postings.items) }
 {
@@ -149,7 +149,7 @@ fn group(alloc: Global, postings: Vec<(i64, u32)>) -> Result<Vec<(i64, Places)>,
     Ok(grouped)
 }
 
-/// The same in order of the numbers.
+/// Puts the numbers of the postings with their places into a map.
 fn put_in_order(
     alloc: Global,
     postings: Vec<(i64, u32)>,
@@ -182,7 +182,7 @@ fn unite(alloc: Global, pairs: Vec<(i64, Places)>) -> Result<BTreeMap<i64, Place
     Ok(united)
 }
 
-/// Lists a number with a place behind the others.
+/// Lists a number with a place after the others.
 fn post_behind(postings: &mut Vec<(i64, u32)>, number: i64, at: u32) -> Result<(), AllocError>
     ensures here { OnOk result (places_posted (int_eq number) postings.new.items ≡ added (places_posted (int_eq number) postings.old.items) at) }
     ensures others { OnOk result ((z : ℤ) → int_eq number z ≡ false → places_posted (int_eq z) postings.new.items ≡ places_posted (int_eq z) postings.old.items) }

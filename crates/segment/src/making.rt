@@ -44,7 +44,8 @@ impl Making {
         })
     }
 
-    /// Lists the texts and sorts the numbers, so that they can be put behind those of earlier documents. Numbers are listed with all their places as they are joined, since that takes half as much room again.
+    /// Lists the texts and sorts the numbers, so that they can be put after those of earlier documents. Numbers are listed with all their places
+    /// as they are joined, since that takes half as much room again.
     pub(crate) fn list(&mut self, alloc: Global) -> Result<(), AllocError>
         ensures { OnOk result (IsPut self.old self.new) }
     {

@@ -74,7 +74,7 @@ fn piece_size(len: usize) -> usize
     (len / MOST_PIECES + 1).max(LEAST_PIECE)
 }
 
-/// The columns of a piece. Where it isn't all, their texts are listed, to be put behind those of the pieces before it.
+/// The columns of a piece. Where it isn't all, their texts are listed, to be put after those of the pieces before it.
 fn piece_of(
     alloc: Global,
     mapping: &Mapping,

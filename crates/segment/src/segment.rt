@@ -80,7 +80,7 @@ impl Segment {
         })
     }
 
-    /// The same, built on threads beside one another where there are many documents.
+    /// Builds the segment that `build` gives, concurrently on several threads where there are many documents.
     pub fn build_on<R: Threads + Sync>(
         rt: &R,
         alloc: Global,
@@ -262,7 +262,7 @@ impl Segment {
         }
     }
 
-    /// The same where the field has this column: the words with the prefix stand side by side.
+    /// Marks the documents in which a term of the field, which has this column, begins with the text. Such words stand side by side.
     fn mark_begun(
         &self,
         alloc: Global,
@@ -329,7 +329,7 @@ impl Segment {
         }
     }
 
-    /// The same, by the blocks of numbers.
+    /// Marks those that have a number within the limits as a term, block by block.
     fn mark_numbers(&self, column: &Column, _name: &str, limits: Limits, marks: &mut Marks)
         requires whole { length marks.old ≡ length self.now.sources }
         requires is { IsColumn self.now.mapping.fields (map (all_values self.now.mapping) self.now.sources) _name.now column.now }
@@ -342,7 +342,7 @@ impl Segment {
         }
     }
 
-    /// The same, by the lists of the numbers within the bounds.
+    /// Marks those that have a number within the bounds as a term, by the lists of those numbers.
     fn mark_lists(&self, column: &Column, _name: &str, bounds: &Bounds, marks: &mut Marks)
         requires whole { length marks.old ≡ length self.now.sources }
         requires is { IsColumn self.now.mapping.fields (map (all_values self.now.mapping) self.now.sources) _name.now column.now }

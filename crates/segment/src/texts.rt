@@ -15,7 +15,7 @@ use std::mem;
 /// The texts of so many documents are found sooner in a table, even if they are put in order after that.
 const LEAST_DOCUMENTS: usize = 64;
 
-/// Texts with their places, in order from the first, or else to be put in order at the end. Those of pieces are listed behind one another.
+/// Texts with their places, in order from the first, or else to be put in order at the end. Those of pieces are listed one after another.
 #[derive(Drop)]
 pub enum Texts {
     Ordered(BTreeMap<String, Places>),
@@ -97,7 +97,7 @@ impl Texts {
         }
     }
 
-    /// The same places, listed. The texts of a piece are in order.
+    /// Lists the texts with their places. The texts of a piece are in order.
     pub(crate) fn listed(self, alloc: Global) -> Result<Vec<(String, Places)>, AllocError>
         ensures { IfOk result (λ v. (w : List ℕ) → places_listed (λ k. bytes_eq w (string_bytes k)) v.items ≡ places_so_far self w) }
     {
@@ -108,7 +108,7 @@ impl Texts {
         }
     }
 
-    /// The same places, in order of the texts.
+    /// Puts the texts with their places into a map.
     pub(crate) fn in_order(self, alloc: Global) -> Result<BTreeMap<String, Places>, AllocError>
         ensures { IfOk result (λ m. (w : List ℕ) → places_at m w ≡ places_so_far self w) }
     {

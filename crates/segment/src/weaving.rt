@@ -113,7 +113,7 @@ fn add_strand(
     Ok(true)
 }
 
-/// The places among all documents at which those of a part stand, where each stands at the place that it is given, behind the one before, and no place is taken; else none.
+/// The places of a part's documents among all, if each stands at the place that it is given, after the one before, and no place is taken; else none.
 pub(crate) fn placed(
     alloc: Global,
     sources: &[Source],

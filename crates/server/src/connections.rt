@@ -115,9 +115,9 @@ where
 
 /// An index of several copies: its name, its mapping and the client of its copies.
 #[derive(Drop)]
-pub(crate) struct Index<'a, D: LogDevice, J: IndexName> {
+pub(crate) struct Index<'a, R: Wait + Drop, D: LogDevice, J: IndexName> {
     pub(crate) label: &'a IndexLabel<J>,
-    pub(crate) client: &'a Client<D, J>,
+    pub(crate) client: &'a Client<R, D, J>,
 }
 
 /// Serves connections to copies on threads of their own, as `serve_connections` does. No lock is round the index.
@@ -125,10 +125,10 @@ pub(crate) fn serve_group<R, D, W, J>(
     rt: &R,
     alloc: Global,
     clients: &Clients<'_, W, Known<J>>,
-    index: &Index<'_, D, J>,
+    index: &Index<'_, R, D, J>,
 ) -> io::Result<()>
 where
-    R: Threads + Wait + Clock + Sync,
+    R: Threads + Wait + Clock + Send + Sync + Drop,
     D: LogDevice + Send,
     W: Watcher,
     J: IndexName + Send + Sync + 'static,
@@ -141,11 +141,11 @@ fn serve_chairs<R, D, W, J>(
     rt: &R,
     alloc: Global,
     clients: &Clients<'_, W, Known<J>>,
-    index: &Index<'_, D, J>,
+    index: &Index<'_, R, D, J>,
     chairs: &[Chair<J>; 8],
 ) -> io::Result<()>
 where
-    R: Threads + Wait + Clock + Sync,
+    R: Threads + Wait + Clock + Send + Sync + Drop,
     D: LogDevice + Send,
     W: Watcher,
     J: IndexName + Send + Sync + 'static,
@@ -180,10 +180,10 @@ where
 }
 
 /// The copies as a thread sees them that knows nothing of their history.
-fn group_of<'a, R: Wait, D: LogDevice, J: IndexName>(
+fn group_of<'a, R: Wait + Drop, D: LogDevice, J: IndexName>(
     rt: &'a R,
     alloc: Global,
-    index: &Index<'a, D, J>,
+    index: &Index<'a, R, D, J>,
     chair: &'a Chair<J>,
 ) -> Group<'a, R, D, J> {
     Group {
@@ -197,10 +197,10 @@ fn group_of<'a, R: Wait, D: LogDevice, J: IndexName>(
 }
 
 /// Refreshes all copies, and reports whether that was done.
-fn refresh_all<R: Wait, D: LogDevice, J: IndexName>(
+fn refresh_all<R: Wait + Drop, D: LogDevice, J: IndexName>(
     rt: &R,
     alloc: Global,
-    index: &Index<'_, D, J>,
+    index: &Index<'_, R, D, J>,
     chair: &Chair<J>,
 ) -> bool {
     let mut group = group_of(rt, alloc, index, chair);
@@ -210,16 +210,19 @@ fn refresh_all<R: Wait, D: LogDevice, J: IndexName>(
 }
 
 /// Refreshes all copies of an index at rest: that shows nothing new, and each copy merges its segments until few are left.
-fn rest_all<R: Wait, D: LogDevice, J: IndexName>(
+fn rest_all<R: Wait + Drop, D: LogDevice, J: IndexName>(
     rt: &R,
     alloc: Global,
-    index: &Index<'_, D, J>,
+    index: &Index<'_, R, D, J>,
     chair: &Chair<J>,
 ) {
     let _is_refreshed = refresh_all(rt, alloc, index, chair);
 }
 
-fn chairs_of<R: Wait, D: LogDevice, J: IndexName>(rt: &R, client: &Client<D, J>) -> [Chair<J>; 8] {
+fn chairs_of<R: Wait + Drop, D: LogDevice, J: IndexName>(
+    rt: &R,
+    client: &Client<R, D, J>,
+) -> [Chair<J>; 8] {
     [
         Chair::new(rt, client),
         Chair::new(rt, client),

@@ -122,7 +122,7 @@ pub(crate) fn listen_to_group<R, O, E, D, J>(
     rt: &R,
     settings: Settings<'_>,
     rule: &Rule,
-    index: &Index<'_, D, J>,
+    index: &Index<'_, R, D, J>,
     faults: &SumFaults,
     output: &mut O,
     errors: &mut E,
@@ -133,7 +133,9 @@ where
         + Threads
         + Wait
         + Clock
-        + Sync,
+        + Send
+        + Sync
+        + Drop,
     O: Write,
     E: Write + Send,
     D: LogDevice + Send,
@@ -157,7 +159,7 @@ fn serve_index<R, D, J>(
     settings: Settings<'_>,
     rule: &Rule,
     listener: TcpListener,
-    index: &Index<'_, D, J>,
+    index: &Index<'_, R, D, J>,
     lines: &Lines,
 ) -> Result<(), ServeFault>
 where
@@ -166,7 +168,9 @@ where
         + Threads
         + Wait
         + Clock
-        + Sync,
+        + Send
+        + Sync
+        + Drop,
     D: LogDevice + Send,
     J: IndexName + Send + Sync + 'static,
 {

@@ -114,7 +114,7 @@ fn led(
 fn leading(mut shard: Shard<LogFile>) -> Result<(Shard<LogFile>, bool), DataFault> {
     let fault = match shard.lead() {
         Ok(true) => return Ok((shard, true)),
-        Ok(false) => if shard.is_in_sync() && shard.reopen().is_ok() {
+        Ok(false) => if shard.is_in_sync() && shard.reopen().is_ok() && shard.is_open() {
             return Ok((shard, false));
         } else {
             DataFault::NotLed

@@ -166,7 +166,7 @@ fn kept_by(settings: Settings<'_>) -> Journals {
 /// Ends a cluster that has served, and gives its journals, where they are kept; or why it served no more.
 fn journals_of<R, D, V, J>(
     rt: &R,
-    cluster: Cluster<D, V, Open, J>,
+    cluster: Cluster<R, D, V, Open, J>,
     served: Result<(), ServeFault>,
 ) -> Result<Option<Vec<Journal>>, ServeFault>
 where
@@ -381,7 +381,7 @@ fn opened<J, R, E>(
     told: &Arc<Told, Global>,
     errors: &mut E,
     founded: Founded<J>,
-) -> Result<Cluster<LogFile, Counted<R>, Open, J>, ServeFault>
+) -> Result<Cluster<R, LogFile, Counted<R>, Open, J>, ServeFault>
 where
     J: IndexName + Send + Sync + 'static,
     R: Files<File = File>
@@ -434,7 +434,7 @@ fn serve_opened<J, R, V, O, E>(
     rt: &R,
     wanted: &Wanted<'_>,
     rule: &Rule,
-    cluster: &mut Cluster<LogFile, V, Open, J>,
+    cluster: &mut Cluster<R, LogFile, V, Open, J>,
     told: &Told,
     output: &mut O,
     errors: &mut E,
@@ -462,8 +462,16 @@ where
     for copy in cluster.unopened() {
         let _ = writeln!(errors, "indexd: {copy}; it leaves the index");
     }
-    for _ in 0..lacking {
-        cluster.allocate(rt)?;
+    match cluster.unled() {
+        Some(fault) => {
+            let _ = writeln!(
+                errors,
+                "indexd: master.log can't be written ({fault}): gets and searches are answered, and writes are refused until it can"
+            );
+        }
+        None => for _ in 0..lacking {
+            cluster.allocate(rt)?;
+        },
     }
     told.lines.write_waiting(rt, errors);
     serve_cluster(rt, wanted, rule, cluster, &told.faults, output, errors)
@@ -474,7 +482,7 @@ fn serve_cluster<J, R, D, V, O, E>(
     rt: &R,
     wanted: &Wanted<'_>,
     rule: &Rule,
-    cluster: &Cluster<D, V, Open, J>,
+    cluster: &Cluster<R, D, V, Open, J>,
     faults: &SumFaults,
     output: &mut O,
     errors: &mut E,
@@ -486,7 +494,11 @@ where
         + Threads
         + Wait
         + Clock
-        + Sync,
+        + Copy
+        + Send
+        + Sync
+        + Drop
+        + 'static,
     D: LogDevice + Send + 'static,
     V: Devices<D>,
     O: Write,
@@ -502,12 +514,12 @@ where
 /// How many copies are to be added, so that there are as many as are wanted.
 fn lacking<J, R, V>(
     rt: &R,
-    cluster: &Cluster<LogFile, V, Open, J>,
+    cluster: &Cluster<R, LogFile, V, Open, J>,
     wanted: u64,
 ) -> Result<u64, ServeFault>
 where
     J: IndexName + Send + Sync + 'static,
-    R: Wait,
+    R: Threads + Wait + Copy + Send + Drop + 'static,
     V: Devices<LogFile>,
 {
     let known = cluster.client().state(rt)?;

@@ -79,7 +79,7 @@ pub record IsNext (old new : List Stand) : Type 0 where
   pub goes_on : LeadsTo at next
   pub is : new ≡ old ++ next ∷ []
 
--- the history goes on from what was known to some place. From there the command led to the next place, which is the last that is known then
+-- the history extends what was known, up to some place. From there the command led to the next place, which is the last that is known then
 pub record IsDone (old : List Stand) (c : Command) (r : Reply) (new : List Stand) : Type 0 where
   pub start : List Stand
   pub at : Stand
@@ -96,7 +96,7 @@ pub record IsReplyAt (ts : List Stand) (c : Command) (r : Reply) : Type 0 where
   pub ends : EndsIn at ts
   pub served : IsServed at.copy at.master c r at.copy at.master
 
--- the history goes on from what was known to a place where the command has this reply and changes nothing
+-- the history extends what was known, up to a place where the command has this reply and changes nothing
 pub record IsLooked (old : List Stand) (c : Command) (r : Reply) (new : List Stand) : Type 0 where
   pub goes_on : IsPrefix old new
   pub replied : IsReplyAt new c r

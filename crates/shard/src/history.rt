@@ -187,7 +187,7 @@ impl<D: LogDevice, N: HistoryName> Reached<D, N> {
         let _ = &self.mark;
     }
 
-    /// Whether another one surely goes on from this one.
+    /// Whether another history surely extends this one.
     pub fn is_before(&self, other: &Reached<D, N>) -> bool
         ensures before { IsTrue result → IsPrefix self.now other.now }
     {

@@ -101,7 +101,14 @@ impl<D: LogDevice> Shard<D> {
         Ok(self.copy.snapshot().is_some() && is_primary(self.copy.role()))
     }
 
-    /// Whether the copy is in sync by what the master knows: then only a log that can't be written keeps it from leading.
+    /// Whether the copy is open: gets and searches are answered.
+    pub fn is_open(&self) -> bool
+        ensures { result ≡ not self.now.copy.closed }
+    {
+        self.copy.snapshot().is_some()
+    }
+
+    /// Whether the copy is in sync by what the master knows. Then it leads where both logs can be written and the master's table has room.
     pub fn is_in_sync(&self) -> bool
         ensures { result ≡ has self.now.master.state.in_sync self.now.copy.copy.id }
     {

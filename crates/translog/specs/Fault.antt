@@ -1,4 +1,4 @@
--- What is wrong with a log or a content, apart from want of memory and a device's failure.
+-- What is wrong with a log or a content, apart from lack of memory and a device's failure.
 use Rattle.std.specs.Prelude.{ℕ, Bool, true, false, Option, Some, None, Result, Ok, Err}
 use Rattle.translog.specs.declared.fault.LogFault.{LogFault}
 use Rattle.translog.specs.declared.fault.LogFault.TheVariants.{BadMagic, Damaged, Device, NoMemory, TooLarge}
@@ -10,7 +10,7 @@ pub data Fault : Type 0 where
   damaged : ℕ → Fault
   too_large : Fault
 
--- nothing for want of memory and for a device's failure
+-- the fault; none for lack of memory and for a device's failure
 abbrev pub fault_of : LogFault → Option Fault
 fault_of BadMagic = Some bad_magic
 fault_of (Damaged offset) = Some (damaged offset)
@@ -23,7 +23,7 @@ abbrev pub of_device : DeviceFault → LogFault
 of_device devices.NoMemory = NoMemory
 of_device devices.Failed = Device
 
--- whether a device failed, and didn't just want memory
+-- whether a device failed, and didn't just lack memory
 abbrev pub is_failed : DeviceFault → Bool
 is_failed devices.NoMemory = false
 is_failed devices.Failed = true

@@ -24,14 +24,14 @@ pub record IsPieceLog (form : Form) (bytes : List ℕ) (ps : List Piece) : Type 
   pub order : AreInOrder (has_groups form) ps
   pub each : AllByRecursion IsSpeltPiece ps
 
--- the bytes are a translog with these records; and whether groups may stand behind them
+-- the bytes are a translog with these records; and whether groups may stand after them
 pub record IsTranslog (bytes : List ℕ) (rs : List Record) (groups : Bool) : Type 0 where
   pub pieces : List Piece
   pub log : IsPieceLog (form_of bytes) bytes pieces
   pub records : rs ≡ flat_map records_in pieces
   pub behind : groups ≡ groups_behind (has_groups (form_of bytes)) pieces
 
--- the bytes are a translog with these records, but for what is torn; and whether groups may stand behind them
+-- the bytes are a translog with these records, but for what is torn; and whether groups may stand after them
 pub record IsTornLog (bytes : List ℕ) (rs : List Record) (torn : Torn) (groups : Bool) : Type 0 where
   pub pieces : List Piece
   pub torn_at : IsTorn (own_header bytes) bytes (map content pieces) torn
@@ -39,7 +39,7 @@ pub record IsTornLog (bytes : List ℕ) (rs : List Record) (torn : Torn) (groups
   pub records : rs ≡ flat_map records_in pieces
   pub behind : groups ≡ groups_behind (has_groups (form_of bytes)) pieces
 
--- a translog as it is seen: the device that holds it, and whether groups may stand behind what it holds
+-- a translog as it is seen: the device that holds it, and whether groups may stand after what it holds
 pub record Pieced (D : Type 0) : Type 0 where
   pub device : D
   pub groups : Bool

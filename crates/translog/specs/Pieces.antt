@@ -1,5 +1,5 @@
 -- The pieces that a translog is made of. Its header is `RSX1` or `RSX2`; each frame is a piece: one record, a group of records, or the upgrade, which has
--- none. A log that begins `RSX1` has groups only behind an upgrade, and one that begins `RSX2` has no upgrade.
+-- none. A log that begins `RSX1` has groups only after an upgrade, and one that begins `RSX2` has no upgrade.
 use Rattle.std.specs.Prelude.{◌≡◌, ℕ, ◌+◌, ◌<◌, ◌^◌, Bool, true, false, not, ◌||◌, nat_lt, List, [], ◌∷◌, ◌++◌, length, map, take, Result, Ok, Err, codes, if◌then◌else◌}
 use Rattle.std.specs.List.{flat_map, AllByRecursion}
 use Rattle.std.specs.Str.{bytes_eq}
@@ -56,12 +56,12 @@ abbrev pub is_due : Bool → Piece → Bool
 is_due groups upgrade = not groups
 is_due groups (some_records rs) = groups || nat_lt (length rs) 2
 
--- whether groups may stand behind a piece
+-- whether groups may stand after a piece
 abbrev pub groups_after : Bool → Piece → Bool
 groups_after groups upgrade = true
 groups_after groups (some_records rs) = groups
 
--- whether groups may stand behind so many pieces
+-- whether groups may stand after these pieces
 abbrev pub groups_behind : Bool → List Piece → Bool
 groups_behind groups [] = groups
 groups_behind groups (p ∷ ps) = groups_behind (groups_after groups p) ps
@@ -79,7 +79,7 @@ piece_records groups offset (c ∷ cs) = do
   rs ← piece_records (groups_after groups p) (offset + (4 + length c)) cs
   Ok (records_in p ++ rs)
 
--- each piece may stand behind those before it
+-- each piece may stand after those before it
 abbrev pub AreInOrder : Bool → List Piece → Type 0
 AreInOrder groups [] = Unit {0}
 AreInOrder groups (p ∷ ps) = (is_due groups p ≡ true) × AreInOrder (groups_after groups p) ps
@@ -95,7 +95,7 @@ pub record IsSpeltPiece (p : Piece) : Type 0 where
   pub small : length (content p) < 2 ^ 32
   pub reads : piece_of (content p) ≡ Ok p
 
--- a content is a piece with these records, due where groups may stand or don't yet; and whether groups may stand behind it
+-- a content is a piece with these records, due where groups may stand or don't yet; and whether groups may stand after it
 pub record IsPieceAt (groups : Bool) (bytes : List ℕ) (rs : List Record) (after : Bool) : Type 0 where
   pub piece : Piece
   pub reads : piece_of bytes ≡ Ok piece
@@ -105,13 +105,13 @@ pub record IsPieceAt (groups : Bool) (bytes : List ℕ) (rs : List Record) (afte
   pub records : rs ≡ records_in piece
   pub behind : after ≡ groups_after groups piece
 
--- the records of the piece that a content is stand behind those that were there
+-- the records of the piece that a content is stand after those that were there
 pub record IsPieceAdded (groups : Bool) (bytes : List ℕ) (old new : List Record) (after : Bool) : Type 0 where
   pub records : List Record
   pub added : new ≡ old ++ records
   pub piece : IsPieceAt groups bytes records after
 
--- these contents are pieces with these records; and whether groups may stand behind them
+-- these contents are pieces with these records; and whether groups may stand after them
 pub record ArePieces (groups : Bool) (contents : List (List ℕ)) (rs : List Record) (after : Bool) : Type 0 where
   pub pieces : List Piece
   pub spelt : map content pieces ≡ contents

@@ -28,7 +28,7 @@ impl From<AllocError> for DeviceFault {
 }
 
 /// A list of bytes that grows at its end, in memory or in a file. Each call that fails is counted once, and no other. A device may sync in `append`
-/// or only when it is told: what was appended is there after a crash too once it is synced.
+/// or only in `sync`: what was appended is there after a crash too once it is synced.
 pub trait LogDevice: Drop {
     /// The bytes that it holds.
     ghost bytes: { Self → List ℕ };
@@ -56,7 +56,7 @@ pub trait LogDevice: Drop {
         ensures room { OnOk result (additional ≤ room self.new) };
 
     /// Adds a piece at the end. Where it fails, a front of the piece may be added. At `Ok` the piece is there after a crash too in a device that syncs
-    /// in `append`; in one that syncs when it is told it isn't before a `sync`, and `is_synced` says whether. In doubt it is refused.
+    /// in `append`; in one that syncs only in `sync` it isn't before that, and `is_synced` says whether. In doubt it is refused.
     fn append(&mut self, piece: &[u8]) -> Result<(), Failed>
         ensures ok { OnOk result (bytes self.new ≡ bytes self.old ++ piece.now) }
         ensures err { OnErr result (AddsFront (bytes self.old) piece.now (bytes self.new)) }

@@ -11,7 +11,7 @@ use std::fs::OpenFile;
 use std::io;
 use std::io::{Read, Write};
 
-/// Behind what a file holds there is so much room, in which its end is found.
+/// After what a file holds there is so much room, in which a read finds its end.
 const SPARE_ROOM: u64 = 65_536;
 
 /// For each so many bytes that are appended a block of 65,536 bytes is packed, as far as there is one: so what is appended isn't left behind.
@@ -21,7 +21,7 @@ const BYTES_FOR_A_BLOCK: usize = 16_384;
 /// what a log is opened with is what was read at first, and what was written since. As more is appended it is packed there, but for its end and for
 /// what isn't on the disk for sure. Nobody else may change the file.
 ///
-/// A device that syncs when it is told writes then, too: all that was appended since in one piece, so that what a crash leaves of it is a front.
+/// A device that syncs only in `sync` writes only there, too: all that was appended since in one piece, so that what a crash leaves of it is a front.
 ///
 /// What is written to a file is seen by clauses, where what it holds is known; that it is synced, and what a cut of it leaves, is not.
 ///
@@ -34,7 +34,7 @@ pub struct FileDevice<F: Read + Write + OpenFile + Drop> {
     /// How many of these bytes are on the disk for sure.
     synced: usize,
     failures: u64,
-    /// Whether it writes and syncs when it is told alone, and not in `append`.
+    /// Whether it writes and syncs only in `sync`, and not in `append`.
     is_lazy: bool,
     /// Whether the file may hold more than these bytes: a front of a piece whose append failed.
     overhangs: bool,
@@ -56,7 +56,7 @@ impl<F: Read + Write + OpenFile + Drop> FileDevice<F> {
         opened(alloc, file, false)
     }
 
-    /// The same, but that the device writes and syncs when it is told alone.
+    /// Reads a file from where it stands to its end, and syncs what it found. The device writes and syncs only in `sync`.
     pub fn lazily(alloc: Global, file: F) -> io::Result<FileDevice<F>>
         ensures bytes { IfOk result (λ d. IfSome (F.remaining file) (λ bytes. d.bytes.items ≡ bytes)) }
         ensures synced { IfOk result (λ d. d.synced ≡ length d.bytes.items) }
@@ -108,7 +108,7 @@ impl<F: Read + Write + OpenFile + Drop> FileDevice<F> {
     }
 }
 
-/// The device of a file that was just opened. What a device that synced when it was told has left there may not be on the disk.
+/// The device of a file that was just opened. What a device that synced only in `sync` has left there may not be on the disk.
 fn opened<F: Read + Write + OpenFile + Drop>(
     alloc: Global,
     file: F,
@@ -138,7 +138,7 @@ fn opened<F: Read + Write + OpenFile + Drop>(
     })
 }
 
-/// Room for what a file holds, as far as its length is told, so that nothing is moved while it is read. Without memory for it there is none yet.
+/// Room for as many bytes as the file says that it has, so that nothing is moved while it is read; no room if memory runs out.
 fn room_for<F: OpenFile>(alloc: Global, file: &F) -> Vec<u8>
     ensures { result.items ≡ [] }
 {

@@ -59,7 +59,7 @@ impl Frame {
         Ok(Frame { bytes })
     }
 
-    /// The frames of two contents, one behind the other, for one append.
+    /// The frames of two contents, one after the other, for one append.
     pub(crate) fn behind(alloc: Global, front: &[u8], content: &[u8]) -> Result<Frame, LogFault>
         requires { length front.now < 2 ^ 32 }
         ensures frame { Gives fault_of (λ f. f) result (if nat_lt 4294967295 (length content.now) then Err too_large else Ok (framed front.now ++ framed content.now)) }
@@ -102,7 +102,7 @@ pub enum Torn {
     Header,
 }
 
-/// A log of frames with any contents, behind a header of its own.
+/// A log of frames with any contents, after a header of its own.
 pub struct Frames<D: LogDevice> {
     header: [u8; 4],
     device: D,
@@ -171,7 +171,7 @@ impl<D: LogDevice> Frames<D> {
         Ok(contents)
     }
 
-    /// The contents of the log's whole frames, and what is torn beside them. No byte changes. A length that is damaged so that it passes the
+    /// The contents of the log's whole frames, and what of the log is torn. No byte changes. A length that is damaged so that it passes the
     /// end can't be told from a torn frame.
     pub fn read(&mut self, alloc: Global) -> Result<(Vec<Vec<u8>>, Torn), LogFault>
         ensures found { Gives fault_of (λ x. map (λ c. c.items) x.0.items) result (contents_in self.old.header (D.bytes self.old.device)) }
@@ -185,7 +185,7 @@ impl<D: LogDevice> Frames<D> {
         scanned(alloc, &self.header, &mut self.device)
     }
 
-    /// Cuts off the torn end that `read` found, or writes the header anew. Want of memory comes for the header alone, before a byte changes.
+    /// Cuts off the torn end that `read` found, or writes the header anew. Only for the header may memory run out, before a byte changes.
     pub fn mend(&mut self, torn: Torn) -> Result<(), LogFault>
         requires { (contents : List (List ℕ)) × IsTorn self.old.header (D.bytes self.old.device) contents torn }
         ensures ok { OnOk result (D.bytes self.new.device ≡ mended self.old.header (D.bytes self.old.device) torn) }
@@ -269,7 +269,7 @@ impl<D: LogDevice> Frames<D> {
 
 // ---- what a device holds
 
-/// The contents that a device holds, and what is torn beside them.
+/// The contents that a device holds, and what of its log is torn.
 fn scanned<D: LogDevice>(
     alloc: Global,
     header: &[u8; 4],
@@ -302,7 +302,7 @@ pub(crate) fn read<D: LogDevice>(alloc: Global, device: &mut D) -> Result<Vec<u8
     }
 }
 
-/// The contents that some bytes hold, where they stand, and what is torn beside them.
+/// The contents that some bytes hold, where they stand, and what of the bytes is torn.
 pub(crate) fn found<'a>(
     alloc: Global,
     header: &[u8; 4],
@@ -381,7 +381,7 @@ fn split(alloc: Global, bytes: &[u8]) -> Result<(Vec<&[u8]>, &[u8]), AllocError>
     Ok((contents, rest))
 }
 
-/// The same contents, each with bytes of its own.
+/// Copies contents, each into bytes of its own.
 fn copied(alloc: Global, contents: &[&[u8]]) -> Result<Vec<Vec<u8>>, AllocError>
     ensures { IfOk result (λ v. map (λ c. c.items) v.items ≡ map (λ c. c.now) contents.entry.now) }
 {

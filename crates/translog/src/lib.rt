@@ -1,4 +1,4 @@
-//! Logs on a device: frames behind a header, and the translog, whose frames are records.
+//! Logs on a device: frames after a header, and the translog, whose frames are records.
 #![tactic(auto)]
 
 pub mod device;

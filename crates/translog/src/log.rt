@@ -23,7 +23,7 @@ use std::marker::Model;
 use std::slice;
 use std::thread::Threads;
 
-/// The log of a copy's records, some of them in groups. It is seen as the device that holds it, and whether groups may stand behind what it
+/// The log of a copy's records, some of them in groups. It is seen as the device that holds it, and whether groups may stand after what it
 /// holds, which an opening finds.
 pub struct Translog<D: LogDevice> {
     device: D,
@@ -96,7 +96,7 @@ impl<D: LogDevice> Translog<D> {
         Ok(records)
     }
 
-    /// The records that the translog keeps, and what is torn beside them. No byte changes. Else `BadMagic`, or `Damaged` with the offset of
+    /// The records that the translog keeps, and what of it is torn. No byte changes. Else `BadMagic`, or `Damaged` with the offset of
     /// the first whole frame that is no piece, or that may not stand where it does.
     #[tactic(auto, using(crate::proofs::KeptLaws::torn_rules))]
     pub fn read(&mut self, alloc: Global) -> Result<(Vec<Record>, Torn), LogFault>
@@ -125,7 +125,7 @@ impl<D: LogDevice> Translog<D> {
         Ok(records)
     }
 
-    /// The same; the frames' contents are read on all processors, where they stand if the device has them in one piece.
+    /// The records that `read` gives. All processors read the frames' contents, where they stand if the device has them in one piece.
     #[tactic(auto, using(crate::proofs::KeptLaws::torn_rules))]
     pub fn read_on<R: Threads + Sync>(
         &mut self,
@@ -151,7 +151,7 @@ impl<D: LogDevice> Translog<D> {
         Ok((records, torn))
     }
 
-    /// Cuts off the torn end that `read` found, or writes the header anew. Want of memory comes for the header alone, before a byte changes.
+    /// Cuts off the torn end that `read` found, or writes the header anew. Only for the header may memory run out, before a byte changes.
     pub fn mend(&mut self, torn: Torn) -> Result<(), LogFault>
         requires { (contents : List (List ℕ)) × IsTorn (own_header (D.bytes self.old.device)) (D.bytes self.old.device) contents torn }
         ensures ok { OnOk result (D.bytes self.new.device ≡ mended (own_header (D.bytes self.old.device)) (D.bytes self.old.device) torn) }

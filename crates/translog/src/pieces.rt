@@ -20,7 +20,7 @@ use crate::frames::{self, Frame, Torn};
 use op::{OpFault, Record, decode, decode_frame, encode_group};
 use std::alloc::Global;
 
-/// The header of a log that has groups only behind an upgrade.
+/// The header of a log that has groups only after an upgrade.
 const RSX1: [u8; 4] = [b'R', b'S', b'X', b'1'];
 
 /// The header of a log that may have groups from its first frame on.
@@ -34,7 +34,7 @@ pub(crate) const UPGRADE: u8 = 5;
 
 // ---- what a device holds
 
-/// The records that some bytes hold, what is torn beside them, and whether groups may stand behind them.
+/// The records that some bytes hold, what of the bytes is torn, and whether groups may stand after them.
 pub(crate) fn found(alloc: Global, held: &[u8]) -> Result<(Vec<Record>, Torn, bool), LogFault>
     ensures found { Gives fault_of (λ x. x.0.items) result (kept held.now) }
     ensures torn { IfOk result (λ x. IsTornLog held.now x.0.items x.1 x.2) }
@@ -91,7 +91,7 @@ pub(crate) fn mend<D: LogDevice>(device: &mut D, torn: Torn) -> Result<(), LogFa
 
 // ---- pieces
 
-/// The records that some contents are, the first frame being at offset 4, where groups may stand or don't yet; and whether they may behind them.
+/// The records that some contents are, the first frame being at offset 4, where groups may stand or don't yet; and whether they may after them.
 pub(crate) fn records_of(
     alloc: Global,
     groups: bool,
@@ -113,8 +113,8 @@ pub(crate) fn records_of(
     Ok((records, may_group))
 }
 
-/// Adds the records of the piece that a content is, and says whether groups may stand behind it, as `piece_at`. One record, which most frames are, is read
-/// without a list of its own.
+/// Adds the records of the piece that a content is, and says whether groups may stand after it, as `piece_at` does. One record, which most frames
+/// are, is read without a list of its own.
 #[tactic(auto, using(crate::proofs::PieceReading::one_added, crate::proofs::PieceReading::no_record_refused))]
 fn add_piece(
     alloc: Global,
@@ -153,7 +153,7 @@ fn is_alone(content: &[u8]) -> bool
     }
 }
 
-/// The records of the piece that a content is, and whether groups may stand behind it; what is no piece, or isn't due there, is damaged.
+/// The records of the piece that a content is, and whether groups may stand after it; what is no piece, or isn't due there, is damaged.
 #[tactic(auto, using(crate::proofs::PieceReading::upgrade_at, crate::proofs::PieceReading::upgrade_refused, crate::proofs::PieceReading::records_at, crate::proofs::PieceReading::group_refused, crate::proofs::PieceReading::no_records_refused))]
 fn piece_at(
     alloc: Global,
@@ -208,7 +208,7 @@ pub(crate) fn framed_together(
     framed_as(alloc, groups, group, content.as_slice())
 }
 
-/// The frames of records that a content spells; only memory may be wanting.
+/// The frames of records that a content spells; it fails only if memory runs out.
 #[tactic(auto, using(crate::proofs::PieceWriting::one_frame, crate::proofs::PieceWriting::two_frames))]
 fn framed_as(
     alloc: Global,

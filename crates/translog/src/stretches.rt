@@ -21,13 +21,13 @@ const MOST_STRETCHES: usize = 8;
 /// A log of fewer bytes isn't worth a thread.
 const WORTH_THREADS: usize = 262_144;
 
-/// What was read of contents that stand one behind the other.
+/// What was read of contents that stand one after the other.
 #[derive(Drop)]
 struct Stretch {
     /// Whether groups may stand before it, as was taken.
     before: bool,
     records: Vec<Record>,
-    /// Whether groups may stand behind it.
+    /// Whether groups may stand after it.
     after: bool,
 }
 
@@ -70,7 +70,7 @@ fn records_on<R: Threads + Sync>(
     records_of(alloc, groups, contents)
 }
 
-/// The records of all contents; nothing where a stretch is refused, or doesn't begin as the one before it left off, or memory is wanting.
+/// The records of all contents; nothing where a stretch is refused, or doesn't begin as the one before it left off, or memory runs out.
 fn together<R: Threads + Sync>(
     rt: &R,
     alloc: Global,

@@ -68,11 +68,11 @@ fn push_commands(alloc: Global, page: &mut String) -> Result<(), AllocError> {
 /// How a line of a help stands on the page.
 #[derive(Clone, Copy, PartialEq, Eq)]
 enum Form {
-    /// As text that is filled.
+    /// The line is text that is filled.
     Filled,
-    /// As the name of an option or an argument, and what it does.
+    /// The line has the name of an option or an argument, and says what it does.
     Named,
-    /// As it is.
+    /// The line stands as it is.
     Kept,
 }
 

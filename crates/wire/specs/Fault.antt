@@ -1,4 +1,4 @@
--- The faults of a head, apart from want of memory; and those that end a stream.
+-- The faults of a head, apart from a lack of memory; and those that end a stream.
 use Rattle.std.specs.Prelude.{Bool, true, false, Option, Some, None}
 use Rattle.wire.specs.declared.head_fault.HeadFault.{HeadFault}
 use Rattle.wire.specs.declared.head_fault.HeadFault.TheVariants.{BadHead, TransferCoding, BodyTooLarge, NoMemory}
@@ -10,7 +10,7 @@ pub data Fault : Type 0 where
   transfer_coding : Fault
   body_too_large : Fault
 
--- nothing for want of memory
+-- the fault, or nothing where memory ran out
 abbrev pub fault_of : HeadFault → Option Fault
 fault_of BadHead = Some bad_head
 fault_of TransferCoding = Some transfer_coding

@@ -101,7 +101,7 @@ pub record Request : Type 0 where
   pub body : List ℕ
   pub sender : Sender
 
--- what stands first: no whole request; a fault, after which the stream ends; or a request, whether the stream ends after it, and the bytes behind it
+-- what stands first: no whole request; a fault, after which the stream ends; or a request, whether the stream ends after it, and the bytes after it
 pub data First : Type 0 where
   none : First
   broken : Fault → First

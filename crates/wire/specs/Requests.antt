@@ -8,7 +8,7 @@ pub data Standing : Type 0 where
   bad : Fault → Standing
   good : Request → Standing
 
--- the first request, and where the stream doesn't end after it, those of the bytes behind it
+-- the first request and, where the stream doesn't end with it, those of the bytes after it
 abbrev pub requests_after : First → (List ℕ → List Standing) → List Standing
 requests_after none more = []
 requests_after (broken f) more = bad f ∷ []

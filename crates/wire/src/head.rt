@@ -44,7 +44,7 @@ impl<'b> Head<'b> {
     }
 }
 
-/// The same head, by the function that reads it.
+/// The head that the bytes give, as the function of the specs reads it; none where it reads none.
 pub(crate) fn head_of<'b>(alloc: Global, bytes: &'b [u8]) -> Result<Option<Head<'b>>, AllocError>
     ensures { IfOk result (λ head. option_map head_view head ≡ reading.head_of bytes.now) }
 {

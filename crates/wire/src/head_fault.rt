@@ -17,7 +17,7 @@ pub enum HeadFault {
 }
 
 impl HeadFault {
-    /// Whether memory is wanting.
+    /// Whether it says that memory ran out.
     pub fn is_memory(self) -> bool
         ensures { result ≡ is_none (fault_of self) }
     {

@@ -4,7 +4,7 @@ ghost use Rattle.wire.specs.Pieces as spec;
 
 use std::str;
 
-/// The bytes before the first such byte, and those behind it where there is one.
+/// The bytes before the first such byte, and those after it where there is one.
 pub fn cut_at(bytes: &[u8], byte: u8) -> (&[u8], Option<&[u8]>)
     ensures before { result.0.now ≡ (spec.cut_at byte bytes.now).0 }
     ensures shorter { IfSome result.1 (λ rest. length rest.now < length bytes.now) }

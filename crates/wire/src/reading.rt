@@ -1,4 +1,4 @@
-//! Reading a request: its head byte by byte, then its body, and nothing behind it.
+//! Reading a request: its head byte by byte, then its body, and no byte after that.
 ghost use Rattle.std.specs.Prelude.{◌≡◌, ℕ, ◌∷◌, [], false, length, IfErr, IfOk, IfSome, IfNone, MatchResult, Some, option_map};
 ghost use Rattle.wire.specs.Cut as spec;
 ghost use Rattle.wire.specs.Fault.{fault_of, is_write};
@@ -37,7 +37,7 @@ fn next_byte<R: Read>(reader: &mut R) -> Result<Option<u8>, StreamFault>
     }
 }
 
-/// A reader with a buffer of its own may want memory.
+/// The fault of a failed read. A reader with a buffer of its own may run out of memory.
 fn read_fault(error: &Error) -> StreamFault
     ensures { is_write result ≡ false }
 {
@@ -124,9 +124,9 @@ fn frame_head(alloc: Global, bytes: &[u8]) -> Result<Framed, HeadFault>
     })
 }
 
-/// The next request, or none where no more stands whole before the end of the input. Nothing behind it is read, so one request is in memory
-/// at most, and a reader that costs by the call wants a buffer. A read that fails is `Read`, or `NoMemory` where
-/// the reader wants memory.
+/// The next request, or none where the input ends before another whole one. No byte after the request is read, so one request is in memory
+/// at most, and a reader whose calls are costly needs a buffer. A read that fails is `Read`, or `NoMemory` where
+/// the reader is out of memory.
 pub fn read_request<R: Read>(alloc: Global, reader: &mut R) -> Result<Option<Whole>, StreamFault>
     ensures { MatchResult result (λ whole. IfSome (R.remaining reader.old) (λ bytes.
         request.IsRead (framing.first bytes) whole (R.remaining reader.new))) (λ e. is_write e ≡ false) }

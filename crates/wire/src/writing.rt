@@ -8,7 +8,7 @@ use crate::fault::StreamFault;
 use std::io;
 use std::io::{ErrorKind, Write};
 
-/// Writes all of the bytes, by as many calls as the writer wants. After a refusal, which is the writer's own, or `WriteZero` where it takes nothing
+/// Writes all of the bytes, by as many calls as the writer needs. After a refusal, which is the writer's own, or `WriteZero` where it takes nothing
 /// more, a beginning of them was written.
 pub fn write_all<W: Write>(writer: &mut W, bytes: &[u8]) -> io::Result<()>
     ensures ok { OnOk result (Appends (W.contents writer.old) (W.contents writer.new) bytes.now) }

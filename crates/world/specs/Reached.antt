@@ -14,7 +14,7 @@ pub record IsReached (w : World) : Type 0 where
   pub some : 1 ≤ copies
   pub is : w ≡ world_of mapping copies events
 
--- why a list of this many events isn't run: how many copies there are to be, or want of memory after `taken` events
+-- why a list of this many events isn't run: the number of copies isn't allowed, or memory ran out after `taken` events
 abbrev pub IsRefusedRun : (copies events : ℕ) → RunFault → Type 0
 IsRefusedRun copies events BadCount = (copies ≡ 0) ⊎ (5 < copies)
 IsRefusedRun copies events (NoMemory taken) = (1 ≤ copies) × (copies ≤ 5) × (taken ≤ events)

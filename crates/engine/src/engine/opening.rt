@@ -24,7 +24,7 @@ use std::thread;
 use std::thread::Threads;
 
 impl Engine {
-    /// The same as `open_with`, and shorter: the operations are noted by id while their segment is built.
+    /// The engine of these records, made faster than by `open_with`: it notes the operations by id while their segment is built.
     pub fn open_on<
         R: Threads,
         F: Fn(Global, &Arc<Mapping, Global>, Vec<Source>) -> Result<Segment, AllocError>,

@@ -40,8 +40,8 @@ impl Engine {
         Ok(Some(unshown))
     }
 
-    /// Lets memory forget the records that searches show, and texts that newer operations replaced. A refresh that is finished leaves this to the next one, and
-    /// that one leaves it to whoever builds what it shows to let go of them, so that neither takes long.
+    /// Lets memory forget the records that searches show, and texts that newer operations replaced. A refresh that is finished leaves this to the
+    /// next one. Whoever builds what the next one shows drops the records, so that neither takes long.
     fn forget_shown(&mut self) -> Option<Arc<Vec<Record>, Global>>
         ensures { self.new ≡ self.old }
     {

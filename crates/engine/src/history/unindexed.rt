@@ -74,7 +74,7 @@ impl Unindexed {
         self.ordered.slots()
     }
 
-    /// The history that they are, with what was noted of their operations by id. Texts that newer operations replaced are let go.
+    /// The history that they are, with what was noted of their operations by id. It drops the texts that newer operations replaced.
     pub(crate) fn indexed(self, alloc: Global, latest: Latest) -> History
         requires { HaveLast (operations self) latest.tables.items }
         ensures { result ≡ record { records = self; begin = length self } }

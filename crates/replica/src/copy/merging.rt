@@ -1,4 +1,4 @@
-//! Merges of what searches look through, and refreshes that are built beside the copy. They are no steps.
+//! Merges of what searches look through, and refreshes that are built concurrently with the copy's steps. They are no steps.
 ghost use Rattle.std.specs.Prelude.{◌≡◌, ◌≤◌, false, true, None, length, max, IfOk, IfSome, OnErr};
 ghost use Rattle.engine.specs.Published.{mergeable_count, taken_of, HasMerged};
 ghost use Rattle.op.specs.Documents.{documents};
@@ -83,8 +83,8 @@ impl<D: LogDevice> Copy<D> {
         self.state.finish_merge(alloc)
     }
 
-    /// Begins a refresh that shows the records that are there now, where many documents have to be built for it: these may be built beside the copy. It is no step,
-    /// and changes nothing yet, but that a refresh which was begun before can't be finished any more.
+    /// Begins a refresh that shows the records that are there now, where it has many documents to build: they may be built concurrently with
+    /// the copy's steps. It is no step and changes nothing yet, but a refresh that was begun before can't be finished any more.
     pub fn begin_refresh(&mut self, alloc: Global) -> Result<Option<Unshown>, AllocError>
         ensures same { self.new ≡ self.old }
         ensures mapping { IfOk result (λ o. IfSome o (λ u. u.mapping ≡ self.old.copy.mapping)) }

@@ -55,7 +55,7 @@ impl<D: LogDevice> Copy<D> {
         }
     }
 
-    /// The same; the log is read on all processors, and the segment that searches look through is built by the builder while operations are noted by id.
+    /// Opens the copy of the records that its log keeps. All processors read the log; `builder` builds the segment while operations are noted by id.
     pub fn open_on<
         R: Threads + Sync,
         F: Fn(Global, &Arc<Mapping, Global>, Vec<Source>) -> Result<Segment, AllocError>,

@@ -75,7 +75,7 @@ impl State {
         })
     }
 
-    /// The same after all writes of a bulk.
+    /// The draft after all writes of a bulk.
     fn draft_all(&self, alloc: Global, first: Draft, writes: Writes) -> Result<Draft, AllocError>
         requires drafted { IsDrafted self.now.copy first }
         requires none { first.items.items ≡ [] }
@@ -90,7 +90,7 @@ impl State {
         Ok(draft)
     }
 
-    /// The same after one more write.
+    /// The draft after one more write.
     fn draft_with(&self, alloc: Global, draft: Draft, write: Write) -> Result<Draft, AllocError>
         requires { IsDrafted self.now.copy draft }
         ensures folds { IfOk result (λ d. folding self.now.copy d ≡ with_write (folding self.now.copy draft) (write_step (drafted self.now.copy draft) write)) }
@@ -107,7 +107,7 @@ impl State {
         }
     }
 
-    /// The same after a write that its document, the window and the numbers allow.
+    /// The draft after a write that its document, the window and the numbers allow.
     fn draft_accepted(
         &self,
         alloc: Global,
@@ -135,7 +135,7 @@ impl State {
         }
     }
 
-    /// The same after a write whose operation is kept.
+    /// The draft after a write whose operation is kept.
     fn draft_kept(
         &self,
         alloc: Global,
@@ -192,7 +192,7 @@ impl State {
         })
     }
 
-    /// The messages of an operation, to each other member, beside how many operations are known to be everywhere.
+    /// The messages that send an operation to each other member, with the number of operations that are known to be everywhere.
     fn sent_by(
         &self,
         alloc: Global,
@@ -209,7 +209,7 @@ impl State {
 }
 
 impl Draft {
-    /// The same after a write that is refused.
+    /// The draft after a write that is refused.
     fn refused(self, refusal: CopyFault) -> Result<Draft, AllocError>
         ensures items { IfOk result (λ d. d.items.items ≡ self.items.items ++ Refused refusal ∷ []) }
         ensures same { IfOk result (λ d. record d { items = self.items } ≡ self) }

@@ -49,7 +49,7 @@ impl State {
         Ok(Handled::Answered(self.output_sending(alloc, Answer::Repeated, sent)))
     }
 
-    /// The same for an operation whose number is free.
+    /// What an operation with a free number gives and leaves, or why it is refused.
     fn take_new(
         &self,
         alloc: Global,

@@ -33,7 +33,7 @@ impl State {
         self.take_content(alloc, from, term, content)
     }
 
-    /// Whether a message that isn't refused at once needs texts that were let go.
+    /// Whether a message that isn't refused at once needs texts that the copy dropped.
     pub(crate) fn needs_texts(&self, message: &Msg) -> bool {
         if self.engine.has_all() || self.check(message).is_err() {
             return false;

@@ -114,7 +114,7 @@ pub(super) fn check(
     Ok(())
 }
 
-/// The record of an operation, beside how many operations were known to be everywhere.
+/// The record of an operation, with the number of operations that were known to be everywhere.
 pub(super) fn kept_record(known: u64, op: Op) -> Record
     requires { known ≤ 2 ^ 63 }
     ensures { result ≡ Record.Op (checkpoint_of known) op }

@@ -11,3 +11,4 @@ invariant-loop-id g l =
     × (l.self.past ≡ l.fn.self.past)
     × IsPrefix (g.V.Devices.gave l.fn.self.devices) (g.V.Devices.gave l.self.devices)
     × AreTried (g.V.Devices.gave l.self.devices) l.self.label.mapping l.count (take l.id-index l.id-items) l.self.crew.began.items l.self.unopened.items l.opened.items
+    × (l.self.unled ≡ l.fn.self.unled)

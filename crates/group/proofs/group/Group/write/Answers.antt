@@ -10,8 +10,8 @@ use Rattle.group.specs.Known.{Heard, known}
 use Rattle.group.proofs.Seeing.{is_written}
 use Rattle.group.proofs.group.Group.write.Goals as goal
 
-pub returns-in-Ok : goal.returns-in-Ok
-returns-in-Ok g c =
+pub returns-in-Ok-clause-done : goal.returns-in-Ok-clause-done
+returns-in-Ok-clause-done g c =
     let yes : IsTrue true = refl in
     let before = c.args.self.now.known in
     let confirmed = c.in_ok-confirmed.confirmed in
