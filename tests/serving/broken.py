@@ -179,6 +179,8 @@ def short_writes(shim, copies):
 
 def full():
     full_for_all()
+    for copies in (1, 3):
+        full_at_the_start(copies)
     with tempfile.TemporaryDirectory() as top:
         folder, text = Path(top, "books"), b'{"t":"%s"}' % (b"x" * 1000)
         with Server("--data", folder, greatest_file=8000) as server:
@@ -211,3 +213,26 @@ def full_for_all():
             server.limit_files(1_000_000)
             check("writes once there is room", "" if any(page_names(server.ask(put_of(b"again", b"{}"))) == [(201, "")] for _ in range(100)) else "all are refused")
             is_kept("what was confirmed", sources(server, [b"first", b"again"]), [{}, {}])
+
+
+def full_at_the_start(copies):
+    """An index that is opened where no log has room answers gets and searches, refuses writes, and takes them once there is room."""
+    name, count = f"{copies} copies opened without room", b"GET /books/_count HTTP/1.1\r\n\r\n"
+    with tempfile.TemporaryDirectory() as top:
+        words = ("--data", Path(top, "books"), "--copies", copies)
+        with Server(*words) as server:
+            is_kept(f"{name}: a write before", page_names(server.ask(put_of(b"first", b"{}"))), [(201, "")])
+        with Server(*words, greatest_file=10) as server:
+            check(f"{name}: the server listens", "" if server.listens else shown(server.process.stderr.read()))
+            if not server.listens:
+                return
+            is_kept(f"{name}: gets", sources(server, [b"first"]), [{}])
+            is_kept(f"{name}: searches", bodies(server.ask(count))[0].get("count"), 1)
+            got = page_names(server.ask(*(put_of(b"%d" % n, b"{}") for n in range(4))))
+            check(f"{name}: writes are refused", "" if len(got) == 4 and {status for status, _ in got} == {503} else f"{got}")
+            is_kept(f"{name}: gets after that", sources(server, [b"first"]), [{}])
+            server.limit_files(1_000_000)
+            check(f"{name}: writes once there is room", "" if any(page_names(server.ask(put_of(b"again", b"{}"))) == [(201, "")] for _ in range(100)) else "all are refused")
+            is_kept(f"{name}: gets once there is room", sources(server, [b"first", b"again"]), [{}, {}])
+        with Server(*words) as server:
+            is_kept(f"{name}: what was confirmed, after a restart", sources(server, [b"first", b"again"]), [{}, {}])

@@ -63,15 +63,14 @@ def killed_in_a_folder(copies, which, rounds, chance, lost):
 
 def write_until_killed(server, chance, number, sent, acknowledged):
     """Notes of each document the last number that was sent, and the last that was acknowledged, and gives the last of all."""
-    with server.connect() as connection:
+    with contextlib.suppress(OSError), server.connect() as connection:
         connection.setsockopt(socket.IPPROTO_TCP, socket.TCP_NODELAY, 1)
-        with contextlib.suppress(OSError):
-            while True:
-                number, name = number + 1, b"%d" % chance.randrange(30)
-                sent[name] = number
-                connection.sendall(put_of(name, b'{"n":%d}' % number))
-                if not (got := connection.recv(65536)):
-                    break
-                if got.split()[1] in (b"200", b"201"):
-                    acknowledged[name] = number
+        while True:
+            number, name = number + 1, b"%d" % chance.randrange(30)
+            sent[name] = number
+            connection.sendall(put_of(name, b'{"n":%d}' % number))
+            if not (got := connection.recv(65536)):
+                break
+            if got.split()[1] in (b"200", b"201"):
+                acknowledged[name] = number
     return number
