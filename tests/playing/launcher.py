@@ -111,7 +111,7 @@ def where_disk_lasts(call, *given):
 
 def proof(name):
     def call(given, jobs):
-        print("what the prover says of", name, "with", jobs)
+        print("what the prover says of " + name + " with " + str(jobs) + "\\n", end="")  # (one write: other threads print too)
         time.sleep(float(os.environ.get("SLEEPS", "0")))
         return 3 if name == os.environ.get("FAILS") else 0
     return call
