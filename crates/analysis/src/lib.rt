@@ -1,4 +1,4 @@
-//! The words of a text, as searches compare them.
+//! The words of a text, as searches compare them, and the terms of a field: which ones its values give, and what may be asked of one.
 #![tactic(auto)]
 
 ghost use Rattle.std.specs.Prelude.{◌≡◌, map, IfOk, string_bytes};
@@ -8,8 +8,12 @@ use caseless::default_case_fold_str;
 use std::alloc::{AllocError, Global};
 use unicode_segmentation::UnicodeSegmentation;
 
+mod bounds;
+mod values;
 mod words;
 
+pub use bounds::Bounds;
+pub use values::terms_of_value;
 pub use words::{Words, words_of};
 
 /// The words of a text in order, cut by UAX #29 and each under default case folding (the Unicode Standard, section 3.13).

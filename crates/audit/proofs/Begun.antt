@@ -6,19 +6,9 @@ use Rattle.std.proofs.lemmas.Bool.Decides.{nat_tests}
 use Rattle.std.proofs.lemmas.List.Folds.{list_any-append}
 use Rattle.doc.specs.Mapping.{MappingData}
 use Rattle.op.specs.Ids.{ids_up_to, has}
-use Rattle.replica.specs.Copy.{Copy, begun}
+use Rattle.replica.specs.Copy.{begun}
 use Rattle.world.specs.World.{copy_in, new_world}
-
-pub copy_in-append : (cs : List Copy) (d : Copy) (id : ℕ) → copy_in (cs ++ d ∷ []) id ≡ option_or (copy_in cs id) (if d.id == id then Some d else None)
-copy_in-append [] d id = refl
-copy_in-append (c ∷ cs) d id = elim (c.id == id) as (λ b. (if b then Some c else copy_in (cs ++ d ∷ []) id) ≡ option_or (if b then Some c else copy_in cs id) (if d.id == id then Some d else None)) [ true ↦ refl | false ↦ copy_in-append cs d id ]
-
-has-up_to : (n id : ℕ) → has (ids_up_to n) id ≡ (nat_lt 0 id && nat_le id n)
-has-up_to zero id = grind (arith, nat_tests)
-has-up_to (suc n) id = list_any-append (λ m. m == id) (ids_up_to n) (suc n ∷ []) ∙ rw (has-up_to n id) (last id n)
-  where
-    last : (id n : ℕ) → ((nat_lt 0 id && nat_le id n) || ((suc n == id) || false)) ≡ (nat_lt 0 id && nat_le id (suc n))
-    last id n = grind (arith, nat_tests)
+use Rattle.world.proofs.Beginnings.{has-up_to}
 
 module _ (mapping : MappingData) (n : ℕ) where
   copy_in-map : (ids : List ℕ) (id : ℕ) → copy_in (map (λ r. begun r n mapping) ids) id ≡ (if has ids id then Some (begun id n mapping) else None)

@@ -29,7 +29,7 @@ use Rattle.journal.specs.declared.moves.Move.{Move}
 use Rattle.journal.specs.declared.moves.Move.TheVariants.{Asks as asks, Does as does, Tears as tears}
 use Rattle.audit.specs.Moves.{Moves, Counts, more, event_of, IsWord, IsAsked, IsTold, IsThere, may_tear, IsNext}
 use Rattle.world.proofs.Lists.{copy_in-id, copy_in-with, copy_in-other}
-use Rattle.audit.proofs.Begun.{copy_in-append}
+use Rattle.world.proofs.Copies.{copy_in-append}
 use Rattle.audit.proofs.StepIds.{step-id}
 
 -- ---- one node by itself

@@ -9,7 +9,6 @@ ghost use Rattle.journal.specs.declared.journal.Journal.TheVariants.{OfMaster, O
 ghost use Rattle.audit.specs.Audit.{placed_in, world_in, IsAudited, IsSize, Pass};
 ghost use Rattle.audit.specs.Passing.{fault_at, IsCount, IsFailing, IsPassing};
 
-use crate::equal::equal_state;
 use crate::fault::AuditFault;
 use crate::following::Following;
 use crate::judge::{Wrong, judge};
@@ -120,7 +119,7 @@ fn is_begun(alloc: Global, state: &State, copies: u8) -> Result<bool, AllocError
     ensures { IfOk result (λ is. IsTrue is ↔ (state.now ≡ begun copies)) }
 {
     let begun = State::begin(alloc, copies)?;
-    Ok(equal_state(state, &begun))
+    Ok(state.is(&begun))
 }
 
 /// What each node did, or the first journal that doesn't pass.

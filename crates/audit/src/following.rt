@@ -12,8 +12,6 @@ ghost use Rattle.audit.specs.Judge.{listed, IsFollowed, IsRefused};
 ghost use Rattle.journal.specs.Opening.{born};
 ghost use Rattle.journal.specs.declared.moves.Move.TheVariants.{Does};
 
-use crate::both::both;
-use crate::equal::{equal_fault, equal_output};
 use crate::judge::{Follower, Wrong};
 use doc::Mapping;
 use journal::{Deed, Move, Placed};
@@ -168,12 +166,9 @@ fn follow_shut(
                 drop(cut);
                 return Err(Wrong::At(place));
             }
-            let found = found(alloc, copy, cut.added, output);
-            let (cut, found) = both(cut, found)?;
-            match found {
+            match found(alloc, copy, cut.added, output)? {
                 Some(is_kept) => {
-                    let reopened = reopen(alloc, copy, &cut, is_kept);
-                    let (cut, _) = both(cut, reopened)?;
+                    reopen(alloc, copy, &cut, is_kept)?;
                     Ok((None, Some(torn(cut, is_kept))))
                 }
                 None => {
@@ -226,7 +221,7 @@ fn commits(
     ensures copy { IfOk result (λ is. IsTrue is → copy.new.copy ≡ prepared_copy copy.old.copy prepared) }
     ensures open { copy.new.closed ≡ false }
 {
-    if !equal_output(prepared.output(), output) {
+    if !prepared.output().is(output) {
         drop(prepared);
         return Ok(false);
     }
@@ -272,7 +267,7 @@ fn refuses(made: CopyFault, fault: &CopyFault) -> Result<bool, AllocError>
     if is_memory(&made) {
         return Err(AllocError);
     }
-    Ok(equal_fault(&made, fault))
+    Ok(made.is(fault))
 }
 
 fn is_memory(fault: &CopyFault) -> bool

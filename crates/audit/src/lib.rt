@@ -2,7 +2,6 @@
 #![tactic(auto)]
 
 pub mod auditing;
-mod both;
 mod equal;
 pub mod fault;
 mod following;

@@ -4,7 +4,6 @@ ghost use Rattle.world.specs.Held.{Held};
 ghost use Rattle.world.specs.World.{new_world};
 ghost use Rattle.audit.specs.Merge.{count_of, HaltsIn, IsMerged};
 
-use crate::both::both;
 use crate::merge::{Halt, merge};
 use crate::stage::Making;
 use doc::Mapping;
@@ -21,8 +20,8 @@ pub fn make(alloc: Global, mapping: &Mapping, copies: u8, parts: &[Part]) -> Res
     ensures held { IfOk result (λ w. Held w.world) }
 {
     let world = World::new(alloc, mapping, copies)?;
-    let making = Making::new(alloc, world, parts.len())?;
-    let (mut making, mut counts) = both(making, zeros(alloc, parts.len()))?;
+    let mut making = Making::new(alloc, world, parts.len())?;
+    let mut counts = zeros(alloc, parts.len())?;
     match merge(alloc, &mut making, parts, counts.as_mut_slice()) {
         Ok(()) => Ok(making.into_world()),
         Err(halt) => {

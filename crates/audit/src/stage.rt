@@ -5,16 +5,14 @@ ghost use Rattle.audit.specs.Causes.{needs, IsLet, IsReady, IsTaken, IsTo, Lets}
 ghost use Rattle.audit.specs.Moves.{event_of, may_tear, IsThere};
 ghost use Rattle.journal.specs.declared.moves.Move.TheVariants.{Asks, Does, Tears};
 
-use crate::both::both;
-use crate::equal::equal_message;
 use crate::merge::Stage;
 use crate::posts::{Posts, around};
 use journal::Move;
 use master::Request;
-use op::{Content, Msg};
+use op::Msg;
 use replica::Input;
 use std::alloc::{AllocError, Global};
-use world::{Event, World};
+use world::{Event, World, request_of};
 
 /// The world that the moves make, and where the next message between two nodes should be.
 #[derive(Drop)]
@@ -28,7 +26,7 @@ impl Making {
     pub(crate) fn new(alloc: Global, world: World, nodes: usize) -> Result<Making, AllocError>
         ensures { IfOk result (λ m. m.world ≡ world) }
     {
-        let (world, posts) = both(world, Posts::new(alloc, nodes))?;
+        let posts = Posts::new(alloc, nodes)?;
         Ok(Making { world, posts })
     }
 
@@ -171,7 +169,7 @@ fn lets(message: &Msg, next: &Move) -> bool
     ensures { IsTrue result ↔ Lets message.now next.now }
 {
     match next {
-        Move::Asks(request) => message.to == 0 && asks_for(message, *request),
+        Move::Asks(request) => message.to == 0 && request_of(message) == Some(*request),
         Move::Does(input) => is_taken(message, input),
         Move::Tears(input, _) => is_taken(message, input),
     }
@@ -181,18 +179,7 @@ fn is_taken(message: &Msg, input: &Input) -> bool
     ensures { IsTrue result ↔ IsTaken message.now input.now }
 {
     match input {
-        Input::Take(taken) => equal_message(message, taken),
-        _ => false,
-    }
-}
-
-/// Whether a message to the master makes this request.
-fn asks_for(message: &Msg, request: Request) -> bool
-    ensures { IsTrue result ↔ (request_of message.now.term message.now.content ≡ Some request) }
-{
-    match (&message.content, request) {
-        (Content::Synced(id), Request::Synced(term, own)) => *id == own && message.term == term,
-        (Content::Fail(id), Request::Fail(term, own)) => *id == own && message.term == term,
+        Input::Take(taken) => message.is(taken),
         _ => false,
     }
 }

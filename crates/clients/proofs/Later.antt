@@ -4,7 +4,7 @@ use Rattle.wire.specs.Cut.{Cut, short, long, whole, onto, next, cut_at, cut_from
 use Rattle.wire.specs.Fault.{Fault}
 use Rattle.wire.specs.Framing.{First, none, broken, asked, Framed, framed, with_body, after_cut, first}
 use Rattle.wire.specs.Requests.{Standing, requests_after, requests}
-use Rattle.wire.proofs.Standings.{requests_step}
+use Rattle.wire.proofs.Standings.{requests_step, true_if}
 use Rattle.clients.specs.Steps.{IsNext}
 
 -- a head that was cut off stays the same
@@ -48,10 +48,6 @@ le_true n m h = grind arith
 
 true_le : (n m : ℕ) → nat_le n m ≡ true → n ≤ m
 true_le n m h = grind arith
-
-true_if : {A : Type 0} (b : Bool) (x y : A) → b ≡ true → (if b then x else y) ≡ x
-true_if true x y e = refl
-true_if false x y e = absurd (cc e)
 
 later_if : (more rest : List ℕ) (x : Framed) (b : Bool) → nat_le x.frame.length (length rest) ≡ b
     → Later more (if b then asked (record { method = x.method; target = x.target; body = take x.frame.length rest; sender = x.sender }) x.frame.closes (drop x.frame.length rest) else none) (with_body (rest ++ more) (Ok x))

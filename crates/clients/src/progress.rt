@@ -1,49 +1,9 @@
 //! How much of a request has come, so that a request that comes byte by byte isn't looked at from its start for each byte.
 
-use wire::cut_at;
+use wire::{Place, cut_at};
 
 /// The most bytes of a head.
 const MOST_HEAD: usize = 16_384;
-
-/// Where the next byte of a head stands, by the rules for reading requests.
-#[derive(Clone, Copy)]
-enum Place {
-    Blank,
-    BlankReturn,
-    Text,
-    Start,
-    StartReturn,
-}
-
-impl Place {
-    /// The place after a byte, or none if the head ends with this byte.
-    fn next(self, byte: u8) -> Option<Place> {
-        match self {
-            Place::Blank => Some(match byte {
-                b'\n' => Place::Blank,
-                b'\r' => Place::BlankReturn,
-                _ => Place::Text,
-            }),
-            Place::BlankReturn => Some(match byte {
-                b'\n' => Place::Blank,
-                _ => Place::Text,
-            }),
-            Place::Text => Some(match byte {
-                b'\n' => Place::Start,
-                _ => Place::Text,
-            }),
-            Place::Start => match byte {
-                b'\n' => None,
-                b'\r' => Some(Place::StartReturn),
-                _ => Some(Place::Text),
-            },
-            Place::StartReturn => match byte {
-                b'\n' => None,
-                _ => Some(Place::Text),
-            },
-        }
-    }
-}
 
 /// How far the head has come: where its next byte stands, or, once it is whole, how many bytes it has.
 #[derive(Clone, Copy)]

@@ -10,7 +10,6 @@ use Rattle.std.specs.List.{AllByRecursion}
 use mathlib.Core.List.{IsPrefix}
 use Rattle.doc.specs.Mapping.{MappingData}
 use Rattle.master.specs.declared.state.State.{State}
-use Rattle.op.specs.declared.record.Record.{Record}
 use Rattle.replica.specs.Copy.{Copy, begun, opened}
 use Rattle.ruled.specs.declared.entry.MasterEntry.{MasterEntry}
 use Rattle.translog.specs.Kept.{kept}

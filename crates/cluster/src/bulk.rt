@@ -8,7 +8,7 @@ use crate::client::{Client, lost_by, received, refusal_of};
 use crate::confirmed::ConfirmedBulk;
 use crate::durable::Durable;
 use crate::fault::{ClusterFault, WriteFault};
-use crate::post::{BulkEnding, Post};
+use crate::post::{Answered, BulkEnding, Post};
 use cell::IndexName;
 use crossbeam_channel::{Receiver, bounded};
 use node::Receipt;
@@ -17,10 +17,10 @@ use std::alloc::{AllocError, Global};
 use std::sync::Wait;
 use translog::LogDevice;
 
-/// A bulk that its copy has answered, and the channel that says how it ends.
+/// The channel of a bulk's entry, and the one that says how the bulk ends.
 #[derive(Drop)]
 struct BegunBulk<J: IndexName> {
-    receipt: Receipt<J>,
+    answers: Receiver<Answered<J>, Global>,
     endings: Receiver<BulkEnding<J>, Global>,
 }
 
@@ -55,17 +55,16 @@ impl<R: Wait + Drop, D: LogDevice, J: IndexName> Client<R, D, J> {
         fault
     }
 
-    /// Hands a bulk to a copy, and waits for its entry.
+    /// Hands a bulk to a copy.
     fn begin_bulk(&self, rt: &R, copy: u32, writes: Writes) -> Result<BegunBulk<J>, ClusterFault> {
         let (first, answers) = bounded(self.alloc, 1)?;
         let (second, endings) = bounded(self.alloc, 1)?;
-        self.send(rt, copy, Post::Bulk(writes, first, second))?;
-        let receipt = received(rt, &answers)?;
-        Ok(BegunBulk { receipt, endings })
+        self.mail(rt, copy, Post::Bulk(writes, first, second))?;
+        Ok(BegunBulk { answers, endings })
     }
 }
 
-/// Waits until the writes of a bulk that were kept are acknowledged, or its copy leads no more.
+/// Waits until the writes of a bulk that were kept are acknowledged, or its copy leads no more. Its entry is there by then.
 fn confirmed<R: Wait, J: IndexName>(
     rt: &R,
     alloc: Global,
@@ -76,12 +75,14 @@ fn confirmed<R: Wait, J: IndexName>(
     ensures confirmed { IfOk result (IsBulkConfirmed writes.now) }
     ensures refused { IfErr result (IsBulkRefused writes.now) }
 {
-    let BegunBulk { receipt, endings } = begun;
+    let BegunBulk { answers, endings } = begun;
+    let ending = endings.recv(rt).ok();
+    let receipt = received(rt, &answers)?;
     if !is_of_bulk(&receipt, copy, writes) {
         return Err(WriteFault::Cluster(ClusterFault::Stray(receipt.place())));
     }
     match is_kept_in(&receipt) {
-        Some(true) => ended(rt, alloc, receipt, &endings),
+        Some(true) => ended(alloc, receipt, ending),
         Some(false) => Ok(settled(alloc, receipt, Vec::new(alloc))?),
         None => Err(refusal_of(receipt)),
     }
@@ -110,19 +111,18 @@ fn has_kept(items: &[Item]) -> bool
 }
 
 /// How a bulk ended of which something was kept.
-fn ended<R: Wait, J: IndexName>(
-    rt: &R,
+fn ended<J: IndexName>(
     alloc: Global,
     receipt: Receipt<J>,
-    endings: &Receiver<BulkEnding<J>, Global>,
+    ending: Option<BulkEnding<J>>,
 ) -> Result<ConfirmedBulk<J>, WriteFault<J>>
     ensures kept { IfOk result (IsSettledBulk receipt) }
     ensures lost { IfErr result (IsEndOf receipt) }
 {
-    match endings.recv(rt) {
-        Ok(BulkEnding::Acknowledged(entries)) => Ok(settled(alloc, receipt, entries)?),
-        Ok(BulkEnding::Lost(entry)) => Err(lost_by(receipt, entry.into_inner())),
-        Err(_) => Err(WriteFault::Unconfirmed(receipt)),
+    match ending {
+        Some(BulkEnding::Acknowledged(entries)) => Ok(settled(alloc, receipt, entries)?),
+        Some(BulkEnding::Lost(entry)) => Err(lost_by(receipt, entry.into_inner())),
+        None => Err(WriteFault::Unconfirmed(receipt)),
     }
 }
 

@@ -86,13 +86,12 @@ impl<R: Wait + Drop, D: LogDevice, J: IndexName> Client<R, D, J> {
         fault
     }
 
-    /// Has a copy do a write, and waits for its entry.
+    /// Hands a write to a copy.
     fn begin(&self, rt: &R, copy: u32, write: Write) -> Result<Begun<J>, ClusterFault> {
         let (first, answers) = bounded(self.alloc, 1)?;
         let (second, endings) = bounded(self.alloc, 1)?;
-        self.send(rt, copy, Post::Write(write, first, second))?;
-        let receipt = received(rt, &answers)?;
-        Ok(Begun { receipt, endings })
+        self.mail(rt, copy, Post::Write(write, first, second))?;
+        Ok(Begun { answers, endings })
     }
 
     /// What a copy has of an id, of all its records. It leaves no entry.
@@ -101,7 +100,7 @@ impl<R: Wait + Drop, D: LogDevice, J: IndexName> Client<R, D, J> {
     {
         let asked = id.copy(self.alloc)?;
         let (to, answers) = bounded(self.alloc, 1)?;
-        self.send(rt, copy, Post::Get(asked, to))?;
+        self.ask(rt, copy, Post::Get(asked, to))?;
         match answers.recv(rt) {
             Ok(Ok(got)) => got_of(got.into_inner(), copy, &id),
             Ok(Err(fault)) => Err(ClusterFault::from(fault)),
@@ -125,8 +124,8 @@ impl<R: Wait + Drop, D: LogDevice, J: IndexName> Client<R, D, J> {
         received(rt, &answers)
     }
 
-    /// Has a copy do what a post asks: on this thread, or else on the copy's own.
-    pub(crate) fn send(&self, rt: &R, copy: u32, post: Post<J>) -> Result<(), ClusterFault> {
+    /// Has a copy answer a get: on this thread, or else on the copy's own. It may come before the mail that the copy has.
+    fn ask(&self, rt: &R, copy: u32, post: Post<J>) -> Result<(), ClusterFault> {
         let Some(lock) = self.locks.of(rt, copy) else {
             return self.mail(rt, copy, post);
         };
@@ -137,7 +136,7 @@ impl<R: Wait + Drop, D: LogDevice, J: IndexName> Client<R, D, J> {
     }
 
     /// Hands a post to the thread of a copy.
-    fn mail(&self, rt: &R, copy: u32, post: Post<J>) -> Result<(), ClusterFault> {
+    pub(crate) fn mail(&self, rt: &R, copy: u32, post: Post<J>) -> Result<(), ClusterFault> {
         if self.shared.hand(rt, copy, post) {
             Ok(())
         } else {
@@ -249,10 +248,10 @@ impl<R: Wait + Drop, D: LogDevice, J: IndexName> Client<R, D, J> {
     }
 }
 
-/// A write that its copy has answered, and the channel that says how it ends.
+/// The channel of a write's entry, and the one that says how the write ends.
 #[derive(Drop)]
 struct Begun<J: IndexName> {
-    receipt: Receipt<J>,
+    answers: Receiver<Answered<J>, Global>,
     endings: Receiver<Ending<J>, Global>,
 }
 
@@ -326,7 +325,7 @@ fn got_of<J: IndexName>(got: Got<J>, copy: u32, id: &DocId) -> Result<Got<J>, Cl
     Ok(got)
 }
 
-/// Waits until a write is confirmed, or its copy leads no more.
+/// Waits until a write is confirmed, or its copy leads no more. Its entry is there by then, so that this thread wakes once.
 #[tactic(auto, using(crate::proofs::Confirming::confirmed_end, crate::proofs::Confirming::refused_end))]
 fn confirmed<R: Wait, J: IndexName>(
     rt: &R,
@@ -337,14 +336,16 @@ fn confirmed<R: Wait, J: IndexName>(
     ensures confirmed { IfOk result (IsConfirmed write.now) }
     ensures refused { IfErr result (IsWriteRefused write.now) }
 {
-    let Begun { receipt, endings } = begun;
+    let Begun { answers, endings } = begun;
+    let ending = endings.recv(rt);
+    let receipt = received(rt, &answers)?;
     if !is_of_write(&receipt, copy, write) {
         return Err(WriteFault::Cluster(ClusterFault::Stray(receipt.place())));
     }
     let Some(written) = written_in(&receipt) else {
         return Err(refusal_of(receipt));
     };
-    match endings.recv(rt) {
+    match ending {
         Ok(ending) => ended(receipt, written, ending),
         Err(_) => Err(WriteFault::Unconfirmed(receipt)),
     }

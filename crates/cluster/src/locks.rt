@@ -1,4 +1,4 @@
-//! The copies that are served, each behind a lock: whoever asks a copy does its step himself.
+//! The copies that are served, each behind a lock: whoever gets a document reads the copy himself.
 
 use crate::gate::{Gate, Open};
 use crate::post::Post;
@@ -10,10 +10,9 @@ use std::sync::{Arc, Mutex, MutexGuard, Wait};
 use translog::LogDevice;
 
 /// A copy behind its lock; none before it is served, and none once it has ended. A thread that needs the lock goes through a door first, where one thread at a
-/// time waits for it: a lock alone goes to whichever thread comes by just then, however long another one waits. Bulks take turns before they come to the door.
+/// time waits for it: a lock alone goes to whichever thread comes by just then, however long another one waits.
 #[derive(Drop)]
 pub(crate) struct CopyLock<R: Wait + Drop, D: LogDevice, J: IndexName> {
-    turn: Mutex<()>,
     door: Mutex<()>,
     worker: Mutex<Option<Worker<R, D, J>>>,
 }
@@ -21,7 +20,6 @@ pub(crate) struct CopyLock<R: Wait + Drop, D: LogDevice, J: IndexName> {
 impl<R: Wait + Drop, D: LogDevice, J: IndexName> CopyLock<R, D, J> {
     fn new() -> CopyLock<R, D, J> {
         CopyLock {
-            turn: Mutex::new(()),
             door: Mutex::new(()),
             worker: Mutex::new(None),
         }
@@ -50,7 +48,6 @@ impl<R: Wait + Drop, D: LogDevice, J: IndexName> CopyLock<R, D, J> {
     /// Does a post on this thread. It hands the post back where the copy isn't served, or where one sync does for many posts: then the copy's own thread does
     /// them together.
     pub(crate) fn done(&self, rt: &R, post: Post<J>) -> Option<Post<J>> {
-        let _turn = self.turn(rt, &post);
         let mut held = self.enter(rt);
         let Some(worker) = &mut *held else {
             return Some(post);
@@ -61,15 +58,6 @@ impl<R: Wait + Drop, D: LogDevice, J: IndexName> CopyLock<R, D, J> {
         worker.admit(rt, &Open, post);
         worker.settle(rt, &Open);
         None
-    }
-
-    /// Waits for the turn of a bulk. Another post needs no turn.
-    fn turn(&self, rt: &R, post: &Post<J>) -> Option<MutexGuard<'_, ()>> {
-        if let Post::Bulk(_, _, _) = post {
-            Some(self.turn.lock(rt))
-        } else {
-            None
-        }
     }
 
     /// Does a post of the mail, as `Worker::serve_waiting` does, and says whether the copy is served on.

@@ -5,8 +5,8 @@ use Rattle.op.specs.declared.record.Record.{Record}
 use Rattle.op.specs.Operations.{op_at}
 use Rattle.op.specs.Documents.{documents}
 use Rattle.op.specs.Records.{operations, shown}
-use Rattle.engine.specs.declared.history.Applied.{Applied}
-use Rattle.engine.specs.declared.history.Applied.TheVariants.{Taken, Stale, Repeated}
+use Rattle.engine.specs.declared.operations.history.Applied.{Applied}
+use Rattle.engine.specs.declared.operations.history.Applied.TheVariants.{Taken, Stale, Repeated}
 use Rattle.engine.specs.Applied.{records_after}
 use Rattle.engine.specs.Changes.{ChangesData, LeadsOn}
 use Rattle.engine.specs.Parts.{merged, without}

@@ -4,7 +4,7 @@ use Rattle.std.proofs.lemmas.List.{map-append, map_more}
 use Rattle.marks.specs.Lists.{places}
 use Rattle.segment.proofs.Ahead.{places-map}
 use Rattle.doc.specs.Mapping.{MappingData}
-use Rattle.engine.specs.declared.block.Shown.{Shown}
+use Rattle.engine.specs.declared.read.block.Shown.{Shown}
 use Rattle.engine.specs.Shown.{shown_view}
 use Rattle.query.specs.Query.{Query}
 use Rattle.query.specs.Meaning.{means}

@@ -12,7 +12,8 @@ use Rattle.op.specs.declared.operation.Op.{Op}
 use Rattle.op.specs.Operations.{IsAscending, add, is_newer, is_on, last_on, op_at, placed}
 use Rattle.op.proofs.OperationLaws.{add-free, last_on-placed, last_on-push}
 use Rattle.engine.specs.Slot.{SlotData, ops, whole_ops, AreHeld, AreWhole, IsReplaced}
-use Rattle.engine.proofs.IndexLaws.{below_at, last_has}
+use Rattle.engine.proofs.IndexLaws.{below_at}
+use Rattle.op.proofs.OperationLaws.{last_has}
 use Rattle.engine.proofs.LatestLaws.{on_last}
 use Rattle.engine.proofs.RiseLaws.{free_end, last_on-append, placed_end}
 

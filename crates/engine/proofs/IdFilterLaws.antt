@@ -5,7 +5,7 @@ use Rattle.std.proofs.lemmas.List.{at_drop_all, at_drop_more, length-set, take_m
 use Rattle.std.proofs.lemmas.Map.Lookups.{exact_bytes}
 use Rattle.std.proofs.lemmas.Map.Views.{tells_apart}
 use Rattle.doc.specs.Id.{Id, is_id}
-use Rattle.engine.specs.declared.block.Shown.{Shown}
+use Rattle.engine.specs.declared.read.block.Shown.{Shown}
 use Rattle.engine.specs.IdFilter.{has_bit, hash_from, place_in}
 
 -- a bit stays when one is set

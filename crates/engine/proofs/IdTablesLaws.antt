@@ -7,7 +7,7 @@ use Rattle.std.proofs.lemmas.List.{length-set}
 use Rattle.std.proofs.lemmas.Map.Lookups.{exact_bytes}
 use Rattle.std.proofs.lemmas.Map.Views.{tells_apart}
 use Rattle.doc.specs.Id.{Id, is_id}
-use Rattle.engine.specs.declared.id_key.IdKey.{IdKey}
+use Rattle.engine.specs.declared.ids.id_key.IdKey.{IdKey}
 use Rattle.engine.specs.IdFilter.{place_in}
 use Rattle.engine.specs.IdTables.{count_at, one_if, number_among, number_in, spare_at}
 use Rattle.engine.specs.OperationIndex.{number_at}

@@ -6,7 +6,7 @@ use Rattle.std.specs.Option.{option_or}
 use Rattle.std.proofs.lemmas.Bool.Decides.{nat_tests}
 use Rattle.op.specs.declared.operation.Op.{Op}
 use Rattle.op.specs.Operations.{IsAscending, op_at, placed, add, is_on, is_newer, last_on, local_count}
-use Rattle.op.proofs.OperationLaws.{IsAscending-placed, last_on-placed, last_on-push}
+use Rattle.op.proofs.OperationLaws.{IsAscending-placed, last_on-placed, last_on-push, last_has}
 use Rattle.doc.specs.Id.{Id}
 use Rattle.engine.specs.OperationIndex.{IsIndexed, raised}
 
@@ -34,13 +34,6 @@ IsIndexed-placed os latest new local count o is free noted counted = record {
 -- ---- what the number at an id finds
 
 -- the last on an id is one of the operations
-pub last_has : (P : Op → Type 0) (os : List Op) (id : Id) → AllByRecursion P os → IfSome (last_on os id) P
-last_has P [] id all = tt
-last_has P (o ∷ os) id all =
-    elim (last_on os id) as (λ l. IfSome l P → IfSome (option_or l (if is_on id o then Some o else None)) P) [
-      | None ↦ λ _. elim (is_on id o) as (λ b. IfSome (if b then Some o else None) P) [ true ↦ all.0 | false ↦ tt ]
-      | Some q ↦ λ h. h
-    ] (last_has P os id all.1)
 
 at_first : (o : Op) (on : Bool) (m : ℕ) (rest : Option Op) → Some m ≡ option_map (λ (p : Op). p.seq) (if on then Some o else None) → (if o.seq == m then Some o else rest) ≡ (if on then Some o else None)
 at_first o true m rest is = let same : m ≡ o.seq = cc in grind (arith, nat_tests)

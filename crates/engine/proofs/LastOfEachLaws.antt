@@ -13,31 +13,18 @@ use Rattle.std.proofs.lemmas.List.Sorted.{sorted_far, ranks_by}
 use Rattle.std.proofs.lemmas.Map.Keys.{IsDistinct-from_sorted}
 use Rattle.std.proofs.lemmas.Map.Made.{update_all_none}
 use Rattle.engine.specs.LastOfEach.{last_from, last_of_runs, ChangeAlike, IsLastOfEach}
+use Rattle.segment.proofs.GroupingLaws.{above_reversed, less_from}
+use Rattle.segment.proofs.ListingLaws.{tied}
 
 pub by_equal : (o : Ordering) → is_eq o ≡ true → o ≡ Equal
 by_equal Less is = absurd (true≢false (sym is))
 by_equal Equal is = refl
 by_equal Greater is = absurd (true≢false (sym is))
 
-tied : (a b : Ordering) → b ≡ ordering_reverse a → (not (is_lt a) && not (is_lt b)) ≡ is_eq a
-tied Less b is = refl
-tied Equal b is = ap (λ o. not (is_lt o)) is
-tied Greater b is = ap (λ o. not (is_lt o)) is
-
 pub reversed : (a : Ordering) → is_eq (ordering_reverse a) ≡ is_eq a
 reversed Less = refl
 reversed Equal = refl
 reversed Greater = refl
-
-less_from : (a : Ordering) → (is_lt a ≡ false → ⊥) → a ≡ Less
-less_from Less h = refl
-less_from Equal h = absurd (h refl)
-less_from Greater h = absurd (h refl)
-
-above_reversed : (a : Ordering) → is_lt a ≡ false → is_eq a ≡ false → ordering_reverse a ≡ Less
-above_reversed Less p q = absurd (true≢false p)
-above_reversed Equal p q = absurd (true≢false q)
-above_reversed Greater p q = refl
 
 -- ---- pairs put into a map
 

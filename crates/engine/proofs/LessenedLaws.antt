@@ -7,7 +7,7 @@ use Rattle.doc.specs.Id.{Id}
 use Rattle.engine.specs.Lessened.{all_before, IsLessened}
 use Rattle.engine.specs.Parts.{PartData, all_published, published_of, without}
 use Rattle.engine.specs.Published.{Published, AreTold}
-use Rattle.engine.specs.declared.lessened.Lessened.{Lessened}
+use Rattle.engine.specs.declared.job.lessened.Lessened.{Lessened}
 use Rattle.engine.proofs.SwapLaws.{published-more}
 
 -- what all first parts have that of one has

@@ -13,7 +13,7 @@ use Rattle.doc.specs.Id.{Id, id_cmp, is_id}
 use Rattle.op.specs.Documents.{Document, Documents, document_at}
 use Rattle.engine.specs.Before.{first_of_each, is_before, is_behind, rank}
 use Rattle.engine.specs.Shown.{seen, seen_all, shown_view}
-use Rattle.engine.specs.declared.block.Shown.{Shown}
+use Rattle.engine.specs.declared.read.block.Shown.{Shown}
 use Rattle.engine.specs.Parts.{has_id, merged, times, woven, AllInOrder, AreApart}
 use Rattle.engine.proofs.PartLaws.{Item, drop-take, first, in_order-filter, in_order-take, less, second, take-merged, true_T, T_true}
 use Rattle.engine.proofs.ApartLaws.{all_at, all_take, filtered_some, counted-more, in_order-woven, limited-more}

@@ -17,6 +17,7 @@ use Rattle.engine.specs.Kept.{IsKept}
 use Rattle.engine.specs.OperationIndex.{IsIndexed, operations_in}
 use Rattle.engine.proofs.KeptLaws.{IsKept-push, weaker}
 use Rattle.engine.proofs.PartLaws.{or_none, or_or}
+use Rattle.op.proofs.LocalLaws.{drop_one}
 
 -- one operation more of those that stand in records
 pub operations_in-more : (os : List Op) (g : ℤ) (o : Op) (r : Record) (left rs : List Record) → r ≡ Kept g o → os ++ operations_in (r ∷ left) ≡ operations_in rs → (os ++ o ∷ []) ++ operations_in left ≡ operations_in rs
@@ -72,9 +73,6 @@ last_on-append [] ps id = or_none (last_on ps id)
 last_on-append (o ∷ os) ps id =
     ap (λ l. option_or l (if is_on id o then Some o else None)) (last_on-append os ps id)
     ∙ or_or (last_on ps id) (last_on os id) (if is_on id o then Some o else None)
-
-drop_one : (n k : ℕ) (p : Op) (ps : List Op) → suc n ≤ k → drop (k - n) (p ∷ ps) ≡ drop (k - suc n) ps
-drop_one n k p ps le = let e : k - n ≡ suc (k - suc n) = omega arith in rw e refl
 
 drop_none : (n : ℕ) (os : List Op) → drop (n - n) os ≡ os
 drop_none n os = let e : n - n ≡ 0 = omega arith in rw e refl

@@ -5,8 +5,8 @@ use Rattle.op.specs.declared.record.Record.{Record}
 use Rattle.op.specs.declared.record.Record.TheVariants.{Op as Kept, Resync, Recover}
 use Rattle.op.specs.Operations.{op_at, is_stale}
 use Rattle.op.specs.Records.{IsRecord}
-use Rattle.engine.specs.declared.history.Applied.{Applied}
-use Rattle.engine.specs.declared.history.Applied.TheVariants.{Taken, Stale, Repeated}
+use Rattle.engine.specs.declared.operations.history.Applied.{Applied}
+use Rattle.engine.specs.declared.operations.history.Applied.TheVariants.{Taken, Stale, Repeated}
 
 -- an operation is repeated where its number is there, and stale where a greater one on its id is
 abbrev pub outcome : List Op → Op → Applied

@@ -4,7 +4,7 @@ use Rattle.std.specs.Prelude.{◌≡◌, ◌≤◌, ℕ, Bool, not, List, length
 use Rattle.std.specs.Ordering.{is_lt}
 use Rattle.doc.specs.Id.{Id, id_cmp}
 use Rattle.op.specs.Documents.{Document, Documents}
-use Rattle.engine.specs.declared.paging.Pivot.{Pivot}
+use Rattle.engine.specs.declared.read.paging.Pivot.{Pivot}
 
 -- whether a document stands before an id
 abbrev pub is_before : Id → Id × Document → Bool

@@ -13,7 +13,7 @@ use Rattle.engine.specs.Answer.{SnapshotData}
 use Rattle.engine.specs.Lessened.{all_before, IsLessened}
 use Rattle.engine.specs.Parts.{has_id, is_among, merged, without}
 use Rattle.engine.specs.Published.{Published}
-use Rattle.engine.specs.declared.lessened.Lessened.{Lessened}
+use Rattle.engine.specs.declared.job.lessened.Lessened.{Lessened}
 use Rattle.engine.specs.SnapshotChange.{StayShown}
 
 -- the id that an operation is on, where it is on one

@@ -2,7 +2,7 @@
 -- For proofs alone: no public contract rests on it.
 use Rattle.doc.specs.Id.{Id}
 use Rattle.op.specs.Documents.{Document}
-use Rattle.engine.specs.declared.documents.Entry.{Entry}
+use Rattle.engine.specs.declared.read.documents.Entry.{Entry}
 
 -- the document, without where its text lies
 abbrev pub document_in : Entry → Document

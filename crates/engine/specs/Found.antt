@@ -1,6 +1,6 @@
 -- A document that was found.
 use Rattle.op.specs.Documents.{Document}
-use Rattle.engine.specs.declared.history.Found.{Found}
+use Rattle.engine.specs.declared.operations.history.Found.{Found}
 
 -- the document, without where its text lies
 abbrev pub found_document : Found → Document

@@ -5,7 +5,7 @@ use Rattle.std.specs.HashMap.{HashMap, spare}
 use Rattle.doc.specs.Id.{Id}
 use Rattle.op.specs.declared.operation.Op.{Op}
 use Rattle.op.specs.Operations.{last_on}
-use Rattle.engine.specs.declared.id_key.IdKey.{IdKey}
+use Rattle.engine.specs.declared.ids.id_key.IdKey.{IdKey}
 use Rattle.engine.specs.IdFilter.{place_in}
 use Rattle.engine.specs.OperationIndex.{number_at}
 

@@ -4,7 +4,7 @@ use Rattle.std.specs.Prelude.{◌≡◌, List, map}
 use Rattle.doc.specs.Id.{Id}
 use Rattle.engine.specs.Parts.{published_of, without}
 use Rattle.engine.specs.Published.{Published}
-use Rattle.engine.specs.declared.lessened.Lessened.{Lessened}
+use Rattle.engine.specs.declared.job.lessened.Lessened.{Lessened}
 
 -- the second part is what is left of the first
 abbrev pub IsLessened : List Id → Lessened → Type 0

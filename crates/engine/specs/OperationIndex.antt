@@ -6,7 +6,7 @@ use Rattle.op.specs.declared.operation.Op.{Op}
 use Rattle.op.specs.declared.record.Record.{Record}
 use Rattle.op.specs.declared.record.Record.TheVariants.{Op as Kept, Resync, Recover}
 use Rattle.op.specs.Operations.{IsAscending, last_on, local_count}
-use Rattle.engine.specs.declared.id_key.IdKey.{IdKey}
+use Rattle.engine.specs.declared.ids.id_key.IdKey.{IdKey}
 
 -- what is kept in addition to operations in order: at each id the number of the last on it, and how many are there from number 0 up without a gap
 pub record IsIndexed (os : List Op) (latest : Id → Option ℕ) (local : ℕ) : Type 0 where

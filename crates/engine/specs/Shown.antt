@@ -7,9 +7,9 @@ use Rattle.std.specs.FinMap.Entries.{is_sorted}
 use Rattle.doc.specs.Id.{Id, id_cmp}
 use Rattle.op.specs.Documents.{Document, Documents}
 use Rattle.engine.specs.IdFilter.{has_bit}
-use Rattle.engine.specs.declared.block.Shown.{Shown}
-use Rattle.engine.specs.declared.snapshot.Hit.{Hit}
-use Rattle.engine.specs.declared.snapshot.Hits.{Hits}
+use Rattle.engine.specs.declared.read.block.Shown.{Shown}
+use Rattle.engine.specs.declared.read.snapshot.Hit.{Hit}
+use Rattle.engine.specs.declared.read.snapshot.Hits.{Hits}
 use Rattle.engine.specs.Answer.{Answer}
 
 -- the document, as it was made

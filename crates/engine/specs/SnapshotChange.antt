@@ -12,8 +12,8 @@ use Rattle.op.specs.Records.{IsRecord, operations, shown}
 use Rattle.engine.specs.Contents.{Contents, EngineData, contents_of}
 use Rattle.engine.specs.Live.{changed_live, changed_segments, is_live, AreLive}
 use Rattle.engine.specs.Published.{Published, next_after, AreBelow, IsFronted}
-use Rattle.engine.specs.declared.staged.SnapshotChange.{SnapshotChange}
-use Rattle.engine.specs.declared.staged.SnapshotChange.TheVariants.{Refresh, Reopen}
+use Rattle.engine.specs.declared.job.staged.SnapshotChange.{SnapshotChange}
+use Rattle.engine.specs.declared.job.staged.SnapshotChange.TheVariants.{Refresh, Reopen}
 
 -- a refresh shows all records, new records are all shown
 abbrev pub changed : Contents → SnapshotChange → Contents

@@ -17,17 +17,17 @@ ghost use Rattle.engine.specs.Published.{mergeable_count, next_after, numbered, 
 ghost use Rattle.engine.specs.SnapshotChange.{changed, is_written, next_segment, ArePublished, IsNumbered, IsRefreshed, IsSnapshotChange, OnlyOps};
 ghost use Rattle.engine.specs.Staged.{put_in, records_of, IsStagedFrom};
 
-use crate::ahead::Ahead;
-use crate::block::Block;
-use crate::documents::documents_at;
-use crate::history::{Applied, Found, History};
-use crate::listed::Listed;
-use crate::showing::Showing;
-use crate::slot::LetGo;
-use crate::snapshot::Snapshot;
-use crate::staged::{SnapshotChange, Staged};
-use crate::swapping::{BegunMerge, Merged, Merging, are_taken};
-use crate::unshown::Begun;
+use crate::job::staged::{SnapshotChange, Staged};
+use crate::job::swapping::{BegunMerge, Merged, Merging, are_taken};
+use crate::job::unshown::Begun;
+use crate::operations::ahead::Ahead;
+use crate::operations::history::{Applied, Found, History};
+use crate::operations::listed::Listed;
+use crate::operations::slot::LetGo;
+use crate::read::block::Block;
+use crate::read::documents::documents_at;
+use crate::read::showing::Showing;
+use crate::read::snapshot::Snapshot;
 use doc::{DocId, Mapping, Source};
 use op::{Body, Op, Operations, Record};
 use segment::Segment;

@@ -2,6 +2,7 @@ pub mod BulkLines
 pub mod Parts
 pub mod Bulks
 pub mod Calls
+pub mod Turns
 pub mod FullCommands
 pub mod Pages
 pub mod Paths

@@ -17,6 +17,7 @@ use Rattle.front.specs.Serving.{Answered, Begun, Serves, Partly, Served, Stopped
 use Rattle.front.specs.Work.{work_of}
 use Rattle.front.proofs.Calls.{begun_none}
 use Rattle.wire.proofs.Standings.{Reads, read_one, read_none}
+use Rattle.wire.proofs.Heads.{at_rest}
 
 module _ {S : Type 0} (answers : S → Command → Reply → S → Type 0) (index : List ℕ) (mapping : MappingData) where
   pub one_more : (s m t : S) (qs : List Standing) (q : Standing) (out one : List ℕ) → Serves answers index mapping s qs out m → Answered answers index (work_of index mapping q) m one t
@@ -45,9 +46,6 @@ module _ {S : Type 0} (answers : S → Command → Reply → S → Type 0) (inde
     serves = (refl, refl);
     written = Appends-nil out;
   }
-
-  at_rest : (P : List ℕ → Type 0) (o : Option (List ℕ)) (rest : List ℕ) → o ≡ Some rest → IfSome o P → P rest
-  at_rest P o rest e h = rw e at h
 
   -- a fault before a request is read, or while it is
   pub stops : (start left old new : Option (List ℕ)) (s t : S) (count : ℕ) (e : StreamFault) → is_write e ≡ false → IfSome start (Going answers index mapping s t old new left count)

@@ -12,10 +12,10 @@ use Rattle.front.specs.declared.page.Status.TheVariants as status
 use Rattle.front.specs.declared.target.Endpoint.{Endpoint}
 use Rattle.front.specs.declared.target.Endpoint.TheVariants.{Document}
 use Rattle.front.specs.Asking.{ask, or_nothing, has_none, has_no_page}
-use Rattle.front.specs.Fault.{Fault, no_route, no_index, bad_parameter, type_in_path, no_handler}
-use Rattle.front.specs.Page.{response, fault_page, before_empty}
+use Rattle.front.specs.Fault.{Fault, no_route, no_index, bad_parameter, type_in_path, no_handler, index_exists}
+use Rattle.front.specs.Page.{response, explained_page, before_empty}
 use Rattle.front.specs.Target.{Route, check, origin_of, route_of, parameters_of}
-use Rattle.front.specs.Work.{Work, refused, worked}
+use Rattle.front.specs.Work.{Work, explained, refused, worked}
 
 -- parameters that client libraries send by default, and that could change no answer here: how long to wait, and where to look first
 abbrev pub names_time : List ℕ → Bool
@@ -68,15 +68,36 @@ abbrev pub is_document : Endpoint → Bool
 is_document Document = true
 is_document e = false
 
+abbrev pub part_alone : List ℕ × Option (List ℕ) → Option (List ℕ)
+part_alone (part, None) = Some (percent_decode part)
+part_alone (part, Some others) = None
+
+-- the decoded part of a path that has only one
+abbrev pub only_part : List ℕ → Option (List ℕ)
+only_part [] = None
+only_part (b ∷ bs) = if b == 47 then part_alone (cut_at 47 bs) else None
+
+abbrev pub is_part : List ℕ → Option (List ℕ) → Bool
+is_part index None = false
+is_part index (Some part) = bytes_eq part index
+
+-- whether the request is to make the index that is served
+abbrev pub makes_index : List ℕ → Request → Bool
+makes_index index r = bytes_eq r.method (codes "PUT") && is_part index (only_part (cut_at 63 (origin_of r.target)).0)
+
+-- the fault of a path without an endpoint
+abbrev pub unrouted : List ℕ → Request → Fault
+unrouted index r = if makes_index index r then index_exists else no_handler
+
 -- client libraries take 404 for a document that isn't there, so a path without an endpoint has another page than that
-abbrev pub handled_route : Result Route Fault → Result ⊤ Fault
-handled_route (Err no_route) = Err no_handler
-handled_route (Err f) = Ok tt
-handled_route (Ok route) = check (not (is_document route.endpoint && is_typed_id route.id)) type_in_path
+abbrev pub handled_route : Fault → Result Route Fault → Result ⊤ Fault
+handled_route unrouted (Err no_route) = Err unrouted
+handled_route unrouted (Err f) = Ok tt
+handled_route unrouted (Ok route) = check (not (is_document route.endpoint && is_typed_id route.id)) type_in_path
 
 -- whether an endpoint has the path, and has it where no type is, or the first fault
-unfoldable pub handled : Request → Result ⊤ Fault
-handled r = handled_route (route_of (cut_at 63 (origin_of r.target)).0)
+unfoldable pub handled : List ℕ → Request → Result ⊤ Fault
+handled index r = handled_route (unrouted index r) (route_of (cut_at 63 (origin_of r.target)).0)
 
 abbrev pub handled_work : Result ⊤ Fault → Work → Work
 handled_work (Err f) work = refused f
@@ -87,16 +108,7 @@ turned_work index mapping r = worked index mapping (ask true index mapping (turn
 
 -- what is done for a request
 abbrev pub greeted_work : List ℕ → MappingData → Request → Work
-greeted_work index mapping r = handled_work (handled r) (turned_work index mapping r)
-
-abbrev pub part_alone : List ℕ × Option (List ℕ) → Option (List ℕ)
-part_alone (part, None) = Some (percent_decode part)
-part_alone (part, Some others) = None
-
--- the decoded part of a path that has only one
-abbrev pub only_part : List ℕ → Option (List ℕ)
-only_part [] = None
-only_part (b ∷ bs) = if b == 47 then part_alone (cut_at 47 bs) else None
+greeted_work index mapping r = handled_work (handled index r) (turned_work index mapping r)
 
 abbrev pub greeting_for : Request → Welcome
 greeting_for r = if is_head r || bytes_eq r.method (codes "GET") then Greeting else Nothing
@@ -120,12 +132,12 @@ welcome_of index r = welcome_at index r (only_part (cut_at 63 (origin_of r.targe
 abbrev pub greeting : List ℕ
 greeting = codes "{\"cluster_name\":\"indexd\",\"cluster_uuid\":\"_na_\",\"name\":\"indexd\",\"tagline\":\"You Know, for Search\",\"version\":{\"build_flavor\":\"default\",\"build_snapshot\":false,\"minimum_index_compatibility_version\":\"6.0.0-beta1\",\"minimum_wire_compatibility_version\":\"6.8.0\",\"number\":\"7.10.2\"}}"
 
--- the page of a request, made from the page of its commands
-abbrev pub welcome_page : Result Welcome Fault → List ℕ → List ℕ
-welcome_page (Err f) page = fault_page f
-welcome_page (Ok Nothing) page = page
-welcome_page (Ok Greeting) page = response status.Good [] greeting
-welcome_page (Ok Presence) page = response status.Good [] []
+-- the page of a request, made from the one of what was done
+abbrev pub welcome_page : Result Welcome Fault → List ℕ → List ℕ → List ℕ
+welcome_page (Err f) why page = explained_page f why
+welcome_page (Ok Nothing) why page = page
+welcome_page (Ok Greeting) why page = response status.Good [] greeting
+welcome_page (Ok Presence) why page = response status.Good [] []
 
 -- a head with one more field, which says that the stream ends after it
 unfoldable pub closed_head : List ℕ → List ℕ
@@ -138,5 +150,6 @@ abbrev pub headed : Bool → List ℕ → List ℕ
 headed true page = head_alone page
 headed false page = page
 
-abbrev pub greeted_page : List ℕ → Request → List ℕ → List ℕ
-greeted_page index r page = headed (is_head r) (welcome_page (welcome_of index r) page)
+-- the page of a request, made from the page of its commands; a sentence says why it is refused
+abbrev pub greeted_page : List ℕ → MappingData → Request → List ℕ → List ℕ → List ℕ
+greeted_page index mapping r why page = headed (is_head r) (welcome_page (welcome_of index r) why (explained (greeted_work index mapping r) true why page))

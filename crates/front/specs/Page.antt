@@ -16,7 +16,7 @@ use Rattle.front.specs.declared.target.Endpoint.{Endpoint}
 use Rattle.front.specs.declared.target.Endpoint.TheVariants.{Document, Create, Search, Count, Refresh, Bulk, Promote}
 use Rattle.front.specs.Command.{Command, write, bulk, get, search, count, refresh, promote}
 use Rattle.wire.specs.Fault.{bad_head, transfer_coding, body_too_large}
-use Rattle.front.specs.Fault.{Fault, of_head, no_route, no_index, bad_method, bad_parameter, bad_bulk, foreign_origin, foreign_host, type_in_path, no_handler, of_document, of_query}
+use Rattle.front.specs.Fault.{Fault, of_head, no_route, no_index, bad_method, bad_parameter, bad_bulk, foreign_origin, foreign_host, type_in_path, no_handler, index_exists, of_document, of_query}
 use Rattle.front.specs.Reply.{Reply, wrote, got, hits, counted, refreshed, promoted, refused}
 
 abbrev pub number_of : Status → List ℕ
@@ -87,6 +87,7 @@ kind_of bad_parameter = (status.BadRequest, codes "request_fault")
 kind_of bad_bulk = (status.BadRequest, codes "request_fault")
 kind_of type_in_path = (status.BadRequest, codes "request_fault")
 kind_of no_handler = (status.BadRequest, codes "no_route")
+kind_of index_exists = (status.BadRequest, codes "resource_already_exists_exception")
 kind_of foreign_origin = (status.Forbidden, codes "sender_fault")
 kind_of foreign_host = (status.Misdirected, codes "sender_fault")
 kind_of no_index = (status.NotFound, codes "index_not_found_exception")
@@ -103,6 +104,7 @@ name_of bad_parameter = codes "BadParameter"
 name_of bad_bulk = codes "BadBulk"
 name_of type_in_path = codes "TypeInPath"
 name_of no_handler = codes "NoHandler"
+name_of index_exists = codes "IndexExists"
 name_of foreign_origin = codes "ForeignOrigin"
 name_of foreign_host = codes "ForeignHost"
 name_of no_index = codes "NoIndex"
@@ -145,6 +147,32 @@ error_body name kind = codes "{\"error\":" ++ (error name kind.1 ++ (codes ",\"s
 
 abbrev pub fault_page : Fault → List ℕ
 fault_page f = response (kind_of f).0 (allow_of f) (error_body (name_of f) (kind_of f))
+
+-- the type of a fault, as Elasticsearch names it where it has such a fault
+abbrev pub type_of : Fault → List ℕ
+type_of (of_document (doc.unmapped field)) = codes "strict_dynamic_mapping_exception"
+type_of (of_document f) = codes "mapper_parsing_exception"
+type_of (of_query f) = codes "parsing_exception"
+type_of bad_parameter = codes "illegal_argument_exception"
+type_of bad_bulk = codes "illegal_argument_exception"
+type_of type_in_path = codes "illegal_argument_exception"
+type_of no_handler = codes "illegal_argument_exception"
+type_of f = (kind_of f).1
+
+-- the object that says in a sentence why something is refused
+unfoldable pub cause : List ℕ → List ℕ → List ℕ
+cause sentence kind = codes "{\"reason\":" ++ (sentence ++ (codes ",\"type\":\"" ++ (kind ++ codes "\"}")))
+
+unfoldable pub explained_error : List ℕ → List ℕ → List ℕ → List ℕ
+explained_error name sentence kind =
+    codes "{\"name\":\"" ++ (name ++ (codes "\",\"reason\":" ++ (sentence ++ (codes ",\"root_cause\":[" ++ (cause sentence kind ++ (codes "],\"type\":\"" ++ (kind ++ codes "\"}")))))))
+
+unfoldable pub explained_body : List ℕ → List ℕ → List ℕ → Status → List ℕ
+explained_body name sentence kind s = codes "{\"error\":" ++ (explained_error name sentence kind ++ (codes ",\"status\":" ++ (number_of s ++ codes "}")))
+
+-- the page of a fault, with a sentence that says why
+abbrev pub explained_page : Fault → List ℕ → List ℕ
+explained_page f why = response (kind_of f).0 (allow_of f) (explained_body (name_of f) (quoted why) (type_of f) (kind_of f).0)
 
 abbrev pub refusal_page : Refusal → List ℕ
 refusal_page r = response (refusal_kind r).0 [] (error_body (refusal_name r) (refusal_kind r))

@@ -11,7 +11,7 @@ use Rattle.front.specs.Greeting.{greeted_work, greeted_page}
 use Rattle.front.specs.Page.{with_fields}
 use Rattle.front.specs.Reply.{Reply}
 use Rattle.front.specs.Serving.{Answered}
-use Rattle.front.specs.Work.{Work, refused, worked}
+use Rattle.front.specs.Work.{Work, explained, refused, worked}
 
 -- whether requests are answered as the client libraries of Elasticsearch expect, and who may ask
 pub record Rule : Type 0 where
@@ -22,9 +22,9 @@ abbrev pub work_if : Bool → List ℕ → MappingData → Request → Work
 work_if true index mapping r = greeted_work index mapping r
 work_if false index mapping r = worked index mapping (ask false index mapping r)
 
-abbrev pub page_if : Bool → List ℕ → Request → List ℕ → List ℕ
-page_if true index r page = greeted_page index r page
-page_if false index r page = page
+abbrev pub page_if : Bool → List ℕ → MappingData → Request → List ℕ → List ℕ → List ℕ
+page_if true index mapping r why page = greeted_page index mapping r why page
+page_if false index mapping r why page = page
 
 -- nothing is done for a sender that may not ask
 abbrev pub admitted_work : Result ⊤ Fault → Bool → List ℕ → MappingData → Request → Work
@@ -35,21 +35,21 @@ admitted_work (Ok u) greets index mapping r = work_if greets index mapping r
 abbrev pub opened_for : Rule → Request → List ℕ → List ℕ
 opened_for rule r page = opened rule.admission r.sender.origins (if is_preflight r then preflight_page else page)
 
-abbrev pub opened_page : Rule → List ℕ → Request → List ℕ → List ℕ
-opened_page rule index r page = opened_for rule r (page_if rule.greets index r page)
+abbrev pub opened_page : Rule → List ℕ → MappingData → Request → List ℕ → List ℕ → List ℕ
+opened_page rule index mapping r why page = opened_for rule r (page_if rule.greets index mapping r why page)
 
-abbrev pub admitted_page : Result ⊤ Fault → Rule → List ℕ → Request → List ℕ → List ℕ
-admitted_page (Err f) rule index r page = page
-admitted_page (Ok u) rule index r page = opened_page rule index r page
+abbrev pub admitted_page : Result ⊤ Fault → Rule → List ℕ → MappingData → Request → List ℕ → List ℕ → List ℕ
+admitted_page (Err f) rule index mapping r why page = explained (refused f) rule.greets why page
+admitted_page (Ok u) rule index mapping r why page = opened_page rule index mapping r why page
 
 -- what is done for a request
 abbrev pub work_by : Rule → List ℕ → MappingData → Standing → Work
 work_by rule index mapping (bad f) = refused (of_head f)
 work_by rule index mapping (good r) = admitted_work (admitted rule.admission r.sender) rule.greets index mapping r
 
-abbrev pub plain_page : Rule → List ℕ → Standing → List ℕ → List ℕ
-plain_page rule index (bad f) page = page
-plain_page rule index (good r) page = admitted_page (admitted rule.admission r.sender) rule index r page
+abbrev pub plain_page : Rule → List ℕ → MappingData → Standing → List ℕ → List ℕ → List ℕ
+plain_page rule index mapping (bad f) why page = explained (refused (of_head f)) rule.greets why page
+plain_page rule index mapping (good r) why page = admitted_page (admitted rule.admission r.sender) rule index mapping r why page
 
 -- the field by which client libraries of Elasticsearch know its server
 abbrev pub product : List ℕ
@@ -59,16 +59,17 @@ abbrev pub signed : Bool → List ℕ → List ℕ
 signed true page = with_fields product page
 signed false page = page
 
--- the page of a request, made from the page of its commands
-abbrev pub page_by : Rule → List ℕ → Standing → List ℕ → List ℕ
-page_by rule index q page = signed rule.greets (plain_page rule index q page)
+-- the page of a request, made from the page of its commands; with a sentence, if it is refused by a server that greets
+abbrev pub page_by : Rule → List ℕ → MappingData → Standing → List ℕ → List ℕ → List ℕ
+page_by rule index mapping q why page = signed rule.greets (plain_page rule index mapping q why page)
 
--- the service was called with exactly the commands of some work, and what is written is made from its page
-pub record Turned {S : Type 0} (answers : S → Command → Reply → S → Type 0) (index : List ℕ) (w : Work) (turn : List ℕ → List ℕ) (s : S) (out : List ℕ) (t : S) : Type 0 where
+-- the service was called with exactly the commands of some work, and what is written is made from its page and a sentence
+pub record Turned {S : Type 0} (answers : S → Command → Reply → S → Type 0) (index : List ℕ) (w : Work) (turn : List ℕ → List ℕ → List ℕ) (s : S) (out : List ℕ) (t : S) : Type 0 where
   pub page : List ℕ
+  pub why : List ℕ
   pub answered : Answered answers index w s page t
-  pub is_page : out ≡ turn page
+  pub is_page : out ≡ turn why page
 
 -- a request was answered by this rule
 abbrev pub AnsweredBy : {S : Type 0} → Rule → (S → Command → Reply → S → Type 0) → List ℕ → MappingData → Standing → S → List ℕ → S → Type 0
-AnsweredBy rule answers index mapping q s out t = Turned answers index (work_by rule index mapping q) (page_by rule index q) s out t
+AnsweredBy rule answers index mapping q s out t = Turned answers index (work_by rule index mapping q) (page_by rule index mapping q) s out t

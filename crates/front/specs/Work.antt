@@ -1,12 +1,12 @@
 -- What a request asks, and its page.
-use Rattle.std.specs.Prelude.{ℕ, Bool, false, List, [], ◌∷◌, Result, Ok, Err}
+use Rattle.std.specs.Prelude.{◌≡◌, ℕ, Bool, true, false, List, [], ◌∷◌, Result, Ok, Err}
 use Rattle.doc.specs.Mapping.{MappingData}
 use Rattle.front.specs.Asking.{ask}
 use Rattle.front.specs.Bulk.{bulk_commands, to_writes, behind_writes, bulk_texts, bulk_refusal, bulk_page}
 use Rattle.front.specs.Command.{Command}
 use Rattle.front.specs.Fault.{Fault, of_head}
 use Rattle.front.specs.Item.{Item, Asked, one, many}
-use Rattle.front.specs.Page.{subject_of, fault_page, reply_page}
+use Rattle.front.specs.Page.{subject_of, explained_page, fault_page, reply_page}
 use Rattle.front.specs.Reply.{Reply}
 use Rattle.wire.specs.Requests.{Standing, bad, good}
 
@@ -38,3 +38,15 @@ abbrev pub page : List ℕ → Work → List Reply → List ℕ
 page index (refused f) replies = fault_page f
 page index (single c) replies = single_page index c replies
 page index (bulk served mapping wanted items) replies = bulk_page (bulk_texts served mapping items (to_writes served mapping items replies)) (bulk_refusal (behind_writes served mapping items replies))
+
+-- the page of a request; if it is refused by a server that greets, its page has a sentence
+abbrev pub explained : Work → Bool → List ℕ → List ℕ → List ℕ
+explained (refused f) true why page = explained_page f why
+explained (refused f) false why page = page
+explained (single c) greets why page = page
+explained (bulk index mapping wanted items) greets why page = page
+
+-- the page of a fault, by a server that greets or one that doesn't
+pub record IsRefusedPage (greets : Bool) (f : Fault) (out : List ℕ) : Type 0 where
+  pub why : List ℕ
+  pub is : out ≡ explained (refused f) greets why (fault_page f)

@@ -74,7 +74,7 @@ fn handled_reasons(
     mapping: &Mapping,
     request: &Request,
 ) -> Result<Vec<String>, AllocError> {
-    match check_handled(alloc, request) {
+    match check_handled(alloc, index, request) {
         Ok(()) => {
             let turned = turned_request(alloc, request)?;
             reasons_in(alloc, true, index, mapping, &turned)
@@ -108,22 +108,45 @@ fn one_reason(
     fault: &RequestFault,
     request: &Request,
 ) -> Result<Vec<String>, AllocError> {
+    let mut reasons = Vec::new(alloc);
+    reasons.push(sentence(alloc, greets, index, mapping, fault, request)?)?;
+    Ok(reasons)
+}
+
+/// Why a request is refused, in a sentence.
+pub(crate) fn sentence(
+    alloc: Global,
+    greets: bool,
+    index: &str,
+    mapping: &Mapping,
+    fault: &RequestFault,
+    request: &Request,
+) -> Result<String, AllocError> {
     let (path, query) = cut_at(origin_of(&request.target), b'?');
-    let why = match fault {
-        RequestFault::BadParameter => parameter_reason(alloc, or_nothing(query))?,
+    match fault {
+        RequestFault::BadParameter => parameter_reason(alloc, or_nothing(query)),
         RequestFault::BadBulk => {
             let named = if path == b"/_bulk".as_slice() {
                 None
             } else {
                 Some(index)
             };
-            bulk_reason(alloc, greets, named, &request.body)?
+            bulk_reason(alloc, greets, named, &request.body)
         }
-        _ => reason(alloc, index, mapping, fault, &request.body)?,
+        RequestFault::NoHandler => no_handler_reason(alloc, request),
+        _ => reason(alloc, index, mapping, fault, &request.body),
+    }
+}
+
+/// That no endpoint has the path, in Elasticsearch's words. A HEAD has the page of its GET.
+fn no_handler_reason(alloc: Global, request: &Request) -> Result<String, AllocError> {
+    let uri = text_or_nothing(&request.target);
+    let method = match text_or_nothing(&request.method) {
+        "HEAD" => "GET",
+        method => method,
     };
-    let mut reasons = Vec::new(alloc);
-    reasons.push(why)?;
-    Ok(reasons)
+    let paths = words_for(&RequestFault::NoRoute);
+    format!(in alloc; "no handler found for uri [{uri}] and method [{method}]: {paths}")
 }
 
 /// Which parameter is at fault.
@@ -226,6 +249,7 @@ fn reason(
         RequestFault::NoIndex => {
             format!(in alloc; "another index is served here, which is named {index}")
         }
+        RequestFault::IndexExists => format!(in alloc; "index [{index}] already exists"),
         _ => String::from_str(alloc, words_for(fault)),
     }
 }
@@ -262,6 +286,7 @@ fn words_for(fault: &RequestFault) -> &'static str {
         }
         RequestFault::NoMemory => "out of memory",
         RequestFault::NoIndex
+        | RequestFault::IndexExists
         | RequestFault::BadParameter
         | RequestFault::BadBulk
         | RequestFault::Document(_)
@@ -269,7 +294,7 @@ fn words_for(fault: &RequestFault) -> &'static str {
     }
 }
 
-fn head_reason(fault: HeadFault) -> &'static str {
+pub(crate) fn head_reason(fault: HeadFault) -> &'static str {
     match fault {
         HeadFault::BadHead => {
             "no head of HTTP/1.0 or 1.1 of at most 16,384 bytes and 64 fields, with one length"

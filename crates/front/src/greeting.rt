@@ -1,21 +1,26 @@
 //! Requests as the client libraries of Elasticsearch send them: they greet a server, ask for the head of a page without its body, and wait for refreshes.
-ghost use Rattle.std.specs.Prelude.{◌≡◌, IfOk, IfErr, OnErr, string_bytes, option_map};
+ghost use Rattle.std.specs.Prelude.{◌≡◌, [], ℕ, List, true, Some, IfOk, IfErr, OnErr, string_bytes, option_map};
+ghost use Rattle.wire.specs.Pieces.{cut_at};
 ghost use Rattle.wire.specs.Reading as read;
 ghost use Rattle.wire.specs.declared.fault.StreamFault.TheVariants.{NoMemory};
 ghost use Rattle.doc.specs.Outcome.{Gives};
 ghost use Rattle.front.specs.Fault.{fault_of};
 ghost use Rattle.front.specs.Greeting as spec;
 ghost use Rattle.front.specs.Rule.{Turned};
-ghost use Rattle.front.specs.Serving.{Answered, Begun};
+ghost use Rattle.front.specs.Target.{origin_of};
+ghost use Rattle.front.specs.Serving.{Begun};
+ghost use Rattle.front.specs.Work.{explained};
 
 use crate::asking::{has_no_page, has_none, or_nothing};
-use crate::page::{Status, fault_page, response};
+use crate::page::{Status, response};
 use crate::parameters::parameters_of;
 use crate::pieces::Page;
+use crate::refusing::refused_page;
 use crate::request_fault::RequestFault;
 use crate::service::Service;
 use crate::serving::answer_request;
 use crate::target::{Endpoint, decoded, origin_of, route_of};
+use doc::Mapping;
 use std::alloc::{AllocError, Global};
 use wire::{Request, StreamFault, cut_at};
 
@@ -39,7 +44,7 @@ pub(crate) fn greet_request<S: Service>(
     request: &Request,
 ) -> Result<Page, StreamFault>
     ensures ok { IfOk result (λ page. Turned S.answers (S.name service.old) (spec.greeted_work (S.name service.old) (S.fields service.old) (read.request_view request.now))
-        (λ out. spec.greeted_page (S.name service.old) (read.request_view request.now) out) service.old page service.new) }
+        (λ why out. spec.greeted_page (S.name service.old) (S.fields service.old) (read.request_view request.now) why out) service.old page service.new) }
     ensures err { OnErr result (Begun S.answers
         (spec.greeted_work (S.name service.old) (S.fields service.old) (read.request_view request.now)) service.old service.new) }
     ensures cause { IfErr result (λ e. e ≡ NoMemory) }
@@ -47,7 +52,8 @@ pub(crate) fn greet_request<S: Service>(
     ensures fields { S.fields service.new ≡ S.fields service.old }
 {
     let page = turned_answer(alloc, service, request)?;
-    greeted_page(alloc, service.index(), request, page)
+    let page = welcomed(alloc, service.index(), service.mapping(), request, page)?;
+    Ok(headed(alloc, request, page)?)
 }
 
 fn turned_answer<S: Service>(
@@ -55,20 +61,27 @@ fn turned_answer<S: Service>(
     service: &mut S,
     request: &Request,
 ) -> Result<Page, StreamFault>
-    ensures ok { IfOk result (λ page. Answered S.answers (S.name service.old) (spec.greeted_work (S.name service.old) (S.fields service.old) (read.request_view request.now))
-        service.old page service.new) }
+    ensures ok { IfOk result (λ page. Turned S.answers (S.name service.old) (spec.greeted_work (S.name service.old) (S.fields service.old) (read.request_view request.now))
+        (explained (spec.greeted_work (S.name service.old) (S.fields service.old) (read.request_view request.now)) true) service.old page service.new) }
     ensures err { OnErr result (Begun S.answers
         (spec.greeted_work (S.name service.old) (S.fields service.old) (read.request_view request.now)) service.old service.new) }
     ensures cause { IfErr result (λ e. e ≡ NoMemory) }
     ensures name { S.name service.new ≡ S.name service.old }
     ensures fields { S.fields service.new ≡ S.fields service.old }
 {
-    match check_handled(alloc, request) {
+    match check_handled(alloc, service.index(), request) {
         Ok(()) => answer_turned(alloc, service, request),
         Err(fault) => if fault.is_memory() {
             Err(StreamFault::NoMemory)
         } else {
-            Ok(Page::of(alloc, fault_page(alloc, &fault)?))
+            Ok(refused_page(
+                alloc,
+                true,
+                service.index(),
+                service.mapping(),
+                &fault,
+                request,
+            )?)
         },
     }
 }
@@ -79,8 +92,8 @@ fn answer_turned<S: Service>(
     service: &mut S,
     request: &Request,
 ) -> Result<Page, StreamFault>
-    ensures ok { IfOk result (λ page. Answered S.answers (S.name service.old) (spec.turned_work (S.name service.old) (S.fields service.old) (read.request_view request.now))
-        service.old page service.new) }
+    ensures ok { IfOk result (λ page. Turned S.answers (S.name service.old) (spec.turned_work (S.name service.old) (S.fields service.old) (read.request_view request.now))
+        (explained (spec.turned_work (S.name service.old) (S.fields service.old) (read.request_view request.now)) true) service.old page service.new) }
     ensures err { OnErr result (Begun S.answers
         (spec.turned_work (S.name service.old) (S.fields service.old) (read.request_view request.now)) service.old service.new) }
     ensures cause { IfErr result (λ e. e ≡ NoMemory) }
@@ -93,8 +106,12 @@ fn answer_turned<S: Service>(
 
 /// Whether an endpoint has the path, and has it where no type is, or the first fault.
 #[tactic(auto, unfolding(crate::specs::Greeting::handled))]
-pub(crate) fn check_handled(alloc: Global, request: &Request) -> Result<(), RequestFault>
-    ensures { Gives fault_of (λ u. u) result (spec.handled (read.request_view request.now)) }
+pub(crate) fn check_handled(
+    alloc: Global,
+    index: &str,
+    request: &Request,
+) -> Result<(), RequestFault>
+    ensures { Gives fault_of (λ u. u) result (spec.handled index.now (read.request_view request.now)) }
 {
     let (path, _) = cut_at(origin_of(&request.target), b'?');
     match route_of(alloc, path) {
@@ -103,12 +120,38 @@ pub(crate) fn check_handled(alloc: Global, request: &Request) -> Result<(), Requ
         } else {
             Ok(())
         },
-        Err(RequestFault::NoRoute) => Err(RequestFault::NoHandler),
+        Err(RequestFault::NoRoute) => Err(unrouted(alloc, index, path, request)?),
         Err(fault) => if fault.is_memory() {
             Err(RequestFault::NoMemory)
         } else {
             Ok(())
         },
+    }
+}
+
+/// The fault of a path without an endpoint.
+fn unrouted(
+    alloc: Global,
+    index: &str,
+    path: &[u8],
+    request: &Request,
+) -> Result<RequestFault, AllocError>
+    requires { path.now ≡ (cut_at 63 (origin_of (read.request_view request.now).target)).0 }
+    ensures { IfOk result (λ f. fault_of f ≡ Some (spec.unrouted index.now (read.request_view request.now))) }
+{
+    if request.method.as_slice() == b"PUT".as_slice() && is_part(index, &only_part(alloc, path)?) {
+        Ok(RequestFault::IndexExists)
+    } else {
+        Ok(RequestFault::NoHandler)
+    }
+}
+
+fn is_part(index: &str, part: &Option<Vec<u8>>) -> bool
+    ensures { result ≡ spec.is_part index.now (option_map (λ p. p.items) part.now) }
+{
+    match part {
+        Some(part) => part.as_slice() == index.as_bytes(),
+        None => false,
     }
 }
 
@@ -312,34 +355,43 @@ fn fitting(alloc: Global, query: &[u8], welcome: Welcome) -> Result<Welcome, Req
     }
 }
 
-/// The page of a request, made from the page of its commands.
-fn greeted_page(
+/// The page of a request, made from the one of what was done. It is the page of a GET, if the request is a HEAD.
+fn welcomed(
     alloc: Global,
     index: &str,
+    mapping: &Mapping,
     request: &Request,
     page: Page,
 ) -> Result<Page, StreamFault>
-    ensures page { IfOk result (λ p. p ≡ spec.greeted_page index.now (read.request_view request.now) page) }
+    ensures page { IfOk result (λ p. (why : List ℕ) × (p ≡ spec.welcome_page (spec.welcome_of index.now (read.request_view request.now)) why page)) }
     ensures cause { IfErr result (λ e. e ≡ NoMemory) }
 {
-    let page = match welcome_of(alloc, index, request) {
-        Ok(welcome) => welcome_page(alloc, welcome, page)?,
+    match welcome_of(alloc, index, request) {
+        Ok(welcome) => Ok(welcome_page(alloc, welcome, page)?),
         Err(fault) => {
+            drop(page);
             if fault.is_memory() {
-                return Err(StreamFault::NoMemory);
+                Err(StreamFault::NoMemory)
+            } else {
+                Ok(refused_page(alloc, true, index, mapping, &fault, request)?)
             }
-            Page::of(alloc, fault_page(alloc, &fault)?)
         }
-    };
+    }
+}
+
+/// The head of a page, if the request is a HEAD.
+fn headed(alloc: Global, request: &Request, page: Page) -> Result<Page, AllocError>
+    ensures { IfOk result (λ p. p ≡ spec.headed (spec.is_head (read.request_view request.now)) page) }
+{
     if is_head(request) {
-        Ok(page.head(alloc)?)
+        page.head(alloc)
     } else {
         Ok(page)
     }
 }
 
 fn welcome_page(alloc: Global, welcome: Welcome, page: Page) -> Result<Page, AllocError>
-    ensures { IfOk result (λ p. p ≡ spec.welcome_page (Ok welcome) page) }
+    ensures { IfOk result (λ p. p ≡ spec.welcome_page (Ok welcome) [] page) }
 {
     match welcome {
         Welcome::Nothing => Ok(page),

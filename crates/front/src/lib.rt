@@ -15,6 +15,7 @@ mod lines;
 mod page;
 mod parameters;
 pub mod pieces;
+mod refusing;
 pub mod reply;
 mod request_fault;
 pub mod rule;

@@ -3,6 +3,7 @@ ghost use Rattle.std.specs.Prelude.{◌≡◌, ◌++◌, [], codes, IfOk, IfSome
 ghost use Rattle.front.specs.CommandView.{command_view};
 ghost use Rattle.front.specs.Fault.{fault_of};
 ghost use Rattle.front.specs.Page as spec;
+ghost use Rattle.json.specs.Print as json;
 ghost use Rattle.front.specs.declared.page.Status.TheVariants.{Good};
 ghost use Rattle.front.specs.ReplyView.{reply_view};
 ghost use Rattle.front.specs.SubjectView.{subject_view};
@@ -14,7 +15,7 @@ use crate::pieces::{Page, Pieces};
 use crate::reply::{Found, Hit, Outcome, Refusal, Reply, Wrote};
 use crate::request_fault::RequestFault;
 use crate::target::Endpoint;
-use doc::DocId;
+use doc::{DocFault, DocId};
 use std::alloc::{AllocError, Global};
 use wire::HeadFault;
 
@@ -205,6 +206,7 @@ pub(crate) fn kind_of(fault: &RequestFault) -> (Status, &'static str)
         | RequestFault::BadBulk
         | RequestFault::TypeInPath => { (Status::BadRequest, "request_fault") }
         RequestFault::NoHandler => (Status::BadRequest, "no_route"),
+        RequestFault::IndexExists => (Status::BadRequest, "resource_already_exists_exception"),
         RequestFault::ForeignOrigin => (Status::Forbidden, "sender_fault"),
         RequestFault::ForeignHost => (Status::Misdirected, "sender_fault"),
         RequestFault::NoIndex => (Status::NotFound, "index_not_found_exception"),
@@ -233,6 +235,7 @@ pub(crate) fn name_of(fault: &RequestFault) -> &'static str
         RequestFault::BadBulk => "BadBulk",
         RequestFault::TypeInPath => "TypeInPath",
         RequestFault::NoHandler => "NoHandler",
+        RequestFault::IndexExists => "IndexExists",
         RequestFault::ForeignOrigin => "ForeignOrigin",
         RequestFault::ForeignHost => "ForeignHost",
         RequestFault::NoIndex => "NoIndex",
@@ -269,6 +272,91 @@ pub(crate) fn fault_page(alloc: Global, fault: &RequestFault) -> Result<String, 
     let allow = allow_of(alloc, fault)?;
     let body = error_body(alloc, name_of(fault), status, kind)?;
     response(alloc, status, allow.as_str(), body.as_str())
+}
+
+/// The type of a fault, as Elasticsearch names it where it has such a fault.
+fn type_of(fault: &RequestFault) -> &'static str
+    ensures { IfSome (fault_of fault.now) (λ f. result.now ≡ spec.type_of f) }
+{
+    match fault {
+        RequestFault::Document(DocFault::Unmapped(_)) => "strict_dynamic_mapping_exception",
+        RequestFault::Document(_) => "mapper_parsing_exception",
+        RequestFault::Query(_) => "parsing_exception",
+        RequestFault::BadParameter
+        | RequestFault::BadBulk
+        | RequestFault::TypeInPath
+        | RequestFault::NoHandler => "illegal_argument_exception",
+        other => kind_of(other).1,
+    }
+}
+
+#[tactic(auto, unfolding(crate::specs::Page::cause))]
+fn cause(alloc: Global, sentence: &str, kind: &str) -> Result<String, AllocError>
+    ensures { IfOk result (λ t. string_bytes t ≡ spec.cause sentence.now kind.now) }
+{
+    format!(in alloc; "{{\"reason\":{sentence},\"type\":\"{kind}\"}}")
+}
+
+#[tactic(auto, unfolding(crate::specs::Page::explained_error))]
+fn explained_error(
+    alloc: Global,
+    name: &str,
+    sentence: &str,
+    kind: &str,
+) -> Result<String, AllocError>
+    ensures { IfOk result (λ t. string_bytes t ≡ spec.explained_error name.now sentence.now kind.now) }
+{
+    let cause = cause(alloc, sentence, kind)?;
+    let cause = cause.as_str();
+    format!(in alloc;
+        "{{\"name\":\"{name}\",\"reason\":{sentence},\"root_cause\":[{cause}],\"type\":\"{kind}\"}}"
+    )
+}
+
+#[tactic(auto, unfolding(crate::specs::Page::explained_body))]
+fn explained_body(
+    alloc: Global,
+    name: &str,
+    sentence: &str,
+    kind: &str,
+    status: Status,
+) -> Result<String, AllocError>
+    ensures { IfOk result (λ t. string_bytes t ≡ spec.explained_body name.now sentence.now kind.now status) }
+{
+    let error = explained_error(alloc, name, sentence, kind)?;
+    let error = error.as_str();
+    let number = status.number();
+    format!(in alloc; "{{\"error\":{error},\"status\":{number}}}")
+}
+
+/// The page of a fault, with a sentence that says why.
+pub(crate) fn explained_page(
+    alloc: Global,
+    fault: &RequestFault,
+    why: &str,
+) -> Result<String, AllocError>
+    ensures { IfOk result (λ page. IfSome (fault_of fault.now) (λ f. string_bytes page ≡ spec.explained_page f why.now)) }
+{
+    let (status, _) = kind_of(fault);
+    let allow = allow_of(alloc, fault)?;
+    let sentence = quoted(alloc, why)?;
+    let body = explained_body(
+        alloc,
+        name_of(fault),
+        sentence.as_str(),
+        type_of(fault),
+        status,
+    )?;
+    response(alloc, status, allow.as_str(), body.as_str())
+}
+
+/// A text as a JSON string.
+fn quoted(alloc: Global, text: &str) -> Result<String, AllocError>
+    ensures { IfOk result (λ t. string_bytes t ≡ json.quoted text.now) }
+{
+    let mut out = String::new(alloc);
+    push_quoted(alloc, &mut out, text)?;
+    Ok(out)
 }
 
 impl Refusal {

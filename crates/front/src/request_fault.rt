@@ -21,6 +21,7 @@ pub(crate) enum RequestFault {
     ForeignHost,
     TypeInPath,
     NoHandler,
+    IndexExists,
     Document(DocFault),
     Query(QueryFault),
     NoMemory,

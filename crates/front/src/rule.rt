@@ -9,10 +9,10 @@ ghost use Rattle.front.specs.Serving.{Begun};
 
 use crate::admission::{Admission, admit, is_preflight, opened, preflight_page};
 use crate::greeting::greet_request;
-use crate::page::fault_page;
 use crate::pieces::Page;
+use crate::refusing::{broken_page, refused_page};
 use crate::service::Service;
-use crate::serving::{answer, answer_request};
+use crate::serving::answer_request;
 use std::alloc::{AllocError, Global};
 use wire::{Request, StreamFault, Whole};
 
@@ -55,7 +55,7 @@ fn answer_plainly<S: Service>(
     whole: &Whole,
 ) -> Result<Page, StreamFault>
     ensures ok { IfOk result (λ page. (q : Standing) → read.IsStanding whole.now q → spec.Turned S.answers (S.name service.old)
-        (spec.work_by (rule_view rule.now) (S.name service.old) (S.fields service.old) q) (λ out. spec.plain_page (rule_view rule.now) (S.name service.old) q out)
+        (spec.work_by (rule_view rule.now) (S.name service.old) (S.fields service.old) q) (λ why out. spec.plain_page (rule_view rule.now) (S.name service.old) (S.fields service.old) q why out)
         service.old page service.new) }
     ensures err { OnErr result ((q : Standing) → read.IsStanding whole.now q → Begun S.answers
         (spec.work_by (rule_view rule.now) (S.name service.old) (S.fields service.old) q) service.old service.new) }
@@ -64,7 +64,7 @@ fn answer_plainly<S: Service>(
     ensures fields { S.fields service.new ≡ S.fields service.old }
 {
     match whole {
-        Whole::Broken(_) => answer(alloc, service, whole),
+        Whole::Broken(fault) => Ok(broken_page(alloc, rule.greets, *fault)?),
         Whole::Asked(request) => answer_asked(alloc, rule, service, request),
     }
 }
@@ -86,7 +86,7 @@ fn answer_asked<S: Service>(
 ) -> Result<Page, StreamFault>
     ensures ok { IfOk result (λ page. spec.Turned S.answers (S.name service.old)
         (spec.work_by (rule_view rule.now) (S.name service.old) (S.fields service.old) (good (read.request_view request.now)))
-        (λ out. spec.plain_page (rule_view rule.now) (S.name service.old) (good (read.request_view request.now)) out) service.old page service.new) }
+        (λ why out. spec.plain_page (rule_view rule.now) (S.name service.old) (S.fields service.old) (good (read.request_view request.now)) why out) service.old page service.new) }
     ensures err { OnErr result (Begun S.answers
         (spec.work_by (rule_view rule.now) (S.name service.old) (S.fields service.old) (good (read.request_view request.now))) service.old service.new) }
     ensures cause { IfErr result (λ e. e ≡ NoMemory) }
@@ -98,7 +98,14 @@ fn answer_asked<S: Service>(
         Err(fault) => if fault.is_memory() {
             Err(StreamFault::NoMemory)
         } else {
-            Ok(Page::of(alloc, fault_page(alloc, &fault)?))
+            Ok(refused_page(
+                alloc,
+                rule.greets,
+                service.index(),
+                service.mapping(),
+                &fault,
+                request,
+            )?)
         },
     }
 }
@@ -110,7 +117,7 @@ fn answer_admitted<S: Service>(
     request: &Request,
 ) -> Result<Page, StreamFault>
     ensures ok { IfOk result (λ page. spec.Turned S.answers (S.name service.old) (spec.work_if rule.now.greets (S.name service.old) (S.fields service.old) (read.request_view request.now))
-        (λ out. spec.opened_page (rule_view rule.now) (S.name service.old) (read.request_view request.now) out) service.old page service.new) }
+        (λ why out. spec.opened_page (rule_view rule.now) (S.name service.old) (S.fields service.old) (read.request_view request.now) why out) service.old page service.new) }
     ensures err { OnErr result (Begun S.answers
         (spec.work_if rule.now.greets (S.name service.old) (S.fields service.old) (read.request_view request.now)) service.old service.new) }
     ensures cause { IfErr result (λ e. e ≡ NoMemory) }
@@ -129,7 +136,7 @@ fn answer_if<S: Service>(
     request: &Request,
 ) -> Result<Page, StreamFault>
     ensures ok { IfOk result (λ page. spec.Turned S.answers (S.name service.old) (spec.work_if greets (S.name service.old) (S.fields service.old) (read.request_view request.now))
-        (λ out. spec.page_if greets (S.name service.old) (read.request_view request.now) out) service.old page service.new) }
+        (λ why out. spec.page_if greets (S.name service.old) (S.fields service.old) (read.request_view request.now) why out) service.old page service.new) }
     ensures err { OnErr result (Begun S.answers
         (spec.work_if greets (S.name service.old) (S.fields service.old) (read.request_view request.now)) service.old service.new) }
     ensures cause { IfErr result (λ e. e ≡ NoMemory) }

@@ -5,7 +5,8 @@ ghost use Rattle.wire.specs.Requests.{Standing};
 ghost use Rattle.wire.specs.declared.fault.StreamFault.TheVariants.{NoMemory};
 ghost use Rattle.front.specs.Serving as spec;
 ghost use Rattle.front.specs.Asking.{ask};
-ghost use Rattle.front.specs.Work.{work_of, worked, single, bulk};
+ghost use Rattle.front.specs.Rule.{Turned};
+ghost use Rattle.front.specs.Work.{explained, work_of, worked, single, bulk};
 ghost use Rattle.front.specs.BulkView.{item_view};
 ghost use Rattle.front.specs.CommandView.{command_view};
 
@@ -14,6 +15,7 @@ use crate::bulk::{Item, bulk_page, do_items};
 use crate::command::Command;
 use crate::page::{Subject, fault_page, reply_page};
 use crate::pieces::Page;
+use crate::refusing::refused_page;
 use crate::request_fault::RequestFault;
 use crate::service::Service;
 use std::alloc::Global;
@@ -80,8 +82,10 @@ pub(crate) fn answer_request<S: Service>(
     service: &mut S,
     request: &Request,
 ) -> Result<Page, StreamFault>
-    ensures ok { IfOk result (λ page. spec.Answered S.answers (S.name service.old)
-        (worked (S.name service.old) (S.fields service.old) (ask greets (S.name service.old) (S.fields service.old) (read.request_view request.now))) service.old page service.new) }
+    ensures ok { IfOk result (λ page. Turned S.answers (S.name service.old)
+        (worked (S.name service.old) (S.fields service.old) (ask greets (S.name service.old) (S.fields service.old) (read.request_view request.now)))
+        (explained (worked (S.name service.old) (S.fields service.old) (ask greets (S.name service.old) (S.fields service.old) (read.request_view request.now))) greets)
+        service.old page service.new) }
     ensures err { OnErr result (spec.Begun S.answers
         (worked (S.name service.old) (S.fields service.old) (ask greets (S.name service.old) (S.fields service.old) (read.request_view request.now))) service.old service.new) }
     ensures cause { IfErr result (λ e. e ≡ NoMemory) }
@@ -94,7 +98,14 @@ pub(crate) fn answer_request<S: Service>(
         Err(fault) => if fault.is_memory() {
             Err(StreamFault::NoMemory)
         } else {
-            Ok(Page::of(alloc, fault_page(alloc, &fault)?))
+            Ok(refused_page(
+                alloc,
+                greets,
+                service.index(),
+                service.mapping(),
+                &fault,
+                request,
+            )?)
         },
     }
 }
@@ -105,7 +116,7 @@ fn do_command<S: Service>(
     service: &mut S,
     command: Command,
 ) -> Result<Page, StreamFault>
-    ensures ok { IfOk result (λ page. spec.Answered S.answers (S.name service.old) (single (command_view command)) service.old page service.new) }
+    ensures ok { IfOk result (λ page. Turned S.answers (S.name service.old) (single (command_view command)) (λ why out. out) service.old page service.new) }
     ensures err { OnErr result (spec.Begun S.answers (single (command_view command)) service.old service.new) }
     ensures cause { IfErr result (λ e. e ≡ NoMemory) }
     ensures name { S.name service.new ≡ S.name service.old }
@@ -129,7 +140,7 @@ fn do_bulk<'b, S: Service>(
     refresh: bool,
     items: &[Item<'b>],
 ) -> Result<Page, StreamFault>
-    ensures ok { IfOk result (λ page. spec.Answered S.answers (S.name service.old) (bulk (S.name service.old) (S.fields service.old) refresh (map item_view items.now))
+    ensures ok { IfOk result (λ page. Turned S.answers (S.name service.old) (bulk (S.name service.old) (S.fields service.old) refresh (map item_view items.now)) (λ why out. out)
         service.old page service.new) }
     ensures err { OnErr result (spec.Begun S.answers (bulk (S.name service.old) (S.fields service.old) refresh (map item_view items.now)) service.old service.new) }
     ensures cause { IfErr result (λ e. e ≡ NoMemory) }

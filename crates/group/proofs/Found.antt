@@ -2,7 +2,7 @@
 use Rattle.std.proofs.Common.{◌≡◌, ℕ, List, [], ◌∷◌, map, refl, sym, ap, subst, ◌∙◌}
 use Rattle.std.specs.Prelude.{IfSome}
 use Rattle.doc.specs.Mapping.{MappingData}
-use Rattle.engine.specs.declared.snapshot.Hit.{Hit}
+use Rattle.engine.specs.declared.read.snapshot.Hit.{Hit}
 use Rattle.engine.specs.Shown.{hit_view}
 use Rattle.engine.specs.Answer.{Answer}
 use Rattle.query.specs.Page.{PageData}

@@ -7,7 +7,6 @@ use Rattle.replica.specs.declared.fault.CopyFault.{CopyFault}
 use Rattle.replica.specs.declared.fault.CopyFault.TheVariants.{VersionConflict as Conflict}
 use Rattle.replica.specs.declared.input.Input.{Input}
 use Rattle.replica.specs.declared.input.Input.TheVariants.{Write as Client, Bulk}
-use Rattle.replica.specs.declared.output.Answer.{Answer}
 use Rattle.replica.specs.declared.output.Item.{Item}
 use Rattle.replica.specs.declared.output.Output.{Output}
 use Rattle.master.specs.declared.fault.MasterFault.{MasterFault}
@@ -143,7 +142,7 @@ IsDone J m before (count q) r after = IsCounted m before q r after
 IsDone J m before refresh r after = IsRefreshed before r after
 IsDone J m before (promote copy) r after = IsPromoted before copy r after
 
--- a copy has an entry by which it refused the input, since another document stands on the id
+-- a copy has an entry by which it refused the input: its condition isn't met, or what it creates is there
 pub record HasConflict (input : Input) : Type 0 where
   pub entry : Receipt
   pub asked : entry.deed.input ≡ input
@@ -184,7 +183,7 @@ IsFaultOf (count q) f = IsOfCluster f
 IsFaultOf refresh f = IsOfCluster f
 IsFaultOf (promote copy) f = IsOfCluster f
 
--- the fault is a copy's refusal, since another document stands on the id
+-- the fault is a copy's refusal: the write's condition isn't met, or what it creates is there
 abbrev pub IsConflict : {J : Type 0} → WriteFault J → Type 0
 IsConflict (fault.NoPrimary r) = ⊥
 IsConflict (fault.Refused r) = r.deed.answer ≡ Err Conflict

@@ -5,8 +5,8 @@ ghost use Rattle.engine.specs.Shown.{hits_view};
 ghost use Rattle.front.specs.CommandView.{command_view};
 ghost use Rattle.front.specs.ReplyView.{reply_view};
 ghost use Rattle.cell.specs.Points.{IsShownBehind};
-ghost use Rattle.cluster.specs.Bulks.{IsBulkConfirmed, IsBulkRefused};
-ghost use Rattle.cluster.specs.Confirmed.{IsConfirmed, IsWriteRefused};
+ghost use Rattle.cluster.specs.Bulks.{IsBulkRefused};
+ghost use Rattle.cluster.specs.Confirmed.{IsWriteRefused};
 ghost use Rattle.front.specs.declared.reply.Refusal.TheVariants.{VersionConflict};
 ghost use Rattle.replica.specs.declared.fault.CopyFault.TheVariants.{VersionConflict as Conflict};
 ghost use Rattle.shard.specs.Answering as spec;
@@ -16,7 +16,7 @@ ghost use Rattle.group.specs.Searching.{IsCounted, IsFound, IsFoundAt};
 
 use crate::bulks::{heard_behind, told_bulk};
 use crate::known::{Known, is_ahead};
-use crate::promoting::{Promotion, caught_up, is_promotion, promoted, refusal_to};
+use crate::promoting::{Promotion, is_promotion, promoted, refusal_to};
 use crate::searching::{Chair, reply_with};
 use cell::{FoundAt, IndexLabel, IndexName};
 use cluster::{Client, ClusterFault, Confirmed, ConfirmedBulk, WriteFault};
@@ -26,7 +26,7 @@ use front::reply::{Refusal, Reply};
 use front::{Resumable, Service};
 use node::{Heard, Receipt};
 use query::{Page, Query, SearchBody};
-use replica::{CopyFault, Output, Write as Taken, Writes};
+use replica::{CopyFault, Output, Writes};
 use ruled::{Leading, Past};
 use shard::answering::{refusal_of, reply_in, write_of, writes_of};
 use std::alloc::Global;
@@ -116,7 +116,7 @@ impl<'a, R: Wait + Drop, D: LogDevice, J: IndexName> Group<'a, R, D, J> {
         ensures refused { IfErr result (IsWriteRefused (spec.write_of write)) }
     {
         let refresh = write.refresh;
-        let confirmed = self.confirmed(write_of(write))?;
+        let confirmed = self.client.write(self.rt, write_of(write))?;
         if !is_ahead(self.known.heard(), &confirmed.write) {
             return Err(stray(confirmed));
         }
@@ -138,7 +138,7 @@ impl<'a, R: Wait + Drop, D: LogDevice, J: IndexName> Group<'a, R, D, J> {
         let Some(writes) = Writes::of(writes_of(self.alloc, writes)?) else {
             return Err(WriteFault::Cluster(ClusterFault::Copy(CopyFault::Mismatch)));
         };
-        let confirmed = self.confirmed_bulk(writes)?;
+        let confirmed = self.client.bulk(self.rt, writes)?;
         if !is_ahead(self.known.heard(), &confirmed.bulk) {
             return Err(stray_bulk(confirmed));
         }
@@ -147,44 +147,6 @@ impl<'a, R: Wait + Drop, D: LogDevice, J: IndexName> Group<'a, R, D, J> {
         };
         let reply = told_bulk(self.alloc, confirmed)?;
         Ok((reply, self.known.hears(heard)))
-    }
-
-    /// Has the primary do a write. It is done again where the copy that the master names as the primary refused it, not having heard of that yet.
-    fn confirmed(&self, write: Taken) -> Result<Confirmed<J>, WriteFault<J>>
-        ensures confirmed { IfOk result (IsConfirmed write) }
-        ensures refused { IfErr result (IsWriteRefused write) }
-    {
-        let again = write.copy(self.alloc)?;
-        match self.client.write(self.rt, write) {
-            Err(WriteFault::NoPrimary(receipt)) => {
-                drop(receipt);
-                caught_up(self.rt, self.client);
-                self.client.write(self.rt, again)
-            }
-            done => {
-                drop(again);
-                done
-            }
-        }
-    }
-
-    /// Has the primary do a bulk, as `confirmed` does a write.
-    fn confirmed_bulk(&self, writes: Writes) -> Result<ConfirmedBulk<J>, WriteFault<J>>
-        ensures confirmed { IfOk result (IsBulkConfirmed writes) }
-        ensures refused { IfErr result (IsBulkRefused writes) }
-    {
-        let again = writes.copy(self.alloc)?;
-        match self.client.bulk(self.rt, writes) {
-            Err(WriteFault::NoPrimary(receipt)) => {
-                drop(receipt);
-                caught_up(self.rt, self.client);
-                self.client.bulk(self.rt, again)
-            }
-            done => {
-                drop(again);
-                done
-            }
-        }
     }
 
     #[tactic(auto, using(crate::proofs::Seeing::is_got))]

@@ -20,11 +20,9 @@ pub(crate) struct Promotion<J: IndexName> {
     pub(crate) past: Past<J>,
 }
 
-/// Waits until the copy that the master names as the primary has taken the messages that came to it before, that it is the primary among them.
-pub(crate) fn caught_up<R: Wait + Drop, D: LogDevice, J: IndexName>(
-    rt: &R,
-    client: &Client<R, D, J>,
-) {
+/// Waits until the copy that the master names as the primary has taken the messages that came to it before, that it is the primary among them: a get may
+/// come before them.
+fn caught_up<R: Wait + Drop, D: LogDevice, J: IndexName>(rt: &R, client: &Client<R, D, J>) {
     let primary = client.primary(rt).primary;
     drop(client.searcher(rt, primary));
 }

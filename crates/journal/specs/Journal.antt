@@ -4,7 +4,7 @@ use Rattle.op.specs.declared.record.Record.{Record}
 use Rattle.replica.specs.declared.fault.CopyFault.{CopyFault}
 use Rattle.replica.specs.declared.fault.CopyFault.TheVariants.{NotPrimary, VersionConflict, WindowFull, OldTerm, NotSynced, BeyondWindow, Mismatch, Closed, Log, NoMemory, WrongAddress, Exhausted}
 use Rattle.replica.specs.declared.input.Input.{Input}
-use Rattle.replica.specs.declared.input.Input.TheVariants.{Write as Client, Take, Report as Reporting, Refresh as Refreshing, Get as Getting, Restart as Restarting}
+use Rattle.replica.specs.declared.input.Input.TheVariants.{Restart as Restarting}
 use Rattle.replica.specs.declared.output.Answer.{Answer}
 use Rattle.replica.specs.declared.output.Answer.TheVariants.{Wrote, Bulked, Taken, Stale, Repeated, Reported, Found, Missing, Point}
 use Rattle.replica.specs.declared.output.Output.{Output}

@@ -4,7 +4,6 @@ ghost use Rattle.replica.specs.Logged.{IsReady};
 ghost use Rattle.node.specs.Acting.{IsCommitted};
 ghost use Rattle.node.specs.Replay.{IsIdle, IsStep};
 
-use crate::both::both;
 use replica::{Copy, CopyFault, Input, Output, Prepared};
 use std::alloc::{AllocError, Global};
 use translog::LogDevice;
@@ -44,10 +43,8 @@ fn finish<D: LogDevice>(
     ensures same { IfOk result (λ a. (a.kept ≡ a.own) × (a.given ≡ a.own)) }
     ensures err { OnErr result (copy.new ≡ copy.old) }
 {
-    let kept = prepared.output().copy(alloc);
-    let (prepared, kept) = both(prepared, kept)?;
-    let given = prepared.output().copy(alloc);
-    let ((prepared, kept), given) = both((prepared, kept), given)?;
+    let kept = prepared.output().copy(alloc)?;
+    let given = prepared.output().copy(alloc)?;
     match copy.commit(alloc, prepared) {
         Ok(output) => Ok(Answers {
             own: Ok(output),

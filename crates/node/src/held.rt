@@ -12,7 +12,6 @@ ghost use Rattle.node.specs.Held.{journal, IsCall, IsHeld, IsLastOf, IsRefusal};
 ghost use Rattle.node.specs.Telling.{receipt, IsEntered, IsGivenAs};
 
 use crate::began::{Began, begun, noted};
-use crate::both::both;
 use crate::ended::EndedCopy;
 use crate::fault::NodeFault;
 use crate::got::Got;
@@ -200,7 +199,7 @@ impl<D: LogDevice, J: RegistryName> Held<D, J> {
         ensures err { IfErr result (λ e. IsRefusal self.old self.new pass.old pass.new input e) }
         ensures last { IfOk result (IsLastOf self.new) }
     {
-        let (input, _) = both(input, pass.receipts.reserve(1))?;
+        pass.receipts.reserve(1)?;
         let (entered, upto) = self.enter(alloc, pass.number, input)?;
         let (kept, given) = self.receipts(entered, upto);
         pass.receipts.push_reserved(kept);
@@ -240,7 +239,7 @@ impl<D: LogDevice, J: RegistryName> Held<D, J> {
         ensures upto { IfOk result (λ r. r.1 ≡ prefix self.new.opening.id self.new.deeds) }
         ensures err { OnErr result (self.new ≡ self.old) }
     {
-        let (input, _) = both(input, self.deeds.reserve())?;
+        self.deeds.reserve()?;
         let inputs = Inputs::of(alloc, input)?;
         let place = self.deeds.ledger().len();
         self.copy.is_logged();

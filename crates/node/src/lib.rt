@@ -3,7 +3,6 @@
 
 mod acting;
 pub mod began;
-mod both;
 pub mod ended;
 pub mod fault;
 pub mod gathering;

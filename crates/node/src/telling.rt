@@ -4,7 +4,6 @@ ghost use Rattle.node.specs.Replay.{IsIdle, IsStep};
 ghost use Rattle.node.specs.Telling.{IsTold, IsTelling};
 
 use crate::acting::{Answers, act};
-use crate::both::both;
 use crate::fault::NodeFault;
 use journal::Deed;
 use replica::{Copy, Input};
@@ -25,8 +24,8 @@ impl Inputs {
         ensures { IfOk result (λ i. (i.asked ≡ input) × (i.own ≡ input) × (i.kept ≡ input) × (i.given ≡ input)) }
     {
         let (first, second) = twice(alloc, input)?;
-        let (second, (asked, own)) = both(second, twice(alloc, first))?;
-        let ((asked, own), (kept, given)) = both((asked, own), twice(alloc, second))?;
+        let (asked, own) = twice(alloc, first)?;
+        let (kept, given) = twice(alloc, second)?;
         Ok(Inputs {
             asked,
             own,
@@ -40,8 +39,8 @@ impl Inputs {
 fn twice(alloc: Global, input: Input) -> Result<(Input, Input), AllocError>
     ensures { IfOk result (λ inputs. (inputs.0 ≡ input) × (inputs.1 ≡ input)) }
 {
-    let copied = input.copy(alloc);
-    both(input, copied)
+    let copied = input.copy(alloc)?;
+    Ok((input, copied))
 }
 
 /// An entry, for the journal, the pass and the caller.
@@ -107,6 +106,6 @@ pub(crate) fn tell<D: LogDevice>(
         kept,
         given,
     } = inputs;
-    let ((own, kept, given), answers) = both((own, kept, given), act(copy, alloc, asked))?;
+    let answers = act(copy, alloc, asked)?;
     Ok(spelt(pass, own, kept, given, answers))
 }

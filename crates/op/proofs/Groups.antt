@@ -7,7 +7,6 @@ use Rattle.std.proofs.lemmas.Bool.{eqb-true}
 use Rattle.std.proofs.lemmas.Bool.Decides.{nat_tests}
 use Rattle.std.proofs.lemmas.List.{append-nil, nil_from_length}
 use Rattle.doc.specs.Outcome.{◌>>=◌, Gives}
-use Rattle.op.specs.declared.operation.Op.{Op}
 use Rattle.op.specs.declared.operation.Body.{Body}
 use Rattle.op.specs.declared.operation.Body.TheVariants.{Index, Delete, NoOp}
 use Rattle.op.specs.declared.record.Record.{Record}
@@ -15,7 +14,7 @@ use Rattle.op.specs.declared.record.Record.TheVariants.{Op as Kept, Resync, Reco
 use Rattle.op.specs.declared.fault.OpFault.{OpFault}
 use Rattle.op.specs.FormatFault.{Fault, fault_of, malformed, too_large}
 use Rattle.op.specs.Rules.{is_record, is_of_group, is_group_count, is_group}
-use Rattle.op.specs.Format.{AreBytes, signed, operation_bytes, spelling, kept_fields, group_spelling, frame_spelling, frame_encoded, is_too_large, HasTexts, IsTyped, body_length, operation_length, body_bytes}
+use Rattle.op.specs.Format.{AreBytes, signed, operation_bytes, spelling, kept_fields, group_spelling, frame_spelling, frame_encoded, is_too_large, HasTexts, IsTyped, body_bytes}
 use Rattle.op.specs.Reading.{number_at, kept_at, content_of, record_at, record_of, so_many_kept_at, group_at, group_of, has_tag, alone_of, records_of}
 use Rattle.op.specs.Records.{IsRecord, IsOfGroup, IsGroup, AreOfOneFrame}
 use Rattle.op.proofs.Fields.{AreBytes-rest, bind_ok, ok_is, Takes, Takes-then, wide32, number_takes, number_again, signed_again, id_at_most, source_at_most}
@@ -42,7 +41,7 @@ all_of_group (r ∷ rs) e = let p = both (is_of_group r) (list_all is_of_group r
     both true b e = (refl, e)
     both false b e = absurd cc
 
-all_test : (rs : List Record) → AllByRecursion IsOfGroup rs → list_all is_of_group rs ≡ true
+pub all_test : (rs : List Record) → AllByRecursion IsOfGroup rs → list_all is_of_group rs ≡ true
 all_test [] h = refl
 all_test (r ∷ rs) h = rw (of_group_test r h.0) (all_test rs h.1)
 

@@ -31,7 +31,7 @@ reached-length n (o ∷ os) = grind (arith, nat_tests, reached-length (suc n) os
 abbrev reached_with : ℕ → List Op → Op → ℕ
 reached_with n os o = if o.seq == reached n os then reached (suc o.seq) (drop (reached n os - n) os) else reached n os
 
-drop_one : (n k : ℕ) (p : Op) (ps : List Op) → suc n ≤ k → drop (k - n) (p ∷ ps) ≡ drop (k - suc n) ps
+pub drop_one : (n k : ℕ) (p : Op) (ps : List Op) → suc n ≤ k → drop (k - n) (p ∷ ps) ≡ drop (k - suc n) ps
 drop_one n k p ps le = let e : k - n ≡ suc (k - suc n) = omega arith in rw e refl
 
 -- one more operation is reached where it stands at the end of those that were, and then those behind it are, too

@@ -50,7 +50,7 @@ IsAscending-placed (p ∷ ps) o free up =
     ] refl
 
 -- the last on an id is one of the operations
-last_has : (P : Op → Type 0) (os : List Op) (id : Id) → AllByRecursion P os → IfSome (last_on os id) P
+pub last_has : (P : Op → Type 0) (os : List Op) (id : Id) → AllByRecursion P os → IfSome (last_on os id) P
 last_has P [] id all = tt
 last_has P (o ∷ os) id all =
     elim (last_on os id) as (λ l. IfSome l P → IfSome (option_or l (if is_on id o then Some o else None)) P) [

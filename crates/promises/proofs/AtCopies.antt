@@ -8,8 +8,8 @@ use Rattle.doc.specs.Id.{Id}
 use Rattle.doc.specs.Mapping.{MappingData}
 use Rattle.op.specs.declared.operation.Op.{Op}
 use Rattle.op.specs.declared.record.Record.{Record}
-use Rattle.op.specs.Documents.{document_at, document_of, documents}
-use Rattle.op.specs.Operations.{IsAscending, is_on, last_on}
+use Rattle.op.specs.Documents.{document_at, documents}
+use Rattle.op.specs.Operations.{IsAscending, is_on}
 use Rattle.op.proofs.DocumentLaws.{document_at-documents}
 use Rattle.op.proofs.RecordLaws.{IsAscending-operations}
 use Rattle.replica.specs.declared.fault.CopyFault.{CopyFault}
@@ -25,7 +25,7 @@ use Rattle.replica.specs.declared.output.Written.{Written}
 use Rattle.replica.specs.declared.role.Role.{Role}
 use Rattle.replica.specs.declared.role.Role.TheVariants.{Empty, Replica, Primary}
 use Rattle.replica.specs.Copy.{Copy, operations}
-use Rattle.replica.specs.Step.{Stepped, bulk as bulk_step, copy_step, folded, get_answer, op_of, stepped, unwritten}
+use Rattle.replica.specs.Step.{Stepped, bulk as bulk_step, copy_step, folded, get_answer, stepped, unwritten}
 use Rattle.journal.specs.declared.journal.Deed.{Deed}
 use Rattle.journal.specs.Journal.{Shut, Standing, IsLegal, IsLegalAt, IsOutputOf, MayAnswer, after, answered, left_by, next, open_at}
 use Rattle.node.specs.Entry.{Receipt}
@@ -40,11 +40,11 @@ use Rattle.front.specs.declared.reply.ItemReply.{ItemReply}
 use Rattle.front.specs.declared.reply.ItemReply.TheVariants as item
 use Rattle.front.specs.Command.{Command, write, bulk, get}
 use Rattle.front.specs.Reply.{Reply, wrote, bulked, got, refused}
-use Rattle.shard.specs.Answering.{item_reply_of, reply_of, write_of, wrote_of}
+use Rattle.shard.specs.Answering.{reply_of, write_of, wrote_of}
 use Rattle.group.specs.Group.{IsBulkWritten, IsGot, IsTold, IsWritten, counted_at, replies_at, told_by}
-use Rattle.group.specs.Known.{Heard, KnownData, heard_by}
+use Rattle.group.specs.Known.{Heard, KnownData}
 use Rattle.promises.specs.Promises.{HasWrite, IsAcknowledged, alone, among}
-use Rattle.promises.specs.Copies.{AreWithoutReset, HasFrom, IsReadAfter, Knows, WritesAreFoundAtCopies}
+use Rattle.promises.specs.Copies.{AreWithoutReset, HasFrom, IsReadAfter, WritesAreFoundAtCopies}
 use Rattle.promises.proofs.Lists.{has_write}
 use Rattle.promises.proofs.Standings.{HasAt, RisesAt, goes_on_at, has_after, rises_after}
 use Rattle.promises.proofs.Steps.{Has}

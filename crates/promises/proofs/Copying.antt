@@ -4,14 +4,14 @@ use Rattle.std.specs.Prelude.{◌==◌, ◌&&◌, nat_lt, ⊤, not}
 use Rattle.doc.specs.Outcome.{◌>>=◌}
 use Rattle.op.specs.declared.operation.Op.{Op}
 use Rattle.op.specs.declared.record.Record.{Record}
-use Rattle.op.specs.declared.record.Record.TheVariants.{Op as Kept, Resync as Resynced, Recover as Recovered}
+use Rattle.op.specs.declared.record.Record.TheVariants.{Resync as Resynced, Recover as Recovered}
 use Rattle.op.specs.declared.message.Content.{Content}
 use Rattle.op.specs.declared.message.Content.TheVariants.{Op as Operation, Ack, Promoted, Resync, Track, Recover, Synced, Fail, Removed}
 use Rattle.op.specs.declared.message.Msg.{Msg}
 use Rattle.op.specs.Checkpoint.{known}
 use Rattle.op.specs.Ids.{has}
-use Rattle.op.specs.Operations.{IsAscending, next_seq, op_at}
-use Rattle.op.specs.Records.{IsRecord, after_record, operations}
+use Rattle.op.specs.Operations.{IsAscending, op_at}
+use Rattle.op.specs.Records.{IsRecord, operations}
 use Rattle.op.proofs.RecordLaws.{IsAscending-after, operations-push}
 use Rattle.op.proofs.RulesLaws.{record_is}
 use Rattle.replica.specs.declared.fault.CopyFault.{CopyFault}
@@ -23,7 +23,7 @@ use Rattle.replica.specs.declared.role.Role.TheVariants.{Empty, Replica, Primary
 use Rattle.replica.specs.declared.role.Lead.{Lead}
 use Rattle.replica.specs.Copy.{Copy}
 use Rattle.replica.specs.Shape.{is_shaped}
-use Rattle.replica.specs.Step.{Step, Stepped, copy_step, first_fault, handled, is_empty, is_recover, leave, may_be_later, resync_again, settled, settled_as, take, take_ack, take_content, take_marked, take_op, take_over, take_recover, take_removed, take_resync, take_track, track, unless}
+use Rattle.replica.specs.Step.{Step, copy_step, first_fault, handled, is_empty, is_recover, leave, may_be_later, resync_again, settled, settled_as, take, take_ack, take_content, take_marked, take_op, take_over, take_recover, take_removed, take_resync, take_track, track, unless}
 use Rattle.promises.specs.Copies.{is_reset, resets}
 use Rattle.promises.proofs.Steps.{Keeps, Later, on_promoted, on_settled, on_unless, same, step_keeps, wrote}
 

@@ -8,14 +8,14 @@ use Rattle.replica.specs.declared.output.Output.{Output}
 use Rattle.replica.specs.Copy.{Copy}
 use Rattle.replica.specs.Step.{copy_step}
 use Rattle.world.specs.declared.event.Event.{Event}
-use Rattle.world.specs.World.{World, Happened, after_step, at_copy, copy_in, new_world, world_after, world_of, world_step}
+use Rattle.world.specs.World.{World, after_step, at_copy, copy_in, new_world, world_after, world_of, world_step}
 use Rattle.journal.specs.declared.journal.Deed.{Deed}
 use Rattle.journal.specs.declared.journal.Journal.{Journal}
 use Rattle.journal.specs.declared.journal.Journal.TheVariants.{OfCopy as of_copy}
 use Rattle.journal.specs.declared.moves.Move.{Move}
 use Rattle.journal.specs.declared.moves.Move.TheVariants.{Does as does}
 use Rattle.journal.specs.declared.moves.Placed.{Placed}
-use Rattle.journal.specs.Journal.{Standing, IsLegal, after, moves as moves_from, moves_at, next, open_at, placed}
+use Rattle.journal.specs.Journal.{Standing, after, moves as moves_from, moves_at, next, open_at, placed}
 use Rattle.journal.specs.Opening.{born}
 use Rattle.audit.specs.Audit.{IsMadeOf, moves_of, placed_of}
 use Rattle.audit.specs.Moves.{Counts, IsNext, Leads, Moves, event_of, more}

@@ -47,7 +47,7 @@ use Rattle.front.specs.declared.reply.ItemReply.{ItemReply}
 use Rattle.front.specs.declared.reply.ItemReply.TheVariants as item
 use Rattle.front.specs.Reply.{bulked, refused, wrote}
 use Rattle.shard.specs.Answering.{write_of}
-use Rattle.group.specs.Group.{IsBulkWritten, IsTold, IsWritten}
+use Rattle.group.specs.Group.{IsBulkWritten, IsWritten}
 use Rattle.group.specs.Known.{KnownData}
 use Rattle.promises.specs.Promises.{HasWrite, alone, among}
 use Rattle.promises.specs.Runs.{IsHeldIn, IsKnownOf, WritesAreHeldInRuns}

@@ -10,8 +10,7 @@ use Rattle.node.specs.Entry.{Receipt}
 use Rattle.node.specs.Heard.{IsAheadOf, IsNotBefore}
 use Rattle.published.proofs.Orders.{self-IsPrefix}
 use Rattle.cell.specs.Points.{IsShownBehind}
-use Rattle.front.specs.Command.{Command, write, bulk, get, search, count, refresh, promote}
-use Rattle.front.specs.Reply.{Reply}
+use Rattle.front.specs.Command.{write, bulk, get, search, count, refresh, promote}
 use Rattle.group.specs.Known.{Heard, KnownData, HasRefreshed, IsSeenAmong, heard_by}
 use Rattle.promises.specs.Copies.{NeverBackAtCopies, SearchesNeverBackAtCopies}
 use Rattle.promises.proofs.AtCopies.{known_one}

@@ -2,13 +2,11 @@
 use Rattle.std.proofs.Common.{◌≡◌, ℕ, Bool, true, false, List, Some, None, inl, inr, refl, sym, ap, subst, ◌∙◌}
 use Rattle.std.specs.Prelude.{IfSome}
 use mathlib.Core.List.{IsPrefix}
-use Rattle.chronicle.specs.Registered.{PrefixData, prefix}
+use Rattle.chronicle.specs.Registered.{prefix}
 use Rattle.doc.specs.Mapping.{MappingData}
 use Rattle.op.specs.declared.record.Record.{Record}
 use Rattle.op.specs.Records.{operations as all_in}
 use Rattle.op.proofs.RecordLaws.{IsAscending-operations}
-use Rattle.replica.specs.Copy.{operations}
-use Rattle.journal.specs.declared.journal.Deed.{Deed}
 use Rattle.journal.specs.Journal.{after, open_at}
 use Rattle.node.specs.Entry.{Receipt}
 use Rattle.node.specs.Heard.{IsAheadOf}
@@ -17,10 +15,10 @@ use Rattle.published.specs.declared.listing.Listing.{Listing}
 use Rattle.front.specs.Command.{Command, write, bulk, get, search, count, refresh, promote}
 use Rattle.front.specs.Reply.{Reply, refused}
 use Rattle.group.specs.Group.{IsTold}
-use Rattle.group.specs.Known.{Heard, KnownData, HasRefreshed, IsSeenAmong}
+use Rattle.group.specs.Known.{Heard, KnownData, HasRefreshed}
 use Rattle.group.specs.Searching.{IsSeen}
 use Rattle.promises.specs.Promises.{IsOver, is_refused, is_search}
-use Rattle.promises.specs.Copies.{IsRefreshSeen, IsSoughtAfter, RefreshesAreSeenAtCopies, WritesAreSeenAtCopies, refreshes}
+use Rattle.promises.specs.Copies.{IsRefreshSeen, IsSoughtAfter, RefreshesAreSeenAtCopies, WritesAreSeenAtCopies}
 use Rattle.promises.proofs.AtCopies.{entry_of, has_from, left_after}
 
 -- ---- a search

@@ -12,7 +12,7 @@ use Rattle.replica.specs.Copy.{Copy}
 use Rattle.replica.specs.Fault.{is_log}
 use Rattle.replica.specs.Step.{Step, copy_step}
 use Rattle.journal.specs.declared.journal.Deed.{Deed}
-use Rattle.journal.specs.Journal.{Shut, Standing, IsLegal, IsLegalAt, after, answered, found, is_kept, left_by, next, refused_at, reopened}
+use Rattle.journal.specs.Journal.{Shut, Standing, IsLegal, after, answered, found, is_kept, left_by, next, refused_at}
 use Rattle.promises.specs.Copies.{AreWithoutReset, is_reset}
 use Rattle.promises.proofs.Copying.{goes_on, rises}
 use Rattle.promises.proofs.Steps.{Has, Later}

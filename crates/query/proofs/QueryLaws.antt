@@ -9,7 +9,7 @@ use Rattle.doc.specs.Scalar.{Scalar, is_scalar}
 use Rattle.doc.specs.Document.{Values, values_at}
 use Rattle.query.specs.Laws.{unbounded, only_must, only_filter, only_must_not, either, both}
 use Rattle.query.specs.Meaning.{matches, has_tokens}
-use Rattle.terms.specs.Terms.{terms_by, has, is_one_of, is_within}
+use Rattle.analysis.specs.Terms.{terms_by, has, is_one_of, is_within}
 use Rattle.query.specs.Query.{Query, range, exists}
 use Rattle.query.specs.declared.query.Operator.TheVariants.{Or, And}
 

@@ -15,7 +15,7 @@ use Rattle.query.specs.declared.seen.Seen.{Seen}
 use Rattle.query.specs.Meaning.{has_tokens}
 use Rattle.query.specs.declared.query.Operator.{Operator}
 use Rattle.query.specs.declared.query.Operator.TheVariants.{Or, And}
-use Rattle.terms.specs.Terms.{has, is_one_of}
+use Rattle.analysis.specs.Terms.{has, is_one_of}
 
 set_or : (a b : Bool) → cond a true b ≡ (a || b)
 set_or true b = refl

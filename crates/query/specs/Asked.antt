@@ -5,8 +5,8 @@ use Rattle.doc.specs.Scalar.{Scalar, is_scalar}
 use Rattle.doc.specs.ScalarView.{scalar_view, scalars_view}
 use Rattle.query.specs.declared.asked.Asked.{Asked}
 use Rattle.query.specs.declared.asked.Asked.TheVariants.{Is, IsOneOf, BeginsWith, IsWithin}
-use Rattle.terms.specs.Terms.{is_one_of, begins_with, is_within}
-use Rattle.terms.specs.BoundsView.{bounds_view}
+use Rattle.analysis.specs.Terms.{is_one_of, begins_with, is_within}
+use Rattle.analysis.specs.BoundsView.{bounds_view}
 
 -- whether a term is what is asked for
 abbrev pub passes : Asked → Scalar → Bool

@@ -1,7 +1,7 @@
 -- Values, each once.
 use Rattle.std.specs.Prelude.{List, [], ◌∷◌, ◌++◌, if◌then◌else◌}
 use Rattle.doc.specs.Scalar.{Scalar}
-use Rattle.terms.specs.Terms.{has}
+use Rattle.analysis.specs.Terms.{has}
 
 -- one more value, unless it is among them
 abbrev pub with_value : List Scalar → Scalar → List Scalar

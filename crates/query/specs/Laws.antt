@@ -1,7 +1,7 @@
 -- Queries that the laws speak of.
 use Rattle.std.specs.Prelude.{None}
 use Rattle.query.specs.Query.{Query, bool, none, more}
-use Rattle.terms.specs.Bounds.{Bounds}
+use Rattle.analysis.specs.Bounds.{Bounds}
 
 -- a `bool` with this one clause
 abbrev pub only_must : Query → Query

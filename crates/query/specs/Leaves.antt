@@ -14,7 +14,7 @@ use Rattle.query.specs.declared.query.Operator.{Operator}
 use Rattle.query.specs.declared.query.Operator.TheVariants.{Or, And}
 use Rattle.query.specs.Distinct.{distinct}
 use Rattle.query.specs.Fault.{Fault, parsing, too_many_clauses, wrong_kind}
-use Rattle.terms.specs.Terms.{terms_of_value}
+use Rattle.analysis.specs.Terms.{terms_of_value}
 use Rattle.query.specs.Query.{Query, match_all, nothing, term, terms, match_tokens, prefix, range, exists}
 use Rattle.query.specs.Shape.{only_of, required, text_in, items_in, is_value, check, named, value_of, is_value_key, is_field_key, is_match_key, is_range_key}
 

@@ -5,7 +5,7 @@ use Rattle.doc.specs.Fields.{Fields}
 use Rattle.doc.specs.Mapping.{MappingData}
 use Rattle.doc.specs.Scalar.{Scalar}
 use Rattle.doc.specs.Document.{Values, values_at, all_values}
-use Rattle.terms.specs.Terms.{terms_at, has, is_one_of, begins_with, is_within}
+use Rattle.analysis.specs.Terms.{terms_at, has, is_one_of, begins_with, is_within}
 use Rattle.query.specs.declared.query.Operator.{Operator}
 use Rattle.query.specs.declared.query.Operator.TheVariants.{Or, And}
 use Rattle.query.specs.Query.{Query, Queries, match_all, nothing, term, terms as any_of, match_tokens, prefix, range, exists, bool, none, more, count_of}

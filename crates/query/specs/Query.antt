@@ -1,7 +1,7 @@
 -- A query that has been read: its values are converted, and the text of a `match` is cut into tokens.
 use Rattle.std.specs.Prelude.{ℕ, suc, ◌+◌, max, List, [], ◌∷◌}
 use Rattle.doc.specs.Scalar.{Scalar}
-use Rattle.terms.specs.Bounds.{Bounds}
+use Rattle.analysis.specs.Bounds.{Bounds}
 use Rattle.query.specs.declared.query.Operator.{Operator}
 
 mutual

@@ -1,7 +1,7 @@
 -- A query as it is kept.
 use Rattle.std.specs.Prelude.{string_bytes}
 use Rattle.doc.specs.ScalarView.{scalar_view, scalars_view}
-use Rattle.terms.specs.BoundsView.{bounds_view}
+use Rattle.analysis.specs.BoundsView.{bounds_view}
 use Rattle.query.specs.declared.query.Query.{Query, fold-Query}
 use Rattle.query.specs.declared.query.Query.TheOpen.{Query-F}
 use Rattle.query.specs.Query as spec

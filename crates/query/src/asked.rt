@@ -2,11 +2,11 @@
 ghost use Rattle.std.specs.Prelude.{◌≡◌, not, option_map};
 ghost use Rattle.doc.specs.ScalarView.{scalar_view, scalars_view};
 ghost use Rattle.query.specs.Asked.{passes};
-ghost use Rattle.terms.specs.Terms as spec;
-ghost use Rattle.terms.specs.BoundsView.{bounds_view};
+ghost use Rattle.analysis.specs.Terms as spec;
+ghost use Rattle.analysis.specs.BoundsView.{bounds_view};
 
+use analysis::Bounds;
 use doc::Scalar;
-use terms::Bounds;
 
 /// What is asked of a term.
 #[derive(Clone, Copy)]

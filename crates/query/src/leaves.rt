@@ -18,11 +18,11 @@ use crate::seen::distinct;
 use crate::shape::{
     Keys, bad_at, check_keys, is_value, items_in, only_of, required, text_in, value_of,
 };
+use analysis::{Bounds, terms_of_value};
 use doc::scalar::MAX_KEYWORD;
 use doc::{Converted, Kind, Mapping, Scalar, convert};
 use serde_json::Value;
 use std::alloc::Global;
-use terms::{Bounds, terms_of_value};
 
 /// How many values `terms` may have.
 const MAX_TERMS: usize = 65_536;

@@ -5,15 +5,15 @@ ghost use Rattle.doc.specs.Document.{values_at};
 ghost use Rattle.doc.specs.ScalarView.{scalar_view, scalars_view, values_view};
 ghost use Rattle.query.specs.Asked.{passes};
 ghost use Rattle.query.specs.Meaning as spec;
-ghost use Rattle.terms.specs.Terms as of_terms;
+ghost use Rattle.analysis.specs.Terms as of_terms;
 ghost use Rattle.query.specs.Query.{queries_of, count_of};
 ghost use Rattle.query.specs.View.{query_view};
 
 use crate::asked::Asked;
 use crate::query::{Operator, Query};
+use analysis::terms_of_value;
 use doc::{Doc, FieldValues, Kind, Mapping, Scalar};
 use std::alloc::{AllocError, Global};
-use terms::terms_of_value;
 
 impl Query {
     /// Whether the query means the document, which was read under the mapping.

@@ -1,7 +1,7 @@
 //! A query that has been read.
 
+use analysis::Bounds;
 use doc::Scalar;
-use terms::Bounds;
 
 /// Whether one of the tokens of a `match` is enough, or all are wanted.
 #[derive(Clone, Copy, Debug, PartialEq, Eq)]

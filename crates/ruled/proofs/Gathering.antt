@@ -4,8 +4,7 @@ use Rattle.std.specs.Prelude.{Bool, IfSome, is_some, map}
 use Rattle.journal.specs.declared.journal.Journal.{Journal}
 use Rattle.journal.specs.declared.journal.Journal.TheVariants.{OfMaster}
 use Rattle.journal.specs.declared.journal.Ruling.{Ruling}
-use Rattle.journal.specs.Lawful.{begins_open, IsLawful}
-use Rattle.journal.specs.Rulings.{AreLegal}
+use Rattle.journal.specs.Lawful.{IsLawful}
 use Rattle.master.specs.declared.state.State.{State}
 use Rattle.ruled.specs.declared.entry.MasterEntry.{MasterEntry}
 use Rattle.ruled.specs.declared.entry.MasterEntry.TheVariants.{Opened, Answered}

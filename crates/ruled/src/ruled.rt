@@ -302,13 +302,7 @@ pub fn copied(fault: &MasterFault) -> MasterFault
         MasterFault::NotInSync => MasterFault::NotInSync,
         MasterFault::IsPrimary => MasterFault::IsPrimary,
         MasterFault::Gone => MasterFault::Gone,
-        MasterFault::Log(fault) => MasterFault::Log(match fault {
-            LogFault::BadMagic => LogFault::BadMagic,
-            LogFault::Damaged(offset) => LogFault::Damaged(*offset),
-            LogFault::Device => LogFault::Device,
-            LogFault::NoMemory => LogFault::NoMemory,
-            LogFault::TooLarge => LogFault::TooLarge,
-        }),
+        MasterFault::Log(fault) => MasterFault::Log(fault.copy()),
         MasterFault::NoMemory => MasterFault::NoMemory,
         MasterFault::Full => MasterFault::Full,
     }

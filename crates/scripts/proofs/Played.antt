@@ -8,6 +8,7 @@ use Rattle.scripts.specs.Output.{outputs, lines, played}
 use Rattle.scripts.specs.Going.{Going}
 use Rattle.wire.specs.Bytes.{AppendsFront}
 use Rattle.wire.proofs.Bytes.{front_front}
+use Rattle.wire.proofs.Heads.{at_rest}
 
 pub begins : (o w : Option (List ℕ)) → IfSome o (λ script. Going w w o None script)
 begins None w = tt
@@ -15,9 +16,6 @@ begins (Some script) w = record { rest = script; is_left = refl; front = []; wri
 
 some_is : (x y : List ℕ) → Some x ≡ Some y → x ≡ y
 some_is x y e = cc
-
-at_rest : (P : List ℕ → Type 0) (o : Option (List ℕ)) (rest : List ℕ) → o ≡ Some rest → IfSome o P → P rest
-at_rest P o rest e h = rw e at h
 
 ends_one : (w v left : Option (List ℕ)) (s : State) (script : List ℕ) → Going w v left s script → IfSome left (λ bytes. bytes ≡ []) → Appends w v (lines script)
 ends_one w v left s script g h =

@@ -7,10 +7,7 @@ use Rattle.query.specs.Query.{Queries, count_of, bool}
 use Rattle.query.specs.Meaning as spec
 use Rattle.marks.specs.Lists.{zip_with}
 use Rattle.segment.proofs.Joins.{zip-self}
-
-pub map_all : {A B : Type 0} (f g : A → B) → ((x : A) → f x ≡ g x) → (xs : List A) → map f xs ≡ map g xs
-map_all f g same [] = refl
-map_all f g same (x ∷ xs) = ap (λ y. y ∷ map f xs) (same x) ∙ ap (λ ys. g x ∷ ys) (map_all f g same xs)
+use Rattle.marks.proofs.Views.{map_all}
 
 assoc : (a b c d : Bool) → ((((true && a) && b) && c) && d) ≡ (a && b && c && d)
 assoc true true c d = refl

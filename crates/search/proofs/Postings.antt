@@ -7,12 +7,12 @@ use Rattle.doc.specs.Scalar.{is_scalar}
 use Rattle.doc.specs.ScalarView.{scalar_view, scalars_view}
 use Rattle.doc.specs.declared.scalar.Scalar.{Scalar}
 use Rattle.query.specs.Meaning.{has_tokens}
-use Rattle.terms.specs.Terms.{has, is_one_of, terms}
+use Rattle.analysis.specs.Terms.{has, is_one_of, terms}
 use Rattle.query.specs.declared.query.Operator.{Operator}
 use Rattle.query.specs.declared.query.Operator.TheVariants.{Or, And}
 use Rattle.marks.specs.Lists.{zip_with, places, places_from}
 use Rattle.segment.proofs.Steps.{places-below}
-use Rattle.search.proofs.Bools.{map_all}
+use Rattle.marks.proofs.Views.{map_all}
 
 first_kept : (q : ℕ → Bool) (t l : Bool) (n : ℕ) (ps qs : List ℕ) → q n ≡ l → filter q ps ≡ qs → filter q (if t then n ∷ ps else ps) ≡ (if t && l then n ∷ qs else qs)
 first_kept q true l n ps qs is same = ap (λ b. cond b (n ∷ filter q ps) (filter q ps)) is ∙ ap (λ rs. cond l (n ∷ rs) rs) same

@@ -8,8 +8,8 @@ use Rattle.query.specs.declared.query.Query.TheOpen.{Query-F}
 use Rattle.query.specs.Query as spec
 use Rattle.query.specs.Query.{queries_of}
 use Rattle.query.specs.View.{query_view, view_step}
-use Rattle.terms.specs.BoundsView.{bounds_view}
-use Rattle.terms.specs.declared.bounds.Bounds.{Bounds}
+use Rattle.analysis.specs.BoundsView.{bounds_view}
+use Rattle.analysis.specs.declared.bounds.Bounds.{Bounds}
 use Rattle.query.specs.declared.query.Operator.{Operator}
 
 pub view-all : query_view V.MatchAll ≡ spec.match_all

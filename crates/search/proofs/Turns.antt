@@ -7,7 +7,7 @@ use Rattle.doc.specs.ScalarView.{scalar_view, scalars_view}
 use Rattle.doc.specs.declared.scalar.Scalar.{Scalar}
 use Rattle.query.specs.Query.{queries_of, count_of}
 use Rattle.query.specs.Meaning as spec
-use Rattle.terms.specs.Terms as of_terms
+use Rattle.analysis.specs.Terms as of_terms
 use Rattle.query.specs.View.{query_view}
 use Rattle.query.specs.declared.query.Query.{Query}
 use Rattle.marks.specs.Lists.{zip_with}

@@ -3,7 +3,7 @@ ghost use Rattle.std.specs.Prelude.{◌≡◌, ◌<◌, ◌&&◌, ◌^◌, lengt
 ghost use Rattle.doc.specs.Document.{all_values};
 ghost use Rattle.doc.specs.ScalarView.{scalar_view, scalars_view};
 ghost use Rattle.query.specs.Meaning.{has_tokens, means};
-ghost use Rattle.terms.specs.Terms.{terms};
+ghost use Rattle.analysis.specs.Terms.{terms};
 ghost use Rattle.query.specs.View.{query_view};
 ghost use Rattle.marks.specs.Lists.{zip_with, places};
 ghost use Rattle.segment.specs.Indexed.{has_term};

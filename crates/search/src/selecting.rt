@@ -4,20 +4,20 @@ ghost use Rattle.std.specs.List.{list_any, list_all};
 ghost use Rattle.doc.specs.Document.{all_values};
 ghost use Rattle.doc.specs.ScalarView.{scalar_view, scalars_view};
 ghost use Rattle.query.specs.Meaning as spec;
-ghost use Rattle.terms.specs.Terms as of_terms;
+ghost use Rattle.analysis.specs.Terms as of_terms;
 ghost use Rattle.query.specs.Query.{queries_of, count_of};
 ghost use Rattle.query.specs.View.{query_view};
-ghost use Rattle.terms.specs.BoundsView.{bounds_view};
+ghost use Rattle.analysis.specs.BoundsView.{bounds_view};
 ghost use Rattle.marks.specs.Lists.{zip_with};
 ghost use Rattle.segment.specs.Indexed.{has_term, has_value};
 
 use crate::counts;
+use analysis::Bounds;
 use doc::Scalar;
 use marks::Marks;
 use query::{Operator, Query};
 use segment::Segment;
 use std::alloc::{AllocError, Global};
-use terms::Bounds;
 
 /// The documents of the segment that the query means.
 #[cycle(select)]

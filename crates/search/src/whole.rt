@@ -4,7 +4,7 @@ ghost use Rattle.std.specs.List.{range_with_len};
 ghost use Rattle.doc.specs.Document.{all_values};
 ghost use Rattle.doc.specs.ScalarView.{scalar_view, scalars_view};
 ghost use Rattle.query.specs.Meaning.{has_tokens, means};
-ghost use Rattle.terms.specs.Terms.{terms};
+ghost use Rattle.analysis.specs.Terms.{terms};
 ghost use Rattle.query.specs.View.{query_view};
 ghost use Rattle.marks.specs.Lists.{places};
 ghost use Rattle.segment.specs.Indexed.{has_term};

@@ -12,7 +12,7 @@ use Rattle.doc.specs.Fields.{Fields, kind_at}
 use Rattle.doc.specs.Scalar.{Scalar, text, long, flag}
 use Rattle.doc.specs.declared.mapping.Kind.{Kind}
 use Rattle.doc.specs.Document.{Values, values_at}
-use Rattle.terms.specs.Terms.{terms_by}
+use Rattle.analysis.specs.Terms.{terms_by}
 use Rattle.marks.specs.Lists.{marked}
 use Rattle.segment.specs.Added.{making_at, IsAdded, IsAddedOr, AreAdded, IsLong, AreLong, HaveFewPlaces, AreFinished, IsFinishedOr}
 use Rattle.segment.specs.Indexed.{has_term, has_value, column_at, IsColumnOr}

@@ -4,7 +4,7 @@ use Rattle.std.proofs.lemmas.List.Folds.{list_any-append}
 use Rattle.std.specs.List.{list_any, starts_with}
 use Rattle.std.specs.Str.{bytes_eq}
 use Rattle.doc.specs.Scalar.{Scalar, text, long, flag, is_scalar}
-use Rattle.terms.specs.Terms.{has, begins_with}
+use Rattle.analysis.specs.Terms.{has, begins_with}
 use Rattle.marks.specs.Lists.{zip_with, places, places_from}
 use Rattle.segment.specs.Places.{added, ends_at, one_if, has_word, has_prefix}
 use Rattle.segment.specs.Posted.{with_if}

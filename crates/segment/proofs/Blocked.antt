@@ -13,7 +13,7 @@ use Rattle.std.proofs.lemmas.Map.Views.{All-found}
 use Rattle.doc.specs.Mapping.{MappingData}
 use Rattle.doc.specs.Scalar.{Scalar, long}
 use Rattle.doc.specs.Document.{all_values}
-use Rattle.terms.specs.Terms.{terms_at, is_less, is_within, meets}
+use Rattle.analysis.specs.Terms.{terms_at, is_less, is_within, meets}
 use Rattle.marks.specs.Lists.{zip_with, marked, places}
 use Rattle.segment.specs.Blocks.{IsBlock, AreBlocks, numbered, listed, numbers_of, places_of, hits}
 use Rattle.segment.specs.Indexed.{has_term}

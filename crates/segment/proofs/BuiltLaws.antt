@@ -4,7 +4,7 @@ use Rattle.std.proofs.lemmas.List.{length-replicate}
 use Rattle.doc.specs.Fields.{Fields}
 use Rattle.doc.specs.Scalar.{text, long, flag}
 use Rattle.doc.specs.Document.{Values}
-use Rattle.terms.specs.Terms.{terms_at}
+use Rattle.analysis.specs.Terms.{terms_at}
 use Rattle.marks.specs.Lists.{marked, places, zip_with}
 use Rattle.segment.specs.Blocks.{AreBlocks}
 use Rattle.segment.specs.Indexed.{has_term, has_value, IsColumn}

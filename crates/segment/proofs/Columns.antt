@@ -7,7 +7,7 @@ use Rattle.doc.specs.Scalar.{Scalar, is_scalar}
 use Rattle.doc.specs.declared.mapping.Kind.{Kind}
 use Rattle.doc.specs.declared.mapping.Kind.TheVariants.{Keyword, Text, Long, Boolean}
 use Rattle.doc.specs.Document.{Values, all_values, values_at}
-use Rattle.terms.specs.Terms.{terms_at, terms_by}
+use Rattle.analysis.specs.Terms.{terms_at, terms_by}
 use Rattle.std.specs.List.{list_any}
 use Rattle.marks.specs.Lists.{zip_with, marked, places, places_from}
 use Rattle.segment.specs.Indexed.{has_term, has_value}

@@ -76,12 +76,12 @@ module _ {K : Type 0} (eq : K → K → Bool) where
 
 -- ---- runs of keys in order
 
-less_from : (a : Ordering) → (is_lt a ≡ false → ⊥) → a ≡ Less
+pub less_from : (a : Ordering) → (is_lt a ≡ false → ⊥) → a ≡ Less
 less_from Less h = refl
 less_from Equal h = absurd (h refl)
 less_from Greater h = absurd (h refl)
 
-above_reversed : (a : Ordering) → is_lt a ≡ false → is_eq a ≡ false → ordering_reverse a ≡ Less
+pub above_reversed : (a : Ordering) → is_lt a ≡ false → is_eq a ≡ false → ordering_reverse a ≡ Less
 above_reversed Less p q = absurd (true≢false p)
 above_reversed Equal p q = absurd (true≢false q)
 above_reversed Greater p q = refl

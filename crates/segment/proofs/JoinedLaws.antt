@@ -13,7 +13,7 @@ use Rattle.doc.specs.Document.{Values, values_at}
 use Rattle.marks.specs.Lists.{marked, places, places_from, zip_with}
 use Rattle.segment.specs.Added.{making_at, IsLong, AreLong}
 use Rattle.segment.specs.Indexed.{has_term, has_value}
-use Rattle.segment.specs.Joined.{behind, AreJoined, AreMakings, ArePut, IsColumnOf, IsJoined, IsJoinedOr, IsMakingOr, IsPut, IsPutOr}
+use Rattle.segment.specs.Joined.{behind, AreJoined, AreMakings, ArePut, IsColumnOf, IsJoined, IsJoinedOr, IsMakingOr, IsPutOr}
 use Rattle.segment.specs.Posted.{places_so_far, places_so_far_long}
 use Rattle.segment.specs.declared.making.Making.{Making}
 use Rattle.segment.proofs.AddedLaws.{Makings}

@@ -9,7 +9,7 @@ use Rattle.std.proofs.lemmas.List.{length-set}
 use Rattle.doc.specs.Scalar.{Scalar, text, long, flag}
 use Rattle.doc.specs.declared.mapping.Kind.{Kind}
 use Rattle.doc.specs.declared.mapping.Kind.TheVariants.{Keyword, Text, Long, Boolean}
-use Rattle.terms.specs.Terms.{has, terms_of_value, terms_by}
+use Rattle.analysis.specs.Terms.{has, terms_of_value, terms_by}
 use Rattle.doc.specs.Document.{Values, values_at}
 use Rattle.segment.specs.Places.{added, has_word}
 use Rattle.segment.specs.Posted.{IsPosted, IsRoomFor, places_so_far, places_so_far_long, with_if, set_if}

@@ -8,7 +8,7 @@ use Rattle.std.specs.Cmp.Lexicographic.{slice_cmp}
 use Rattle.doc.specs.Mapping.{MappingData}
 use Rattle.doc.specs.Scalar.{text}
 use Rattle.doc.specs.Document.{Values, all_values}
-use Rattle.terms.specs.Terms.{terms_at, begins_with}
+use Rattle.analysis.specs.Terms.{terms_at, begins_with}
 use Rattle.marks.specs.Lists.{zip_with, places, places_from}
 use Rattle.segment.specs.Indexed.{has_term}
 use Rattle.segment.specs.Places.{as_list, has_word, has_prefix}

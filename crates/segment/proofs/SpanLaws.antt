@@ -13,9 +13,9 @@ use Rattle.doc.specs.Scalar.{text, long}
 use Rattle.doc.specs.ScalarView.{scalar_view}
 use Rattle.doc.specs.declared.scalar.Scalar.{Scalar}
 use Rattle.doc.specs.declared.scalar.Scalar.TheVariants.{Text, Long, Flag}
-use Rattle.terms.specs.Terms.{is_within, is_less, meets}
-use Rattle.terms.specs.BoundsView.{bounds_view}
-use Rattle.terms.specs.declared.bounds.Bounds.{Bounds}
+use Rattle.analysis.specs.Terms.{is_within, is_less, meets}
+use Rattle.analysis.specs.BoundsView.{bounds_view}
+use Rattle.analysis.specs.declared.bounds.Bounds.{Bounds}
 use Rattle.segment.specs.Spans.{number_in, text_in, span_start, span_end, is_less_text}
 
 gt_back : (o : Ordering) → is_gt (ordering_reverse o) ≡ is_lt o

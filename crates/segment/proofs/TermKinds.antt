@@ -8,7 +8,7 @@ use Rattle.std.specs.Cmp.{int_eq_equiv}
 use Rattle.std.proofs.lemmas.Bool.Decides.{Decides-int_eq}
 use Rattle.std.proofs.lemmas.Map.Made.{is_some-lookup}
 use Rattle.doc.specs.Scalar.{Scalar, text, long, flag, is_scalar}
-use Rattle.terms.specs.Terms.{has}
+use Rattle.analysis.specs.Terms.{has}
 use Rattle.marks.specs.Lists.{places}
 use Rattle.segment.specs.Term.{is_text, is_long, is_truth}
 use Rattle.segment.specs.Places.{as_list}

@@ -6,7 +6,7 @@ use Rattle.std.specs.Option.{option_map_or}
 use Rattle.doc.specs.Mapping.{MappingData}
 use Rattle.doc.specs.Scalar.{Scalar, text, long, flag}
 use Rattle.doc.specs.Document.{Values, all_values}
-use Rattle.terms.specs.Terms.{terms_at, has}
+use Rattle.analysis.specs.Terms.{terms_at, has}
 use Rattle.std.proofs.lemmas.Bool.Decides.{Decides-int_eq}
 use Rattle.marks.specs.Lists.{zip_with, marked, places}
 use Rattle.segment.specs.Indexed.{has_term}

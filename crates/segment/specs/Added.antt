@@ -8,7 +8,7 @@ use Rattle.doc.specs.Fields.{Fields, kind_at}
 use Rattle.doc.specs.Scalar.{Scalar}
 use Rattle.doc.specs.declared.mapping.Kind.{Kind}
 use Rattle.doc.specs.Document.{Values, values_at}
-use Rattle.terms.specs.Terms.{terms_by}
+use Rattle.analysis.specs.Terms.{terms_by}
 use Rattle.segment.specs.Indexed.{column_at}
 use Rattle.segment.specs.Posted.{IsPosted, IsEmptyMaking, IsFinished, places_so_far_long, set_if}
 use Rattle.segment.specs.declared.column.Column.{Column}

@@ -7,7 +7,7 @@ use Rattle.doc.specs.Fields.{Fields}
 use Rattle.doc.specs.Mapping.{MappingData}
 use Rattle.doc.specs.Scalar.{Scalar, text, long, flag}
 use Rattle.doc.specs.Document.{Values, values_at, all_values}
-use Rattle.terms.specs.Terms.{terms_at, has}
+use Rattle.analysis.specs.Terms.{terms_at, has}
 use Rattle.marks.specs.Lists.{places}
 use Rattle.segment.specs.Places.{places_at, places_at_long}
 use Rattle.segment.specs.Blocks.{AreBlocks}

@@ -2,7 +2,7 @@
 -- For proofs alone: no public contract rests on it.
 use Rattle.std.specs.Prelude.{option_map}
 use Rattle.doc.specs.Scalar.{long}
-use Rattle.terms.specs.Bounds.{Bounds}
+use Rattle.analysis.specs.Bounds.{Bounds}
 use Rattle.segment.specs.declared.limits.Limits.{Limits}
 
 -- the bounds as a query has them

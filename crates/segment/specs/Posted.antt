@@ -3,7 +3,7 @@ use Rattle.std.specs.Prelude.{◌≡◌, ◌<◌, ℕ, ℤ, Bool, true, false, L
 use Rattle.std.specs.Ordering.{int_eq}
 use Rattle.std.specs.Str.{bytes_eq}
 use Rattle.doc.specs.Scalar.{Scalar, text, long, flag}
-use Rattle.terms.specs.Terms.{has}
+use Rattle.analysis.specs.Terms.{has}
 use Rattle.segment.specs.Blocks.{AreBlocks}
 use Rattle.segment.specs.Grouped.{places_posted}
 use Rattle.segment.specs.Places.{added, places_at, places_in, places_at_long, places_listed}

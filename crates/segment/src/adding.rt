@@ -1,7 +1,7 @@
 //! One more document in the columns in the making.
 ghost use Rattle.std.specs.Prelude.{◌≡◌, ◌<◌, ◌∷◌, [], length, nat_lt, OnOk};
 ghost use Rattle.doc.specs.ScalarView.{field_values_view, scalars_view, values_view};
-ghost use Rattle.terms.specs.Terms.{terms_by};
+ghost use Rattle.analysis.specs.Terms.{terms_by};
 ghost use Rattle.segment.specs.Added.{AreAdded, AreLong, IsAdded};
 ghost use Rattle.segment.specs.Posted.{IsPosted, IsRoomFor};
 

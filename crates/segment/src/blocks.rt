@@ -1,7 +1,7 @@
 //! The numbers of a column in blocks, so that a range over many of them adds the marks of whole blocks.
 ghost use Rattle.std.specs.Prelude.{◌≡◌, ◌<◌, ◌++◌, ℤ, All, [], ◌∷◌, if◌then◌else◌, length, IfOk, OnOk};
 ghost use Rattle.doc.specs.Scalar as scalar;
-ghost use Rattle.terms.specs.Terms as spec;
+ghost use Rattle.analysis.specs.Terms as spec;
 ghost use Rattle.marks.specs.Lists.{marked};
 ghost use Rattle.segment.specs.Blocks.{IsBlock, AreBlocks, numbered, numbers_of, hits};
 ghost use Rattle.segment.specs.Limits.{limits_view};

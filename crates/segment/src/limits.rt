@@ -2,12 +2,12 @@
 ghost use Rattle.std.specs.Prelude.{◌≡◌, ◌≤ℤ◌, ℤ, true, not, option_map, IfSome};
 ghost use Rattle.doc.specs.Scalar as scalar;
 ghost use Rattle.doc.specs.ScalarView.{scalar_view};
-ghost use Rattle.terms.specs.Terms as spec;
-ghost use Rattle.terms.specs.BoundsView.{bounds_view};
+ghost use Rattle.analysis.specs.Terms as spec;
+ghost use Rattle.analysis.specs.BoundsView.{bounds_view};
 ghost use Rattle.segment.specs.Limits.{limits_view};
 
+use analysis::Bounds;
 use doc::Scalar;
-use terms::Bounds;
 
 /// Bounds that are numbers, each where it is given.
 #[derive(Clone, Copy)]

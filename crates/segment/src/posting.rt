@@ -4,7 +4,7 @@ ghost use Rattle.analysis.specs.Tokens.{tokens_of};
 ghost use Rattle.doc.specs.Document.{values_at};
 ghost use Rattle.doc.specs.ScalarView.{scalar_view, scalars_view, field_values_view, values_view};
 ghost use Rattle.doc.specs.Scalar as scalar;
-ghost use Rattle.terms.specs.Terms.{terms_of_value, terms_by};
+ghost use Rattle.analysis.specs.Terms.{terms_of_value, terms_by};
 ghost use Rattle.segment.specs.Places.{has_word};
 ghost use Rattle.segment.specs.Posted.{IsPosted, IsRoomFor, places_so_far, with_if};
 

@@ -5,8 +5,8 @@ ghost use Rattle.doc.specs.Document.{all_values};
 ghost use Rattle.doc.specs.Scalar as scalar;
 ghost use Rattle.doc.specs.ScalarView.{scalar_view};
 ghost use Rattle.std.specs.List.{list_any, starts_with};
-ghost use Rattle.terms.specs.Terms.{terms_at, begins_with, is_within};
-ghost use Rattle.terms.specs.BoundsView.{bounds_view};
+ghost use Rattle.analysis.specs.Terms.{terms_at, begins_with, is_within};
+ghost use Rattle.analysis.specs.BoundsView.{bounds_view};
 ghost use Rattle.marks.specs.Lists.{zip_with, marked, places};
 ghost use Rattle.segment.specs.Term.{is_text, is_long, is_truth};
 ghost use Rattle.segment.specs.Limits.{limits_view};
@@ -18,6 +18,7 @@ use crate::limits::Limits;
 use crate::term::Term;
 use crate::weaving::Strand;
 use crate::{building, pieces, spans, term, weaving};
+use analysis::Bounds;
 use doc::{Mapping, Scalar, Source};
 use marks::Marks;
 use std::alloc::{AllocError, Global};
@@ -25,7 +26,6 @@ use std::collections::BTreeMap;
 use std::marker::Model;
 use std::sync::Arc;
 use std::thread::Threads;
-use terms::Bounds;
 
 /// Going to the list of a number takes about as long as marking so many places.
 const PLACES_PER_LIST: usize = 16;

@@ -7,13 +7,13 @@ ghost use Rattle.std.specs.Ordering.{int_cmp};
 ghost use Rattle.std.specs.Range.Bound.{bound_map, IsForward};
 ghost use Rattle.std.specs.String.{string_cmp};
 ghost use Rattle.doc.specs.Scalar as scalar;
-ghost use Rattle.terms.specs.Terms.{is_within};
-ghost use Rattle.terms.specs.BoundsView.{bounds_view};
+ghost use Rattle.analysis.specs.Terms.{is_within};
+ghost use Rattle.analysis.specs.BoundsView.{bounds_view};
 ghost use Rattle.segment.specs.Spans.{number_in, text_in, span_start, span_end, is_less_text};
 
+use analysis::Bounds;
 use doc::Scalar;
 use std::ops::Bound;
-use terms::Bounds;
 
 /// The span of the numbers within the bounds.
 pub(crate) fn of_longs(bounds: &Bounds) -> (Bound<i64>, Bound<i64>)

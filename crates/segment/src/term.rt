@@ -1,12 +1,12 @@
 //! Terms where they stand in a dictionary.
 ghost use Rattle.std.specs.Prelude.{◌≡◌, not, option_map};
 ghost use Rattle.doc.specs.ScalarView.{scalar_view};
-ghost use Rattle.terms.specs.Terms as spec;
-ghost use Rattle.terms.specs.BoundsView.{bounds_view};
+ghost use Rattle.analysis.specs.Terms as spec;
+ghost use Rattle.analysis.specs.BoundsView.{bounds_view};
 ghost use Rattle.segment.specs.Term.{term_view};
 
+use analysis::Bounds;
 use doc::Scalar;
-use terms::Bounds;
 
 /// A term.
 #[derive(Clone, Copy)]

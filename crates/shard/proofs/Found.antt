@@ -1,6 +1,6 @@
 -- Hits, each as it is replied.
 use Rattle.std.proofs.Common.{◌≡◌, List, [], ◌∷◌, map, refl, ap}
-use Rattle.engine.specs.declared.snapshot.Hit.{Hit}
+use Rattle.engine.specs.declared.read.snapshot.Hit.{Hit}
 use Rattle.engine.specs.Shown.{hit_view}
 use Rattle.shard.specs.Answering.{hit_of}
 

@@ -2,7 +2,7 @@
 use Rattle.std.proofs.Common.{◌≡◌, ◌∙◌, ℕ, zero, suc, ◌<◌, ◌^◌, ◌+◌, ◌*◌, ◌/◌, ◌%◌, Bool, true, false, nat_eq, if◌then◌else◌, refl, sym, ap, arith}
 use Rattle.std.specs.Int.Bits.{bit_xor, xor_assoc, xor_zero_l, xor_zero_r}
 use Rattle.std.proofs.lemmas.Nat.{div-add-mod', mod_below, pow_pos, shr_split, xor_block, xor_comm, xor_lt}
-use Rattle.sum.specs.Crc.{after_byte, polynomial, shifted, shifted_by}
+use Rattle.sum.specs.Crc.{polynomial, shifted, shifted_by}
 
 -- the polynomial is mixed in, or isn't
 abbrev pub turned : Bool → ℕ → ℕ

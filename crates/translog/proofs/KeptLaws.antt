@@ -70,7 +70,7 @@ of_group (Kept g o) is = is
 of_group (Resync term g os) is = absurd is
 of_group (Recover term os) is = absurd is
 
-each_of_group : (rs : List Record) → AllByRecursion IsOfGroup rs → AllByRecursion IsRecord rs
+pub each_of_group : (rs : List Record) → AllByRecursion IsOfGroup rs → AllByRecursion IsRecord rs
 each_of_group [] each = tt
 each_of_group (r ∷ rs) each = (of_group r each.0, each_of_group rs each.1)
 
@@ -87,7 +87,7 @@ both : (rs ss : List Record) → AllByRecursion IsRecord rs → AllByRecursion I
 both [] ss one other = other
 both (r ∷ rs) ss one other = (one.0, both rs ss one.1 other)
 
-pieces_rules : (ps : List Piece) → AllByRecursion IsSpeltPiece ps → AllByRecursion IsRecord (flat_map records_in ps)
+pub pieces_rules : (ps : List Piece) → AllByRecursion IsSpeltPiece ps → AllByRecursion IsRecord (flat_map records_in ps)
 pieces_rules [] each = tt
 pieces_rules (p ∷ ps) each = both (records_in p) (flat_map records_in ps) (piece_rules p each.0.rules) (pieces_rules ps each.1)
 

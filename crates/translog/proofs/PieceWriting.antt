@@ -10,12 +10,11 @@ use Rattle.doc.specs.Outcome.{Fails, Gives}
 use Rattle.doc.proofs.Fronts.{fault_ends}
 use Rattle.op.specs.declared.record.Record.{Record}
 use Rattle.op.specs.declared.record.Record.TheVariants.{Op as Kept, Resync, Recover}
-use Rattle.op.specs.Records.{AreOfOneFrame, IsOfGroup}
-use Rattle.op.specs.Rules.{is_group_count, is_of_group}
+use Rattle.op.specs.Records.{AreOfOneFrame}
+use Rattle.op.specs.Rules.{is_group_count}
 use Rattle.op.specs.FormatFault as op
 use Rattle.op.specs.Format.{frame_spelling, frame_encoded, group_spelling, is_too_large, spelling, AreBytes}
-use Rattle.op.proofs.Groups.{encoded_ok, encoded_large, frame_spelt}
-use Rattle.op.proofs.RulesLaws.{record_test}
+use Rattle.op.proofs.Groups.{encoded_ok, encoded_large, frame_spelt, all_test}
 use Rattle.op.specs.Reading.{records_of}
 use Rattle.translog.specs.declared.fault.LogFault.{LogFault}
 use Rattle.translog.specs.declared.fault.LogFault.TheVariants.{BadMagic, Damaged, Device, NoMemory, TooLarge}
@@ -52,15 +51,6 @@ pub not_spelt : (rs : List Record) (d : op.Fault) → AreOfOneFrame rs → frame
 not_spelt rs d rules e = rw (encoded_large rs d rules e) refl
 
 -- ---- one record alone may be too large
-
-of_group_test : (r : Record) → IsOfGroup r → is_of_group r ≡ true
-of_group_test (Kept g o) h = record_test (Kept g o) h
-of_group_test (Resync term g os) h = absurd h
-of_group_test (Recover term os) h = absurd h
-
-all_test : (rs : List Record) → AllByRecursion IsOfGroup rs → list_all is_of_group rs ≡ true
-all_test [] h = refl
-all_test (r ∷ rs) h = rw (of_group_test r h.0) (all_test rs h.1)
 
 count_test : (n : ℕ) → 2 ≤ n → n ≤ 1024 → is_group_count n ≡ true
 count_test n several few = grind (arith, nat_tests)

@@ -1,4 +1,5 @@
 //! Why a log can't be opened or added to.
+ghost use Rattle.std.specs.Prelude.{◌≡◌, ◌↔◌, IsTrue};
 
 use crate::device::{DeviceFault, Failed};
 use std::alloc::{AllocError, AllocFailed};
@@ -17,6 +18,35 @@ pub enum LogFault {
     NoMemory,
     #[error("a frame would have more than 4,294,967,295 bytes")]
     TooLarge,
+}
+
+impl LogFault {
+    /// An equal fault. It takes no memory.
+    pub fn copy(&self) -> LogFault
+        ensures { result ≡ self.now }
+    {
+        match self {
+            LogFault::BadMagic => LogFault::BadMagic,
+            LogFault::Damaged(offset) => LogFault::Damaged(*offset),
+            LogFault::Device => LogFault::Device,
+            LogFault::NoMemory => LogFault::NoMemory,
+            LogFault::TooLarge => LogFault::TooLarge,
+        }
+    }
+
+    /// Whether two faults are the same.
+    pub fn is(&self, other: &LogFault) -> bool
+        ensures { IsTrue result ↔ (self.now ≡ other.now) }
+    {
+        match (self, other) {
+            (LogFault::BadMagic, LogFault::BadMagic) => true,
+            (LogFault::Damaged(offset), LogFault::Damaged(other)) => *offset == *other,
+            (LogFault::Device, LogFault::Device) => true,
+            (LogFault::NoMemory, LogFault::NoMemory) => true,
+            (LogFault::TooLarge, LogFault::TooLarge) => true,
+            _ => false,
+        }
+    }
 }
 
 impl From<AllocError> for LogFault {

@@ -26,7 +26,7 @@ unfolding cut
 begins None = tt
 begins (Some bytes) = record { rest = bytes; is_left = refl; room = 16384; in_room = refl; same = refl }
 
-at_rest : (P : List ℕ → Type 0) (o : Option (List ℕ)) (rest : List ℕ) → o ≡ Some rest → IfSome o P → P rest
+pub at_rest : (P : List ℕ → Type 0) (o : Option (List ℕ)) (rest : List ℕ) → o ≡ Some rest → IfSome o P → P rest
 at_rest P o rest e h = rw e at h
 
 -- the room has a byte more

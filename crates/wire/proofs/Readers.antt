@@ -8,6 +8,7 @@ use Rattle.httparse.specs.Grammar.{LineEnd, crlf, lf, print_end, print_blank, Fi
 use Rattle.httparse.specs.Pieces.{Piece, Then, Newline, Blank, Stops, is_newline, Word, Method, Target, Version, Text, FieldLine, SectionOfAtMost, RequestStart}
 use Rattle.httparse.proofs.PieceLemmas.{space_ends_token, colon_ends_token, FieldLine_parts, print_field-append, Stops-FieldLine}
 use Rattle.wire.specs.HeadReading.{Reader, with_some, both, such_that, push, is_some_list, line_feed_of, newline, blank, run, word, strip, digit, version, value_line, field, start_line, section_or, section}
+use Rattle.wire.proofs.Cuts.{if_false, if_true}
 
 pub record Reads {A : Type 0} (G : Piece A) (f : Reader A) : Type 0 where
   pub sound : (bs : List ℕ) (a : A) (rest : List ℕ) → f bs ≡ Some (a, rest) → G a bs rest
@@ -48,14 +49,6 @@ both_reads {A} {B} G H f g x y = record {
 choice : {A : Type 0} (b : Bool) (x y : Option A) (v : A) → (if b then x else y) ≡ Some v → ((b ≡ true) × (x ≡ Some v)) ⊎ ((b ≡ false) × (y ≡ Some v))
 choice true x y v e = inl (refl, e)
 choice false x y v e = inr (refl, e)
-
-if_true : {A : Type 0} (b : Bool) (x y : A) → b ≡ true → (if b then x else y) ≡ x
-if_true true x y e = refl
-if_true false x y e = absurd (cc e)
-
-if_false : {A : Type 0} (b : Bool) (x y : A) → b ≡ false → (if b then x else y) ≡ y
-if_false true x y e = absurd (cc e)
-if_false false x y e = refl
 
 line_feed_sound : (end : LineEnd) (bs : List ℕ) (a : LineEnd) (rest : List ℕ) → line_feed_of end bs ≡ Some (a, rest) → (end ≡ a) × (bs ≡ 10 ∷ rest)
 line_feed_sound end [] a rest e = absurd (cc e)

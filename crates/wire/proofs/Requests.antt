@@ -8,6 +8,7 @@ use Rattle.wire.specs.Cut.{short, long, whole, cut}
 use Rattle.wire.specs.Fault.{Fault, fault_of, bad_head}
 use Rattle.wire.specs.Framing.{none, broken, Framed, framed, with_body, after_cut, first}
 use Rattle.wire.specs.Reading.{IsRead}
+use Rattle.wire.proofs.Heads.{at_rest}
 
 pub short_first : (start : Option (List ℕ)) → IfSome start (λ bs. cut bs ≡ short) → IfSome start (λ bs. first bs ≡ none)
 unfolding first
@@ -18,9 +19,6 @@ pub long_first : (start : Option (List ℕ)) → IfSome start (λ bs. cut bs ≡
 unfolding first
 long_first None h = tt
 long_first (Some bs) h = (bad_head, refl, ap after_cut h)
-
-at_rest : (P : List ℕ → Type 0) (o : Option (List ℕ)) (rest : List ℕ) → o ≡ Some rest → IfSome o P → P rest
-at_rest P o rest e h = rw e at h
 
 pub whole_first : (start left after : Option (List ℕ)) (head : List ℕ) (f : Framed) (w : Option Whole)
     → IfSome start (λ bs. (rest : List ℕ) × (left ≡ Some rest) × (cut bs ≡ whole head rest)) → Ok f ≡ framed head

@@ -83,7 +83,7 @@ false_if : {A : Type 0} (b : Bool) (x y : A) → b ≡ false → (if b then x el
 false_if true x y e = absurd (cc e)
 false_if false x y e = refl
 
-true_if : {A : Type 0} (b : Bool) (x y : A) → b ≡ true → (if b then x else y) ≡ x
+pub true_if : {A : Type 0} (b : Bool) (x y : A) → b ≡ true → (if b then x else y) ≡ x
 true_if true x y e = refl
 true_if false x y e = absurd (cc e)
 

@@ -17,6 +17,7 @@ pub use fault::StreamFault;
 pub use head_fault::HeadFault;
 pub use number::number_of;
 pub use pieces::{cut_at, text_of};
+pub use place::Place;
 pub use reading::{Request, Whole, read_request};
 pub use sender::Sender;
 pub use writing::{write_all, write_flushed, write_whole};

@@ -5,7 +5,7 @@ ghost use Rattle.wire.specs.Cut as spec;
 /// Where the next byte of a head stands: in the empty lines before its first line, after a carriage return there,
 /// within a line, at the start of a later line, or after a carriage return there.
 #[derive(Clone, Copy, Debug)]
-pub(crate) enum Place {
+pub enum Place {
     Blank,
     BlankReturn,
     Text,
@@ -15,7 +15,7 @@ pub(crate) enum Place {
 
 impl Place {
     /// The place after a byte; none where the head ends with it.
-    pub(crate) fn next(self, byte: u8) -> Option<Place>
+    pub fn next(self, byte: u8) -> Option<Place>
         ensures { result ≡ spec.next self byte }
     {
         match self {

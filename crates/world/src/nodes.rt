@@ -410,7 +410,7 @@ fn room(copies: &mut Vec<OneCopy>, messages: &mut Vec<Msg>) -> Result<(), AllocE
 }
 
 /// The request that a message to the master makes.
-fn request_of(message: &Msg) -> Option<Request>
+pub fn request_of(message: &Msg) -> Option<Request>
     ensures { result ≡ request_of message.now.term message.now.content }
 {
     match message.content {

@@ -10,11 +10,11 @@ ghost use Rattle.engine.specs.IdTables.{HaveLast};
 ghost use Rattle.engine.specs.Slot.{ops, AreHeld, AreWhole};
 
 use crate::engine::Engine;
-use crate::history::Unindexed;
-use crate::latest::Latest;
-use crate::operation_index::latest_numbers;
-use crate::showing::Showing;
-use crate::slot::Slot;
+use crate::operations::history::Unindexed;
+use crate::operations::latest::Latest;
+use crate::operations::operation_index::latest_numbers;
+use crate::operations::slot::Slot;
+use crate::read::showing::Showing;
 use doc::{Mapping, Source};
 use op::Record;
 use segment::Segment;

@@ -7,10 +7,10 @@ ghost use Rattle.engine.specs.Parts.{merged, without};
 ghost use Rattle.engine.specs.Published.{AreKnown, IsFronted};
 ghost use Rattle.engine.specs.SnapshotChange.{ShowsMore};
 
-use crate::changes::Changes;
 use crate::engine::Engine;
-use crate::showing::Showing;
-use crate::unshown::{Begun, Prebuilt, Unshown};
+use crate::job::changes::Changes;
+use crate::job::unshown::{Begun, Prebuilt, Unshown};
+use crate::read::showing::Showing;
 use op::Record;
 use std::alloc::{AllocError, Global};
 use std::sync::Arc;

@@ -63,7 +63,7 @@ impl State {
     {
         let answer = wrote(&op, outcome);
         let sent = self.op_messages(alloc, lead, &op)?;
-        let pending = lead.with_pending(alloc, &op)?;
+        let pending = lead.copy(alloc)?.into_pending(alloc, op.seq)?;
         let led = self.settle(alloc, pending, op.seq + 1, Some(&op))?;
         let kept = kept_record(self.known, op);
         Ok(led.into_settled(answer, sent).keeping(kept, self.term))

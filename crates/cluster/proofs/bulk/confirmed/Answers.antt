@@ -9,4 +9,4 @@ returns-in-Some-true-clause-refused g c =
     let yes : IsTrue true = refl in
     let asked = c.if-not-is_of_bulk.ensures.is.0 yes in
     let kept = c.in-Some-true.ensures c.in-Some-true.field-0-test in
-    IfErr-weaker c.ended.result _ _ (λ f end. refused_bulk_end c.args.writes.now c.args.begun.receipt f asked.input_is c.if-not-is_of_bulk.ensures.stands kept end) c.ended.ensures.lost
+    IfErr-weaker c.ended.result _ _ (λ f end. refused_bulk_end c.args.writes.now c.in_ok-receipt.receipt f asked.input_is c.if-not-is_of_bulk.ensures.stands kept end) c.ended.ensures.lost

@@ -1,7 +1,6 @@
 use Rattle.std.proofs.Common.{◌≡◌, ◌≢◌, ℕ, List, [], Ok, length, Vec, Global, ◌∙◌, map, arith}
 use Rattle.std.proofs.lemmas.List.{length-map}
 use Rattle.std.proofs.lemmas.Bool.Decides.{nat_tests}
-use Rattle.translog.specs.Frames.{contents_in}
 use Rattle.translog.proofs.FramesLaws.{opened_of}
 use Rattle.master.specs.Log.{header}
 use Rattle.master.proofs.Decisions.{no_contents, some_contents, begun_none, begun_some, unbegun_unread, unbegun_mended, unbegun_opened, unbegun_first, gives_first, first_unless, first_after, left_unless, left_after}

@@ -1,6 +1,6 @@
 use Rattle.std.proofs.Common.{◌≡◌, drop}
 use Rattle.doc.specs.ScalarView.{scalar_view, scalars_view}
-use Rattle.terms.specs.Terms.{is_one_of}
+use Rattle.analysis.specs.Terms.{is_one_of}
 use Rattle.query.proofs.asked.is_one_of.Given as goal
 
 -- the values that are left decide

@@ -1,5 +1,5 @@
 use Rattle.doc.specs.Document.{all_values}
-use Rattle.terms.specs.Terms.{terms_at}
+use Rattle.analysis.specs.Terms.{terms_at}
 use Rattle.query.proofs.Values.{one_of_distinct, tokens_once}
 use Rattle.query.proofs.laws.a_value_counts_once.Goals as goal
 

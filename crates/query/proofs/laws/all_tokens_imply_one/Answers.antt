@@ -1,5 +1,5 @@
 use Rattle.doc.specs.Document.{all_values}
-use Rattle.terms.specs.Terms.{terms_at}
+use Rattle.analysis.specs.Terms.{terms_at}
 use Rattle.query.proofs.QueryLaws.{one_of_all}
 use Rattle.query.proofs.laws.all_tokens_imply_one.Goals as goal
 

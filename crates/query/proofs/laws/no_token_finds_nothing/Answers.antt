@@ -1,6 +1,6 @@
 use Rattle.std.proofs.Common.{refl}
 use Rattle.doc.specs.Document.{all_values}
-use Rattle.terms.specs.Terms.{terms_at}
+use Rattle.analysis.specs.Terms.{terms_at}
 use Rattle.query.proofs.QueryLaws.{none_of_none}
 use Rattle.query.proofs.laws.no_token_finds_nothing.Goals as goal
 

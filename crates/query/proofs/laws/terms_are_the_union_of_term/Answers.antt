@@ -1,5 +1,5 @@
 use Rattle.doc.specs.Document.{all_values}
-use Rattle.terms.specs.Terms.{terms_at}
+use Rattle.analysis.specs.Terms.{terms_at}
 use Rattle.query.proofs.QueryLaws.{exchanged}
 use Rattle.query.proofs.laws.terms_are_the_union_of_term.Goals as goal
 

@@ -1,7 +1,7 @@
 use Rattle.std.proofs.Common.{◌≡◌, drop}
 use Rattle.std.specs.List.{list_all}
 use Rattle.doc.specs.ScalarView.{scalars_view}
-use Rattle.terms.specs.Terms.{has, terms_at}
+use Rattle.analysis.specs.Terms.{has, terms_at}
 use Rattle.query.proofs.meaning.all_terms.Given as goal
 
 -- the values that are left decide

@@ -4,7 +4,7 @@ use Rattle.std.specs.List.{list_any}
 use Rattle.doc.specs.ScalarView.{values_view}
 use Rattle.doc.specs.Document.{values_at}
 use Rattle.query.specs.Asked.{passes}
-use Rattle.terms.specs.Terms.{terms_of_value}
+use Rattle.analysis.specs.Terms.{terms_of_value}
 use Rattle.query.proofs.meaning.some_token.Given as goal
 
 -- the fields that are left decide

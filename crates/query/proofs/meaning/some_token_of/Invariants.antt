@@ -3,7 +3,7 @@ use Rattle.std.specs.Prelude.{flat_map}
 use Rattle.std.specs.List.{list_any}
 use Rattle.doc.specs.ScalarView.{scalars_view}
 use Rattle.query.specs.Asked.{passes}
-use Rattle.terms.specs.Terms.{terms_of_value}
+use Rattle.analysis.specs.Terms.{terms_of_value}
 use Rattle.query.proofs.meaning.some_token_of.Given as goal
 
 -- the values that are left decide

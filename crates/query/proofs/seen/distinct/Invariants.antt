@@ -3,7 +3,7 @@ use Rattle.doc.specs.Scalar.{Scalar}
 use Rattle.doc.specs.ScalarView.{scalars_view}
 use Rattle.query.specs.Distinct.{distinct, distinct_after}
 use Rattle.query.specs.SeenView.{has_seen}
-use Rattle.terms.specs.Terms.{has}
+use Rattle.analysis.specs.Terms.{has}
 use Rattle.query.proofs.seen.distinct.Given as goal
 
 -- what was seen are the values so far, and those that are left follow

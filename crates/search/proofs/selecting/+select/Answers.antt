@@ -7,10 +7,10 @@ use Rattle.std.proofs.lemmas.List.{length-map}
 use Rattle.doc.specs.Document.{all_values}
 use Rattle.doc.specs.ScalarView.{scalar_view, scalars_view}
 use Rattle.query.specs.Meaning as spec
-use Rattle.terms.specs.Terms as of_terms
+use Rattle.analysis.specs.Terms as of_terms
 use Rattle.query.specs.Query.{queries_of, count_of, exists, nothing, match_all, term as spec_term}
 use Rattle.query.specs.View.{query_view}
-use Rattle.terms.specs.BoundsView.{bounds_view}
+use Rattle.analysis.specs.BoundsView.{bounds_view}
 use Rattle.marks.specs.Lists.{zip_with}
 use Rattle.segment.specs.Indexed.{has_value}
 use Rattle.segment.proofs.Joins.{const, zip-self, and-end, or-end, count-end, length-zip, few-more}

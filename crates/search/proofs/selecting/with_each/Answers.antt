@@ -2,7 +2,7 @@ use Rattle.std.proofs.Common.{◌∙◌, ap, sym, length, true, List, ℕ, Bool,
 use Rattle.std.specs.List.{list_all}
 use Rattle.std.proofs.lemmas.List.{length-map}
 use Rattle.doc.specs.ScalarView.{scalars_view}
-use Rattle.terms.specs.Terms as spec
+use Rattle.analysis.specs.Terms as spec
 use Rattle.marks.specs.Lists.{zip_with}
 use Rattle.segment.proofs.Joins.{zip-self, and-end, length-zip}
 use Rattle.search.proofs.Turns.{done, all-turn}

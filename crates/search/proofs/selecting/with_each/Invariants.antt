@@ -1,7 +1,7 @@
 use Rattle.std.proofs.Common.{◌≡◌, ◌&&◌, drop, length, map}
 use Rattle.std.specs.List.{list_all}
 use Rattle.doc.specs.ScalarView.{scalars_view}
-use Rattle.terms.specs.Terms.{has, terms}
+use Rattle.analysis.specs.Terms.{has, terms}
 use Rattle.marks.specs.Lists.{zip_with}
 use Rattle.search.proofs.selecting.with_each.Given as goal
 

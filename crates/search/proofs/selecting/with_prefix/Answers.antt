@@ -1,6 +1,6 @@
 use Rattle.std.proofs.Common.{◌∙◌, ap, false, List, ℕ, Bool, ◌||◌}
 use Rattle.std.specs.List.{list_any}
-use Rattle.terms.specs.Terms as spec
+use Rattle.analysis.specs.Terms as spec
 use Rattle.marks.specs.Lists.{zip_with}
 use Rattle.segment.proofs.Joins.{zip-self}
 use Rattle.search.proofs.selecting.with_prefix.Goals as goal

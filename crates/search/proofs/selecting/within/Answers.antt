@@ -1,7 +1,7 @@
 use Rattle.std.proofs.Common.{◌∙◌, ap, false, List, ℕ, Bool, ◌||◌}
 use Rattle.std.specs.List.{list_any}
-use Rattle.terms.specs.Terms as spec
-use Rattle.terms.specs.BoundsView.{bounds_view}
+use Rattle.analysis.specs.Terms as spec
+use Rattle.analysis.specs.BoundsView.{bounds_view}
 use Rattle.marks.specs.Lists.{zip_with}
 use Rattle.segment.proofs.Joins.{zip-self}
 use Rattle.search.proofs.selecting.within.Goals as goal

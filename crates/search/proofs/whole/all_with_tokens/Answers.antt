@@ -1,7 +1,7 @@
 use Rattle.std.proofs.Common.{◌≡◌, ℕ, Bool, IfOk, List, length, subst, take}
 use Rattle.doc.specs.ScalarView.{scalars_view}
 use Rattle.query.specs.Meaning.{has_tokens}
-use Rattle.terms.specs.Terms.{terms}
+use Rattle.analysis.specs.Terms.{terms}
 use Rattle.search.proofs.Postings.{alone}
 use Rattle.search.proofs.Wholes.{places-agree, places-tested}
 use Rattle.search.proofs.whole.all_with_tokens.Goals as goal

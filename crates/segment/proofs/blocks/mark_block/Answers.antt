@@ -2,7 +2,7 @@ use Rattle.std.proofs.Common.{◌≡◌, ◌≤ℤ◌, ◌∙◌, ℤ, true, sym
 use Rattle.std.proofs.lemmas.Grind.{common_steps}
 use Rattle.std.proofs.lemmas.Int.{to_z-of_z}
 use Rattle.doc.specs.Scalar.{long}
-use Rattle.terms.specs.Terms.{is_within}
+use Rattle.analysis.specs.Terms.{is_within}
 use Rattle.segment.specs.Limits.{limits_view}
 use Rattle.segment.proofs.Blocked.{block-length, block-none, block-whole}
 use Rattle.segment.proofs.blocks.mark_block.Goals as goal

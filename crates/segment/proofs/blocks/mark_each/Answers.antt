@@ -2,7 +2,7 @@ use Rattle.std.proofs.Common.{◌≡◌, ◌∙◌, ◌∷◌, [], ℤ, arith, a
 use Rattle.std.proofs.lemmas.Grind.{common_steps}
 use Rattle.std.proofs.lemmas.Int.{to_z-of_z}
 use Rattle.doc.specs.Scalar.{long}
-use Rattle.terms.specs.Terms.{is_within}
+use Rattle.analysis.specs.Terms.{is_within}
 use Rattle.segment.specs.Limits.{limits_view}
 use Rattle.segment.specs.declared.blocks.Number.{Number}
 use Rattle.segment.proofs.Blocked.{hits-more, length-marked}

@@ -1,7 +1,7 @@
 use Rattle.std.proofs.Common.{◌≡◌, ◌+◌, ◌∙◌, ◌++◌, ◌∷◌, [], ap, sym, subst, take, Some}
 use Rattle.std.proofs.lemmas.List.{map_more}
 use Rattle.doc.specs.ScalarView.{scalar_view, scalars_view}
-use Rattle.terms.specs.Terms.{terms_by}
+use Rattle.analysis.specs.Terms.{terms_by}
 use Rattle.segment.specs.Posted.{IsPosted}
 use Rattle.segment.proofs.PostedLaws.{IsPosted-none, IsRoomFor-posted, value-more, no_values}
 use Rattle.segment.proofs.posting.post_values.Goals as goal

@@ -1,6 +1,6 @@
 use Rattle.std.proofs.Common.{Some, take}
 use Rattle.doc.specs.ScalarView.{scalars_view}
-use Rattle.terms.specs.Terms.{terms_by}
+use Rattle.analysis.specs.Terms.{terms_by}
 use Rattle.segment.specs.Posted.{IsPosted}
 use Rattle.segment.proofs.posting.post_values.Given as goal
 

@@ -6,7 +6,7 @@ use Rattle.engine.specs.Answer.{SnapshotData}
 use Rattle.engine.specs.Changes.{ChangesData, LeadsOn}
 use Rattle.engine.specs.Parts.{merged, without}
 use Rattle.engine.specs.Published.{IsFronted}
-use Rattle.engine.specs.declared.part_list.PartList.{PartList}
+use Rattle.engine.specs.declared.read.part_list.PartList.{PartList}
 use Rattle.engine.proofs.BegunLaws.{still-begun}
 use Rattle.engine.proofs.engine.Engine.finish_refresh.Goals as goal
 

@@ -1,6 +1,6 @@
 use Rattle.std.proofs.Common.{◌≡◌, true, Some, refl, ap, subst, ◌∙◌}
 use Rattle.std.specs.Prelude.{IfSome, IsTrue}
-use Rattle.chronicle.specs.Registered.{PrefixData, prefix}
+use Rattle.chronicle.specs.Registered.{PrefixData}
 use Rattle.journal.specs.declared.journal.Deed.{Deed}
 use Rattle.replica.specs.declared.input.Write as taken
 use Rattle.node.specs.Heard.{IsAheadOf}

@@ -39,5 +39,5 @@ returns-clause-ok g c =
     let place : c.len-place.result ≡ length h.deeds = (c.len-place.ensures ∙ ap (λ l. length l.entries) c.ledger.ensures) ∙ ap length c.reserve.ensures.same in
     let same : e ≡ record { place = length h.deeds; kept = t.kept; given = t.given } = ap (λ n. let x : Entered = record { place = n; kept = t.kept; given = t.given } in x) place in
     let both = entered h new c.self.inside.copy c.tell.new.copy c.args.pass c.in_ok-inputs.inputs.asked t e c.self.invariant.1 c.is_logged.ensures c.in_ok-own.ensures.told more same in
-    subst (λ (i : Input). IsEntered c.args.self.now new c.args.pass i e) (c.in_ok-inputs.ensures.0 ∙ c.in_ok-input.ensures.ok.0)
+    subst (λ (i : Input). IsEntered c.args.self.now new c.args.pass i e) c.in_ok-inputs.ensures.0
     (subst (λ (x : JournalData). IsEntered x new c.args.pass c.in_ok-inputs.inputs.asked e) c.self.view_is both.1)

@@ -2,7 +2,7 @@ use Rattle.std.proofs.Common.{◌≡◌, ◌≤◌, ◌<◌, ◌+◌, ℕ, zero,
 use Rattle.std.specs.Prelude.{filter, not}
 use Rattle.std.proofs.lemmas.Grind.{common_steps}
 use Rattle.std.proofs.lemmas.List.Elements.{filter-append}
-use Rattle.op.specs.Ids.{has, ids_up_to, ids_below}
+use Rattle.op.specs.Ids.{has, ids_below}
 use Rattle.op.proofs.ids.CopyIds.others_below.Goals as goal
 use Rattle.op.proofs.ids.CopyIds.others_below.Goals.{then-not-has+in_ok-push, else-not-has}
 

@@ -2,7 +2,7 @@ use Rattle.std.proofs.Common.{◌≤◌, length, ap, subst, sym, List}
 use mathlib.Core.List.{IsPrefix}
 use Rattle.published.specs.declared.listing.Listing.{Listing}
 use Rattle.published.specs.Beginning.{Beginning}
-use Rattle.published.proofs.Chains.{prefix_shorter}
+use Rattle.chronicle.proofs.Lines.{prefix_shorter}
 use Rattle.published.proofs.front.Front.compare.Goals as goal
 
 pub returns-clause-begins : goal.returns-clause-begins

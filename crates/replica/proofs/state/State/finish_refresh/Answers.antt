@@ -1,6 +1,6 @@
 use Rattle.std.proofs.Common.{◌≡◌, true, ap, refl, subst}
 use Rattle.std.specs.Prelude.{IfOk}
-use Rattle.engine.specs.Contents.{Contents, contents_of, segments_of}
+use Rattle.engine.specs.Contents.{Contents, segments_of}
 use Rattle.replica.specs.Copy.{Copy}
 use Rattle.replica.specs.Searched.{Searched, IsRefreshTo}
 use Rattle.replica.proofs.Searching.{finished_or_not, refresh_of}

@@ -1,7 +1,7 @@
 use Rattle.std.proofs.Common.{◌∙◌, ℤ, ap, not, option_map, w64}
 use Rattle.std.proofs.lemmas.Int.{to_z-of_z}
 use Rattle.doc.specs.Scalar.{long}
-use Rattle.terms.specs.Terms.{is_less, meets}
+use Rattle.analysis.specs.Terms.{is_less, meets}
 use Rattle.segment.proofs.Blocked.{all_four, reached}
 use Rattle.segment.proofs.limits.Limits.may_have.Goals as goal
 

@@ -9,8 +9,8 @@ use Rattle.std.proofs.lemmas.List.{map-append}
 use Rattle.std.proofs.lemmas.Map.Iter.{rest_so_far}
 use Rattle.doc.specs.Scalar.{long}
 use Rattle.doc.specs.Document.{Values, all_values}
-use Rattle.terms.specs.Terms.{is_within}
-use Rattle.terms.specs.BoundsView.{bounds_view}
+use Rattle.analysis.specs.Terms.{is_within}
+use Rattle.analysis.specs.BoundsView.{bounds_view}
 use Rattle.marks.specs.Lists.{places, marked}
 use Rattle.segment.specs.Places.{as_list}
 use Rattle.segment.specs.declared.places.Places.{Places}

@@ -1,7 +1,7 @@
 use Rattle.std.proofs.Common.{◌≡◌, map}
 use Rattle.std.specs.Map.Iter.{deref_pair}
-use Rattle.terms.specs.Terms.{is_within}
-use Rattle.terms.specs.BoundsView.{bounds_view}
+use Rattle.analysis.specs.Terms.{is_within}
+use Rattle.analysis.specs.BoundsView.{bounds_view}
 use Rattle.segment.proofs.Withins.{so_far, long_hit}
 use Rattle.segment.proofs.segment.Segment.mark_lists.Given as goal
 

@@ -3,7 +3,7 @@ use Rattle.std.proofs.lemmas.Grind.{common_steps}
 use Rattle.std.proofs.lemmas.List.{length-map}
 use Rattle.doc.specs.Document.{all_values}
 use Rattle.doc.specs.Scalar.{long}
-use Rattle.terms.specs.Terms.{is_within}
+use Rattle.analysis.specs.Terms.{is_within}
 use Rattle.marks.specs.Lists.{marked}
 use Rattle.segment.specs.Blocks.{IsBlock, hits, numbers_of}
 use Rattle.segment.specs.Limits.{limits_view}

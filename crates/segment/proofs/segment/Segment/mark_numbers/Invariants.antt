@@ -1,6 +1,6 @@
 use Rattle.std.proofs.Common.{◌≡◌, length, take}
 use Rattle.doc.specs.Scalar.{long}
-use Rattle.terms.specs.Terms.{is_within}
+use Rattle.analysis.specs.Terms.{is_within}
 use Rattle.marks.specs.Lists.{marked}
 use Rattle.segment.specs.Blocks.{hits, numbers_of}
 use Rattle.segment.specs.Limits.{limits_view}

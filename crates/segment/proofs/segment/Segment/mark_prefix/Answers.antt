@@ -1,4 +1,4 @@
-use Rattle.terms.specs.Terms.{begins_with, terms_at}
+use Rattle.analysis.specs.Terms.{begins_with, terms_at}
 use Rattle.std.specs.List.{list_any}
 use Rattle.segment.proofs.Columns.{unmapped, none_any}
 use Rattle.segment.proofs.segment.Segment.mark_prefix.Goals as goal

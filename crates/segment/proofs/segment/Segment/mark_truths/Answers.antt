@@ -1,7 +1,7 @@
 use Rattle.std.proofs.Common.{◌∙◌, ap, sym, length, true, false}
 use Rattle.doc.specs.Scalar.{flag}
-use Rattle.terms.specs.Terms.{is_within}
-use Rattle.terms.specs.BoundsView.{bounds_view}
+use Rattle.analysis.specs.Terms.{is_within}
+use Rattle.analysis.specs.BoundsView.{bounds_view}
 use Rattle.segment.specs.Indexed.{has_term}
 use Rattle.segment.proofs.Columns.{long-enough}
 use Rattle.segment.proofs.Joins.{length-zip}

@@ -1,8 +1,8 @@
 use Rattle.std.proofs.Common.{ap, ◌∙◌, List, Bool, ◌||◌, ◌&&◌}
 use Rattle.std.specs.List.{list_any}
 use Rattle.doc.specs.Document.{all_values}
-use Rattle.terms.specs.Terms.{is_within, terms_at}
-use Rattle.terms.specs.BoundsView.{bounds_view}
+use Rattle.analysis.specs.Terms.{is_within, terms_at}
+use Rattle.analysis.specs.BoundsView.{bounds_view}
 use Rattle.marks.specs.Lists.{zip_with}
 use Rattle.segment.specs.Term.{is_long, is_truth}
 use Rattle.segment.proofs.Columns.{unmapped, none_any}

@@ -1,6 +1,0 @@
-use Rattle.std.proofs.Common.{◌≡◌}
-use Rattle.engine.proofs.operations.note_first.Given as goal
-
--- nothing changes
-abbrev pub invariant-loop-at : goal.invariant-loop-at
-invariant-loop-at l = l.slots ≡ l.fn.slots

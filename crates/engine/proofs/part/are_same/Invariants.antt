@@ -1,6 +1,0 @@
-use Rattle.std.proofs.Common.{◌≡◌, take}
-use Rattle.engine.proofs.part.are_same.Given as goal
-
--- the first marks are the same
-abbrev pub invariant-loop-at : goal.invariant-loop-at
-invariant-loop-at l = take l.at l.left ≡ take l.at l.right

@@ -1,5 +1,0 @@
-use Rattle.std.proofs.Common.{length, ◌-◌}
-use Rattle.engine.proofs.strands.place_from.Given as goal
-
-abbrev pub decreases-loop-at : goal.decreases-loop-at
-decreases-loop-at l = length l.entries - l.at

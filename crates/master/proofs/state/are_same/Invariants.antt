@@ -1,6 +1,0 @@
-use Rattle.std.proofs.Common.{◌≡◌, take}
-use Rattle.master.proofs.state.are_same.Given as goal
-
--- the two agree so far
-abbrev pub invariant-loop-place : goal.invariant-loop-place
-invariant-loop-place l = take l.place l.ids ≡ take l.place l.others
