@@ -65,7 +65,7 @@ deleted
 (404, 'not_found')
 (404, False)
 (404, 'index_not_found_exception')
-(400, 'query_fault')
+(400, 'parsing_exception')
 0
 (3, ['m297', 'm298', 'm299'])
 """
@@ -155,6 +155,7 @@ def greeted():
         idle_parameters(server)
         loose_bulks(server)
         pages_in_targets(server)
+        sentences(server)
     with Server() as server:
         server.ask(PUT)
         ungreeted(server)
@@ -172,12 +173,43 @@ def greetings(server):
         check(f"GET {target.decode()}", "" if good else shown(got))
     got = server.ask(b"GET /?q=x HTTP/1.1\r\n\r\n")
     check("GET /?q=x", "" if page_names(got) == [(400, "BadParameter")] else shown(got))
-    for request in (b"POST /", b"GET /books", b"GET /other", b"PUT /books", b"GET /books/_source/1", b"POST /books/_delete_by_query", b"GET /_cat/health", b"GET *"):
+    for request in (b"POST /", b"GET /books", b"GET /other", b"PUT /other", b"PUT /books/_mapping", b"GET /books/_source/1", b"POST /books/_delete_by_query", b"GET /_cat/health", b"GET *"):
         got = server.ask(request + b" HTTP/1.1\r\n\r\n")
         check(f"{request.decode()}, which no library takes for a missing document", "" if page_names(got) == [(400, "NoHandler")] else shown(got))
+    for target in (b"/books", b"/b%6foks", b"/books?timeout=1m", b"http://localhost/books"):
+        got = server.ask(b"PUT %s HTTP/1.1\r\n\r\n" % target)
+        check(f"PUT {target.decode()}", other(got, sentence_page(400, "IndexExists", "resource_already_exists_exception", "index [books] already exists")))
     for target in (b"/books/_doc/9", b"/other/_doc/1"):
         got = server.ask(b"GET %s HTTP/1.1\r\n\r\n" % target)
         check(f"GET {target.decode()} is still not found", "" if got.startswith(b"HTTP/1.1 404 ") else shown(got))
+
+
+def sentence_page(status, name, kind, sentence):
+    """The page of a fault, as a server that greets spells it."""
+    error = {"name": name, "reason": sentence, "root_cause": [{"reason": sentence, "type": kind}], "type": kind}
+    body = json.dumps({"error": error, "status": status}, separators=(",", ":"), ensure_ascii=False).encode()
+    reason = {400: b"Bad Request", 404: b"Not Found", 413: b"Content Too Large"}[status]
+    return b"HTTP/1.1 %d %s\r\ncontent-type: application/json\r\ncontent-length: %d%s\r\n\r\n%s" % (status, reason, len(body), PRODUCT, body)
+
+
+# Requests that are refused, with the status, the name, the type and the sentence of their pages.
+SENTENCES = (
+    (put_of(b"s", b'{"year":"soon"}'), 400, "WrongValue", "mapper_parsing_exception", 'field year: "soon" is no long (a whole number within 64 bits)'),
+    (b"POST /books/_search HTTP/1.1\r\ncontent-length: 26\r\n\r\n" + b'{"query":{"mach":{"a":1}}}', 400, "Parsing", "parsing_exception", "bad query: mach: this query isn't known"),
+    (b"GET /books/_search?sort=%22x%22 HTTP/1.1\r\n\r\n", 400, "BadParameter", "illegal_argument_exception", "the parameter sort isn't known"),
+    (b"GET /other/_search HTTP/1.1\r\n\r\n", 404, "NoIndex", "index_not_found_exception", "another index is served here, which is named books"),
+    (b"PUT /books/_doc/s HTTP/1.1\r\ncontent-length: 1048577\r\n\r\n", 413, "BodyTooLarge", "size_fault", "the body has more than 1,048,576 bytes"))
+
+
+def sentences(server):
+    """The page of a refused request has a sentence, in JSON's spelling, and Elasticsearch's type."""
+    for request, status, name, kind, sentence in SENTENCES:
+        check(f"the sentence of {name}", other(server.ask(request), sentence_page(status, name, kind, sentence)))
+    got = bodies(server.ask(b"GET /books/_source/1 HTTP/1.1\r\n\r\n"))[0]["error"]
+    good = got["reason"].startswith("no handler found for uri [/books/_source/1] and method [GET]: ") and got["type"] == "illegal_argument_exception"
+    check("the sentence of NoHandler", "" if good else repr(got))
+    got = bodies(server.ask(bulk_of(b'{"index":{"_id":"1"}}\n{}\n{"update":{"_id":"1"}}\n{}\n')))[0]["error"]
+    check("the sentence of BadBulk", "" if "line 3" in got["reason"] and got["type"] == "illegal_argument_exception" else repr(got))
 
 
 def signed_pages(server):

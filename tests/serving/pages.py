@@ -31,8 +31,13 @@ def pages_of(got):
 
 
 def page_names(got):
-    """The status of each page in the bytes, and the reason of its fault ("" where it is none)."""
-    return [(int(head.split()[1]), body.get("error", {}).get("reason", "")) for head, body in pages_of(got)]
+    """The status of each page in the bytes, and the name of its fault ("" where it is none)."""
+    return [(int(head.split()[1]), name_of(body.get("error", {}))) for head, body in pages_of(got)]
+
+
+def name_of(error):
+    """The short name of a fault: a server that greets has a sentence as its reason."""
+    return error.get("name", error.get("reason", ""))
 
 
 def bodies(got):
