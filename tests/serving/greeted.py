@@ -194,7 +194,7 @@ def sentence_page(status, name, kind, sentence):
 
 # Requests that are refused, with the status, the name, the type and the sentence of their pages.
 SENTENCES = (
-    (put_of(b"s", b'{"year":"soon"}'), 400, "WrongValue", "mapper_parsing_exception", 'field year: "soon" is no long (a whole number within 64 bits)'),
+    (put_of(b"s", b"[]"), 400, "NotObject", "mapper_parsing_exception", "not an object"),
     (b"POST /books/_search HTTP/1.1\r\ncontent-length: 26\r\n\r\n" + b'{"query":{"mach":{"a":1}}}', 400, "Parsing", "parsing_exception", "bad query: mach: this query isn't known"),
     (b"GET /books/_search?sort=%22x%22 HTTP/1.1\r\n\r\n", 400, "BadParameter", "illegal_argument_exception", "the parameter sort isn't known"),
     (b"GET /other/_search HTTP/1.1\r\n\r\n", 404, "NoIndex", "index_not_found_exception", "another index is served here, which is named books"),
@@ -208,6 +208,8 @@ def sentences(server):
     got = bodies(server.ask(b"GET /books/_source/1 HTTP/1.1\r\n\r\n"))[0]["error"]
     good = got["reason"].startswith("no handler found for uri [/books/_source/1] and method [GET]: ") and got["type"] == "illegal_argument_exception"
     check("the sentence of NoHandler", "" if good else repr(got))
+    got = bodies(server.ask(put_of(b"s", b'"')))[0]["error"]
+    check("the sentence of NotJson", "" if got["reason"].startswith("not JSON: ") and got["root_cause"] == [{"reason": got["reason"], "type": got["type"]}] else repr(got))
     got = bodies(server.ask(bulk_of(b'{"index":{"_id":"1"}}\n{}\n{"update":{"_id":"1"}}\n{}\n')))[0]["error"]
     check("the sentence of BadBulk", "" if "line 3" in got["reason"] and got["type"] == "illegal_argument_exception" else repr(got))
 
