@@ -1,18 +1,21 @@
 -- The live ones among listed places.
-use Rattle.std.proofs.Common.{◌≡◌, ◌<◌, ℕ, ◌+◌, suc, Bool, true, false, ◌&&◌, ◌||◌, List, [], ◌∷◌, length, map, filter, refl, sym, ap, ◌∙◌, arith, get_or, All, if◌then◌else◌, subst, cond}
+use Rattle.std.proofs.Common.{◌≡◌, ◌<◌, ℕ, ◌+◌, suc, Bool, true, false, ◌&&◌, ◌||◌, List, [], ◌∷◌, length, map, filter, refl, sym, ap, ◌∙◌, arith, get_or, All, if◌then◌else◌, subst, cond, String, Vec, Global, string_bytes}
 use Rattle.std.specs.List.{list_any}
 use Rattle.doc.specs.Mapping.{MappingData}
 use Rattle.doc.specs.Scalar as spec
 use Rattle.doc.specs.Scalar.{is_scalar}
 use Rattle.doc.specs.ScalarView.{scalar_view, scalars_view}
 use Rattle.doc.specs.declared.scalar.Scalar.{Scalar}
-use Rattle.query.specs.Meaning.{has_tokens}
+use Rattle.query.specs.Meaning.{has_tokens, means}
+use Rattle.query.specs.View.{query_view}
+use Rattle.query.specs.declared.query.Query.{Query}
+use Rattle.query.specs.declared.query.Query.TheVariants.{Match}
 use Rattle.analysis.specs.Terms.{has, is_one_of, terms}
 use Rattle.query.specs.declared.query.Operator.{Operator}
 use Rattle.query.specs.declared.query.Operator.TheVariants.{Or, And}
 use Rattle.marks.specs.Lists.{zip_with, places, places_from}
 use Rattle.segment.proofs.Steps.{places-below}
-use Rattle.marks.proofs.Views.{map_all}
+use Rattle.search.proofs.QueryViews.{view-match}
 
 first_kept : (q : ℕ → Bool) (t l : Bool) (n : ℕ) (ps qs : List ℕ) → q n ≡ l → filter q ps ≡ qs → filter q (if t then n ∷ ps else ps) ≡ (if t && l then n ∷ qs else qs)
 first_kept q true l n ps qs is same = ap (λ b. cond b (n ∷ filter q ps) (filter q ps)) is ∙ ap (λ rs. cond l (n ∷ rs) rs) same
@@ -54,12 +57,14 @@ one_alone Or ts v = any_alone v ts
 one_alone And ts v = and_true (has ts v)
 
 -- one token alone is a term
-pub alone : (operator : Operator) (ts : List spec.Scalar) (tokens : List Scalar) (token : Scalar) → length tokens ≡ 1 → token ≡ get_or tokens 0 token → has ts (scalar_view token) ≡ has_tokens operator ts (scalars_view tokens)
+alone : (operator : Operator) (ts : List spec.Scalar) (tokens : List Scalar) (token : Scalar) → length tokens ≡ 1 → token ≡ get_or tokens 0 token → has ts (scalar_view token) ≡ has_tokens operator ts (scalars_view tokens)
 alone operator ts [] token one is = absurd (omega (arith, one))
 alone operator ts (t ∷ []) token one is = ap (λ x. has ts (scalar_view x)) is ∙ sym (one_alone operator ts (scalar_view t))
 alone operator ts (t ∷ u ∷ us) token one is = absurd (omega (arith, one))
 
--- so documents are the same
-pub alone-in : (operator : Operator) (m : MappingData) (name : List ℕ) (tokens : List Scalar) (token : Scalar) → length tokens ≡ 1 → token ≡ get_or tokens 0 token → (sources : List (List ℕ))
-    → map (λ s. has (terms m s name) (scalar_view token)) sources ≡ map (λ s. has_tokens operator (terms m s name) (scalars_view tokens)) sources
-alone-in operator m name tokens token one is sources = map_all _ _ (λ s. alone operator (terms m s name) tokens token one is) sources
+-- so the documents of a `match` of one token are those of a term
+pub alone-in : (m : MappingData) (name : List ℕ) (query : Query) (field : String Global) (operator : Operator) (tokens : Vec Scalar Global) (token : Scalar)
+    → query ≡ Match field operator tokens → name ≡ string_bytes field → tokens.len ≡ 1 → token ≡ get_or tokens.items 0 token → (s : List ℕ)
+    → has (terms m s name) (scalar_view token) ≡ means m s (query_view query)
+alone-in m name query field operator tokens token is named one first s =
+    ap (λ n. has (terms m s n) (scalar_view token)) named ∙ alone operator (terms m s (string_bytes field)) tokens.items token (sym tokens.ok.0 ∙ one) first ∙ ap (λ q. means m s q) (sym (ap query_view is ∙ view-match field operator tokens))

@@ -1,18 +1,17 @@
 //! The places of the live documents that a query means.
 ghost use Rattle.std.specs.Prelude.{◌≡◌, ◌<◌, ◌&&◌, ◌^◌, length, map, take, true, IfOk};
 ghost use Rattle.doc.specs.Document.{all_values};
-ghost use Rattle.doc.specs.ScalarView.{scalar_view, scalars_view};
-ghost use Rattle.query.specs.Meaning.{has_tokens, means};
-ghost use Rattle.analysis.specs.Terms.{terms};
+ghost use Rattle.doc.specs.ScalarView.{scalar_view};
+ghost use Rattle.query.specs.Meaning.{means};
 ghost use Rattle.query.specs.View.{query_view};
 ghost use Rattle.marks.specs.Lists.{zip_with, places};
 ghost use Rattle.segment.specs.Indexed.{has_term};
 
 use crate::posted::first_live;
-use crate::selecting::{select, with_term, with_tokens};
+use crate::selecting::{select, with_term};
 use doc::Scalar;
 use marks::Marks;
-use query::{Operator, Query};
+use query::Query;
 use segment::Segment;
 use std::alloc::{AllocError, Global};
 
@@ -40,36 +39,14 @@ pub fn find(
     match query {
         Query::MatchAll => first_marked(alloc, live, wanted),
         Query::Term(field, value) => find_term(alloc, segment, live, field, value, wanted),
-        Query::Match(field, operator, tokens) => {
-            find_tokens(alloc, segment, live, field, *operator, tokens, wanted)
+        Query::Match(field, _, tokens) if tokens.len() == 1 => {
+            find_term(alloc, segment, live, field, &tokens[0], wanted)
         }
         _ => {
             let marks = select(alloc, segment, query)?;
             first_live_marked(alloc, marks, live, wanted)
         }
     }
-}
-
-/// The live documents in which one of the tokens is a term of the field, or there is one and all are.
-fn find_tokens(
-    alloc: Global,
-    segment: &Segment,
-    live: &Marks,
-    name: &str,
-    operator: Operator,
-    tokens: &[Scalar],
-    wanted: usize,
-) -> Result<FoundPlaces, AllocError>
-    requires { length live.now ≡ length segment.now.sources }
-    ensures total { IfOk result (λ f. f.total ≡ length (places (λ b. b) (zip_with (λ m l. m && l) (map (λ s. has_tokens operator (terms segment.now.mapping s name.now) (scalars_view tokens.now)) segment.now.sources) live.now))) }
-    ensures first { IfOk result (λ f. f.first.items ≡ take wanted (places (λ b. b) (zip_with (λ m l. m && l) (map (λ s. has_tokens operator (terms segment.now.mapping s name.now) (scalars_view tokens.now)) segment.now.sources) live.now))) }
-{
-    let _few = segment.len();
-    if tokens.len() == 1 {
-        return find_term(alloc, segment, live, name, &tokens[0], wanted);
-    }
-    let marks = with_tokens(alloc, segment, name, operator, tokens)?;
-    first_live_marked(alloc, marks, live, wanted)
 }
 
 /// The live documents in which a term of the field is the value.

@@ -3,6 +3,7 @@
 
 mod counts;
 pub mod finding;
+mod known;
 mod posted;
 pub mod selecting;
 pub mod whole;

@@ -2,18 +2,17 @@
 ghost use Rattle.std.specs.Prelude.{◌≡◌, ◌<◌, ◌≤◌, ◌^◌, length, take, IfOk};
 ghost use Rattle.std.specs.List.{range_with_len};
 ghost use Rattle.doc.specs.Document.{all_values};
-ghost use Rattle.doc.specs.ScalarView.{scalar_view, scalars_view};
-ghost use Rattle.query.specs.Meaning.{has_tokens, means};
-ghost use Rattle.analysis.specs.Terms.{terms};
+ghost use Rattle.doc.specs.ScalarView.{scalar_view};
+ghost use Rattle.query.specs.Meaning.{means};
 ghost use Rattle.query.specs.View.{query_view};
 ghost use Rattle.marks.specs.Lists.{places};
 ghost use Rattle.segment.specs.Indexed.{has_term};
 
 use crate::finding::{FoundPlaces, first_marked};
 use crate::posted::first_listed;
-use crate::selecting::{select, with_term, with_tokens};
+use crate::selecting::{select, with_term};
 use doc::Scalar;
-use query::{Operator, Query};
+use query::Query;
 use segment::Segment;
 use std::alloc::{AllocError, Global};
 
@@ -32,34 +31,14 @@ pub fn find_all(
     match query {
         Query::MatchAll => first_numbers(alloc, count, wanted),
         Query::Term(field, value) => all_with_term(alloc, segment, field, value, wanted),
-        Query::Match(field, operator, tokens) => {
-            all_with_tokens(alloc, segment, field, *operator, tokens, wanted)
+        Query::Match(field, _, tokens) if tokens.len() == 1 => {
+            all_with_term(alloc, segment, field, &tokens[0], wanted)
         }
         _ => {
             let marks = select(alloc, segment, query)?;
             first_marked(alloc, &marks, wanted)
         }
     }
-}
-
-/// Those in which one of the tokens is a term of the field, or there is one and all are.
-fn all_with_tokens(
-    alloc: Global,
-    segment: &Segment,
-    name: &str,
-    operator: Operator,
-    tokens: &[Scalar],
-    wanted: usize,
-) -> Result<FoundPlaces, AllocError>
-    ensures total { IfOk result (λ f. f.total ≡ length (places (λ s. has_tokens operator (terms segment.now.mapping s name.now) (scalars_view tokens.now)) segment.now.sources)) }
-    ensures first { IfOk result (λ f. f.first.items ≡ take wanted (places (λ s. has_tokens operator (terms segment.now.mapping s name.now) (scalars_view tokens.now)) segment.now.sources)) }
-{
-    let _few = segment.len();
-    if tokens.len() == 1 {
-        return all_with_term(alloc, segment, name, &tokens[0], wanted);
-    }
-    let marks = with_tokens(alloc, segment, name, operator, tokens)?;
-    first_marked(alloc, &marks, wanted)
 }
 
 /// Those in which a term of the field is the value.

@@ -10,22 +10,22 @@ use Rattle.search.proofs.Unions.{swapped}
 use Rattle.search.proofs.selecting.with_any.Goals as goal
 
 pub loop-value-init : goal.loop-value-init
-loop-value-init c = let m = c.args.segment.now.mapping in
+loop-value-init c = let m = c.args.known.now.segment.now.mapping in
     let op = λ (b : Bool) (s : List ℕ). b || list_any (spec.has (spec.terms m s c.args.name.now)) (scalars_view c.args.values.now) in
     record {
-      whole = ap length c.in_ok-marks.ensures ∙ length-map c.args.segment.now.sources _;
-      left = ap (λ (bs : List Bool). zip_with op bs c.args.segment.now.sources) c.in_ok-marks.ensures ∙ zip-self op (λ (s : List ℕ). false) c.args.segment.now.sources;
+      whole = ap length c.in_ok-marks.ensures ∙ length-map c.args.known.now.segment.now.sources _;
+      left = ap (λ (bs : List Bool). zip_with op bs c.args.known.now.segment.now.sources) c.in_ok-marks.ensures ∙ zip-self op (λ (s : List ℕ). false) c.args.known.now.segment.now.sources;
     }
 
 pub loop-value-preserved : goal.loop-value-preserved
 loop-value-preserved c = record {
-  whole = ap length c.mark_term.ensures ∙ length-zip _ c.loop-value.marks c.args.segment.now.sources c.loop-value.invariant.whole;
-  left = any-turn c.args.segment.now.mapping c.args.segment.now.sources c.args.name.now c.args.values.now c.loop-value.value-index c.value-item.result c.value-item.is c.loop-value-test.true c.loop-value.marks c.mark_term.new.marks c.mark_term.ensures ∙ c.loop-value.invariant.left;
+  whole = ap length c.mark_term.ensures ∙ length-zip _ c.loop-value.marks c.args.known.now.segment.now.sources c.loop-value.invariant.whole;
+  left = any-turn c.args.known.now.segment.now.mapping c.args.known.now.segment.now.sources c.args.name.now c.args.values.now c.loop-value.value-index c.value-item.result c.value-item.is c.loop-value-test.true c.loop-value.marks c.mark_term.new.marks c.mark_term.ensures ∙ c.loop-value.invariant.left;
 }
 
 pub returns : goal.returns
-returns c = let m = c.args.segment.now.mapping in
-    sym (or-end c.loop-value.marks c.args.segment.now.sources c.loop-value.invariant.whole)
-    ∙ ap (λ vs. zip_with (λ b s. b || list_any (spec.has (spec.terms m s c.args.name.now)) (scalars_view vs)) c.loop-value.marks c.args.segment.now.sources) (sym (done c.args.values.now c.loop-value.value-index c.loop-value-test.false))
+returns c = let m = c.args.known.now.segment.now.mapping in
+    sym (or-end c.loop-value.marks c.args.known.now.segment.now.sources c.loop-value.invariant.whole)
+    ∙ ap (λ vs. zip_with (λ b s. b || list_any (spec.has (spec.terms m s c.args.name.now)) (scalars_view vs)) c.loop-value.marks c.args.known.now.segment.now.sources) (sym (done c.args.values.now c.loop-value.value-index c.loop-value-test.false))
     ∙ c.loop-value.invariant.left
-    ∙ swapped c.args.segment.now.sources c.args.segment.now.mapping c.args.name.now (scalars_view c.args.values.now)
+    ∙ swapped c.args.known.now.segment.now.sources c.args.known.now.segment.now.mapping c.args.name.now (scalars_view c.args.values.now)

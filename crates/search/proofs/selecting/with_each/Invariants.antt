@@ -8,6 +8,6 @@ use Rattle.search.proofs.selecting.with_each.Given as goal
 -- the values that are left decide
 abbrev pub invariant-loop-value : goal.invariant-loop-value
 invariant-loop-value l = record {
-  whole : length l.marks ≡ length l.segment.sources;
-  left : zip_with (λ b s. b && list_all (has (terms l.segment.mapping s l.name)) (scalars_view (drop l.value-index l.values))) l.marks l.segment.sources ≡ map (λ s. list_all (has (terms l.segment.mapping s l.name)) (scalars_view l.values)) l.segment.sources;
+  whole : length l.marks ≡ length l.known.segment.now.sources;
+  left : zip_with (λ b s. b && list_all (has (terms l.known.segment.now.mapping s l.name)) (scalars_view (drop l.value-index l.values))) l.marks l.known.segment.now.sources ≡ map (λ s. list_all (has (terms l.known.segment.now.mapping s l.name)) (scalars_view l.values)) l.known.segment.now.sources;
 }

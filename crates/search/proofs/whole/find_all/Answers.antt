@@ -3,7 +3,8 @@ use Rattle.std.proofs.lemmas.List.FromFn.{length-range_with_len}
 use Rattle.query.specs.Meaning.{means}
 use Rattle.query.specs.View.{query_view}
 use Rattle.search.proofs.QueryViews.{view-all}
-use Rattle.search.proofs.Wholes.{places-every, places-tested}
+use Rattle.search.proofs.Postings.{alone-in}
+use Rattle.search.proofs.Wholes.{places-every, places-tested, places-agree}
 use Rattle.search.proofs.whole.find_all.Goals as goal
 
 -- all documents
@@ -29,3 +30,14 @@ pub returns-in_ok-marks-in_default-clause-first : goal.returns-in_ok-marks-in_de
 returns-in_ok-marks-in_default-clause-first c =
     let test : List ℕ → Bool = λ s. means c.args.segment.now.mapping s (query_view c.args.query.now) in
     subst (λ (ps : List ℕ). IfOk c.first_marked.result (λ f. f.first.items ≡ take c.args.wanted ps)) (places-tested test c.args.segment.now.sources c.in_ok-marks-in_default.marks c.in_ok-marks-in_default.ensures) c.first_marked.ensures.first
+
+-- one token alone is a term
+pub returns-in-Match-clause-total : goal.returns-in-Match-clause-total
+returns-in-Match-clause-total c =
+    subst (λ (ps : List ℕ). IfOk c.all_with_term-in-Match.result (λ f. f.total ≡ length ps))
+    (places-agree _ _ (alone-in c.args.segment.now.mapping c.deref-in-Match.result.now c.args.query.now c.in-Match.field _ c.in-Match.tokens c.index.result.now c.in-Match.is c.deref-in-Match.ensures (sym c.len.ensures ∙ c.if-len-eq1.true) c.index.ensures) c.args.segment.now.sources) c.all_with_term-in-Match.ensures.total
+
+pub returns-in-Match-clause-first : goal.returns-in-Match-clause-first
+returns-in-Match-clause-first c =
+    subst (λ (ps : List ℕ). IfOk c.all_with_term-in-Match.result (λ f. f.first.items ≡ take c.args.wanted ps))
+    (places-agree _ _ (alone-in c.args.segment.now.mapping c.deref-in-Match.result.now c.args.query.now c.in-Match.field _ c.in-Match.tokens c.index.result.now c.in-Match.is c.deref-in-Match.ensures (sym c.len.ensures ∙ c.if-len-eq1.true) c.index.ensures) c.args.segment.now.sources) c.all_with_term-in-Match.ensures.first
