@@ -50,43 +50,43 @@ true_le : (n m : ℕ) → nat_le n m ≡ true → n ≤ m
 true_le n m h = grind arith
 
 later_if : (more rest : List ℕ) (x : Framed) (b : Bool) → nat_le x.frame.length (length rest) ≡ b
-    → Later more (if b then asked (record { method = x.method; target = x.target; body = take x.frame.length rest; sender = x.sender }) x.frame.closes (drop x.frame.length rest) else none) (with_body (rest ++ more) (Ok x))
+    → Later more (if b then asked (record { method = x.method; target = x.target; body = take x.frame.length rest; encoded = x.frame.encoded; sender = x.sender }) x.frame.closes (drop x.frame.length rest) else none) (with_body (rest ++ more) (Ok x))
 later_if more rest x false e = tt
 later_if more rest x true e =
     let fits : x.frame.length ≤ length rest = true_le x.frame.length (length rest) e in
     let still : nat_le x.frame.length (length (rest ++ more)) ≡ true = le_true x.frame.length (length (rest ++ more)) (omega (arith, fits, length-append rest more)) in
-    true_if (nat_le x.frame.length (length (rest ++ more))) (asked (record { method = x.method; target = x.target; body = take x.frame.length (rest ++ more); sender = x.sender }) x.frame.closes (drop x.frame.length (rest ++ more))) none still
-    ∙ ap (λ body. asked (record { method = x.method; target = x.target; body = body; sender = x.sender }) x.frame.closes (drop x.frame.length (rest ++ more))) (take_in x.frame.length rest more fits)
-    ∙ ap (λ behind. asked (record { method = x.method; target = x.target; body = take x.frame.length rest; sender = x.sender }) x.frame.closes behind) (drop_in x.frame.length rest more fits)
+    true_if (nat_le x.frame.length (length (rest ++ more))) (asked (record { method = x.method; target = x.target; body = take x.frame.length (rest ++ more); encoded = x.frame.encoded; sender = x.sender }) x.frame.closes (drop x.frame.length (rest ++ more))) none still
+    ∙ ap (λ body. asked (record { method = x.method; target = x.target; body = body; encoded = x.frame.encoded; sender = x.sender }) x.frame.closes (drop x.frame.length (rest ++ more))) (take_in x.frame.length rest more fits)
+    ∙ ap (λ behind. asked (record { method = x.method; target = x.target; body = take x.frame.length rest; encoded = x.frame.encoded; sender = x.sender }) x.frame.closes behind) (drop_in x.frame.length rest more fits)
 
 later_body : (more rest : List ℕ) (f : Result Framed Fault) → Later more (with_body rest f) (with_body (rest ++ more) f)
 later_body more rest (Err x) = refl
 later_body more rest (Ok x) = later_if more rest x (nat_le x.frame.length (length rest)) refl
 
-later_cut : (more : List ℕ) (c d : Cut) → Behind more c d → Later more (after_cut c) (after_cut d)
-later_cut more short d h = tt
-later_cut more long d h = ap after_cut h
-later_cut more (whole head rest) d h = let same : d ≡ whole head (rest ++ more) = h in rw same (later_body more rest (framed head))
+later_cut : (most : ℕ) (more : List ℕ) (c d : Cut) → Behind more c d → Later more (after_cut most c) (after_cut most d)
+later_cut most more short d h = tt
+later_cut most more long d h = ap (after_cut most) h
+later_cut most more (whole head rest) d h = let same : d ≡ whole head (rest ++ more) = h in rw same (later_body more rest (framed most head))
 
 behind : (bs more : List ℕ) → Behind more (cut bs) (cut (bs ++ more))
 unfolding cut
 behind bs more = search behind_from
 
-later : (bs more : List ℕ) → Later more (first bs) (first (bs ++ more))
+later : (most : ℕ) (bs more : List ℕ) → Later more (first most bs) (first most (bs ++ more))
 unfolding first
-later bs more = later_cut more (cut bs) (cut (bs ++ more)) (behind bs more)
+later most bs more = later_cut most more (cut bs) (cut (bs ++ more)) (behind bs more)
 
-later_of : (more rest : List ℕ) (f g : First) (q : Standing) (ended : Bool) → Later more f g → IsNext f q rest ended
-    → requests_after g requests ≡ q ∷ (if ended then [] else requests (rest ++ more))
-later_of more rest none g q ended l h = absurd h
-later_of more rest (broken x) g q ended l h = ap (λ f. requests_after f requests) l ∙ ap (λ p. p ∷ []) (sym h.0) ∙ ap (λ e. q ∷ (if e then [] else requests (rest ++ more))) (sym h.1)
-later_of more rest (asked r closes bytes) g q ended l h =
-    ap (λ f. requests_after f requests) l
-    ∙ ap (λ p. p ∷ (if closes then [] else requests (bytes ++ more))) (sym h.0)
-    ∙ ap (λ b. q ∷ (if closes then [] else requests (b ++ more))) (sym h.1)
-    ∙ ap (λ e. q ∷ (if e then [] else requests (rest ++ more))) (sym h.2)
+later_of : (most : ℕ) (more rest : List ℕ) (f g : First) (q : Standing) (ended : Bool) → Later more f g → IsNext f q rest ended
+    → requests_after g (requests most) ≡ q ∷ (if ended then [] else requests most (rest ++ more))
+later_of most more rest none g q ended l h = absurd h
+later_of most more rest (broken x) g q ended l h = ap (λ f. requests_after f (requests most)) l ∙ ap (λ p. p ∷ []) (sym h.0) ∙ ap (λ e. q ∷ (if e then [] else requests most (rest ++ more))) (sym h.1)
+later_of most more rest (asked r closes bytes) g q ended l h =
+    ap (λ f. requests_after f (requests most)) l
+    ∙ ap (λ p. p ∷ (if closes then [] else requests most (bytes ++ more))) (sym h.0)
+    ∙ ap (λ b. q ∷ (if closes then [] else requests most (b ++ more))) (sym h.1)
+    ∙ ap (λ e. q ∷ (if e then [] else requests most (rest ++ more))) (sym h.2)
 
 -- the first request, and then those of the bytes behind it and of what comes later
-pub next_later : (bs more rest : List ℕ) (q : Standing) (ended : Bool) → IsNext (first bs) q rest ended
-    → requests (bs ++ more) ≡ q ∷ (if ended then [] else requests (rest ++ more))
-next_later bs more rest q ended h = requests_step (bs ++ more) ∙ later_of more rest (first bs) (first (bs ++ more)) q ended (later bs more) h
+pub next_later : (most : ℕ) (bs more rest : List ℕ) (q : Standing) (ended : Bool) → IsNext (first most bs) q rest ended
+    → requests most (bs ++ more) ≡ q ∷ (if ended then [] else requests most (rest ++ more))
+next_later most bs more rest q ended h = requests_step most (bs ++ more) ∙ later_of most more rest (first most bs) (first most (bs ++ more)) q ended (later most bs more) h

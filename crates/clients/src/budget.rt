@@ -1,7 +1,7 @@
 //! Room for the bytes of unfinished requests, handed out in turn.
 
 use crate::kinds::Kind;
-use crate::limits::{LONGEST_REQUEST, Limits, SHARE};
+use crate::limits::{LONGEST_HEAD, Limits, SHARE, TICKET};
 use std::alloc::{AllocError, Global};
 use std::collections::VecDeque;
 
@@ -48,22 +48,26 @@ impl Places {
     }
 }
 
-/// One half of the room is for small shares, the other for tickets. A ticket is room for the longest request. There are so many places for requests that may
-/// wait, and for dear searches.
+/// One half of the room is for small shares, the other for tickets. Requests that are larger than a ticket have as much room again, and one at least has its
+/// place. There are so many places for requests that may wait, and for dear searches.
 #[derive(Drop)]
 pub(crate) struct Budget {
     pub(crate) shares: Places,
     pub(crate) tickets: Places,
+    pub(crate) large: Places,
     writes: Places,
     dear: Places,
 }
 
 impl Budget {
-    pub(crate) fn new(alloc: Global, limits: &Limits) -> Budget {
+    /// The room that the limits give, where a body may have so many bytes.
+    pub(crate) fn new(alloc: Global, limits: &Limits, most: u32) -> Budget {
         let half = limits.bytes as usize / 2;
+        let longest = LONGEST_HEAD.saturating_add(most as usize);
         Budget {
             shares: Places::new(alloc, half / SHARE),
-            tickets: Places::new(alloc, half / LONGEST_REQUEST),
+            tickets: Places::new(alloc, half / TICKET),
+            large: Places::new(alloc, limits.bytes as usize / longest),
             writes: Places::new(alloc, limits.waiting()),
             dear: Places::new(alloc, limits.dear()),
         }

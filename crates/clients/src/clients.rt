@@ -86,7 +86,7 @@ impl<'w, W: Watcher, K: Drop> Clients<'w, W, K> {
             watcher,
             started: Instant::now(rt).ok(),
             poller: Mutex::new(poller),
-            table: Mutex::new(Table::new(alloc, &limits)),
+            table: Mutex::new(Table::new(alloc, &limits, rule.most)),
             waker,
             all_begun: AtomicBool::new(limits.connections == Some(0)),
             ending: AtomicBool::new(false),
@@ -165,7 +165,7 @@ impl<'w, W: Watcher, K: Drop> Clients<'w, W, K> {
         &self,
         rt: &R,
         job: Job<K>,
-        service: &mut S,
+        service: &mut Noting<'_, S>,
         room: &mut [u8],
     ) {
         let mut job = job;

@@ -3,8 +3,10 @@
 use crate::conversation::Conversation;
 use crate::kinds::{Kind, kind_of};
 use crate::limits::{
-    LEAST_AT_ONCE, LINGER, LONGEST_REQUEST, MOST_LINGERING, PATIENCE, SHARE, STALL, STEPS_IN_A_ROW,
+    LEAST_AT_ONCE, LINGER, LONGEST_HEAD, MOST_LINGERING, PATIENCE, SHARE, STALL, STEPS_IN_A_ROW,
+    TICKET,
 };
+use crate::noting::Noting;
 use crate::progress::Progress;
 use crate::watcher::Watcher;
 use front::{Resumable, Rule};
@@ -20,8 +22,10 @@ pub(crate) enum Next {
     Waits,
     /// It has more to do, after the others.
     Goes,
-    /// It needs room for a large request.
+    /// It needs a ticket: room for a request that isn't small.
     Wants,
+    /// It needs a place among the requests that are larger than a ticket.
+    WantsMore,
     /// It needs a place among the requests of this kind.
     WantsTurn(Kind),
     /// It needs room for a page.
@@ -35,6 +39,7 @@ pub(crate) enum Held {
     Free,
     ForShare,
     ForTicket,
+    ForLarge,
     ForTurn(Kind),
     ForPage,
 }
@@ -67,6 +72,8 @@ pub(crate) struct Connection<K: Drop> {
     pub(crate) held: Held,
     pub(crate) has_share: bool,
     pub(crate) has_ticket: bool,
+    /// Whether it has a place among the requests that are larger than a ticket.
+    pub(crate) has_large: bool,
     /// Its place among the requests of a kind.
     pub(crate) turn: Option<Kind>,
     /// How much of the room for pages it has, in bytes.
@@ -105,6 +112,7 @@ impl<K: Drop> Connection<K> {
             held: Held::Free,
             has_share: false,
             has_ticket: false,
+            has_large: false,
             turn: None,
             charged: 0,
             is_crowded: false,
@@ -120,7 +128,7 @@ impl<K: Drop> Connection<K> {
     pub(crate) fn work<S: Resumable<Known = K>, W: Watcher>(
         &mut self,
         rule: &Rule,
-        service: &mut S,
+        service: &mut Noting<'_, S>,
         watcher: &W,
         room: &mut [u8],
     ) -> Next {
@@ -144,7 +152,7 @@ impl<K: Drop> Connection<K> {
     fn step<S: Resumable<Known = K>, W: Watcher>(
         &mut self,
         rule: &Rule,
-        service: &mut S,
+        service: &mut Noting<'_, S>,
         watcher: &W,
         room: &mut [u8],
     ) -> Next {
@@ -160,7 +168,22 @@ impl<K: Drop> Connection<K> {
                 None => self.answer(rule, service, watcher),
             };
         }
-        self.gather(room)
+        if self.progress.lacks_body && !self.conversation.has_asked() {
+            self.progress.lacks_body = false;
+            return self.ask_for_body(rule);
+        }
+        self.gather(rule.most, room)
+    }
+
+    /// Asks the client for the body of its request, if it waits for that.
+    fn ask_for_body(&mut self, rule: &Rule) -> Next {
+        if !self.conversation.is_sent() {
+            return Next::Goes;
+        }
+        match self.conversation.ask_for_body(rule) {
+            Ok(_) => Next::Goes,
+            Err(_) => Next::Ended,
+        }
     }
 
     /// What the next request has to wait for before it is answered.
@@ -197,11 +220,14 @@ impl<K: Drop> Connection<K> {
     fn answer<S: Resumable<Known = K>, W: Watcher>(
         &mut self,
         rule: &Rule,
-        service: &mut S,
+        service: &mut Noting<'_, S>,
         watcher: &W,
     ) -> Next {
         if !self.conversation.is_sent() {
             return Next::Goes;
+        }
+        if kind_of(self.conversation.waiting()) != Kind::Light {
+            service.give_up_lead();
         }
         match self.conversation.answer(rule, service) {
             Ok(Some(request)) => {
@@ -219,13 +245,17 @@ impl<K: Drop> Connection<K> {
     }
 
     /// Reads what came, as far as there is room for it.
-    fn gather(&mut self, room: &mut [u8]) -> Next {
+    fn gather(&mut self, longest: u32, room: &mut [u8]) -> Next {
         if self.drained && !self.closed {
             return Next::Waits;
         }
-        let most = self.room_left().min(room.len());
+        let most = self.room_left(longest).min(room.len());
         if most == 0 {
-            return Next::Wants;
+            return if self.has_ticket {
+                Next::WantsMore
+            } else {
+                Next::Wants
+            };
         }
         let mut stream = &self.stream;
         match self.conversation.gather(&mut stream, &mut room[..most]) {
@@ -238,10 +268,12 @@ impl<K: Drop> Connection<K> {
         }
     }
 
-    /// How many more bytes of an unfinished request it may keep.
-    fn room_left(&self) -> usize {
-        let most = if self.has_ticket {
-            LONGEST_REQUEST
+    /// How many more bytes of an unfinished request it may keep, whose body may have so many bytes.
+    fn room_left(&self, longest: u32) -> usize {
+        let most = if self.has_large {
+            LONGEST_HEAD.saturating_add(longest as usize)
+        } else if self.has_ticket {
+            TICKET
         } else {
             SHARE
         };
@@ -275,6 +307,7 @@ impl<K: Drop> Connection<K> {
         match held {
             Held::ForShare => self.has_share = true,
             Held::ForTicket => self.has_ticket = true,
+            Held::ForLarge => self.has_large = true,
             Held::ForTurn(kind) => self.turn = Some(kind),
             Held::ForPage | Held::Free => {}
         }

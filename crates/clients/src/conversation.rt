@@ -6,7 +6,7 @@ use front::{Resumable, Rule, Unsent, answer_by};
 use std::alloc::{AllocError, Global};
 use std::io;
 use std::io::{Read, Write};
-use wire::{StreamFault, Whole, read_request};
+use wire::{StreamFault, Whole, is_expected, read_request};
 
 /// The bytes that were received and aren't answered yet, the page that is being sent, and what the client knows.
 pub struct Conversation<K: Drop> {
@@ -14,6 +14,8 @@ pub struct Conversation<K: Drop> {
     waiting: Vec<u8>,
     page: Unsent,
     ended: bool,
+    /// Whether the client was asked for the body of the request that waits.
+    has_asked: bool,
     known: Option<K>,
 }
 
@@ -24,6 +26,7 @@ impl<K: Drop> Drop for Conversation<K> {
             waiting: _waiting,
             page: _page,
             ended: _,
+            has_asked: _,
             known: _known,
         } = self;
     }
@@ -32,7 +35,7 @@ impl<K: Drop> Drop for Conversation<K> {
 impl<K: Drop> Conversation<K> {
     ghost use Rattle.std.specs.Io.KnownBytes.{Keeps};
     ghost use Rattle.clients.specs.Talk.{talk, begun};
-    ghost use Rattle.clients.specs.Steps.{Receives, SendsTo, Gathers, AnswersNext, BreaksNext};
+    ghost use Rattle.clients.specs.Steps.{Receives, SendsTo, Gathers, AnswersNext, AsksIf, BreaksNext};
 
     /// A conversation in which nothing has come or gone out yet.
     pub fn new(alloc: Global) -> Conversation<K>
@@ -43,6 +46,7 @@ impl<K: Drop> Conversation<K> {
             waiting: Vec::new(alloc),
             page: Unsent::nothing(alloc),
             ended: false,
+            has_asked: false,
             known: None,
         }
     }
@@ -59,6 +63,13 @@ impl<K: Drop> Conversation<K> {
         ensures { result ≡ (talk self.now).ended }
     {
         self.ended
+    }
+
+    /// Whether the client was asked for the body of the request that waits.
+    pub fn has_asked(&self) -> bool
+        ensures { result ≡ (talk self.now).has_asked }
+    {
+        self.has_asked
     }
 
     /// The text with which the page of the last answer begins, as long as nothing of it was sent. It has the whole head.
@@ -108,6 +119,24 @@ impl<K: Drop> Conversation<K> {
         self.page.send(writer)
     }
 
+    /// Asks the client for the body of the first request that waits, if it waits for that (RFC 9110, section 10.1.1), and returns whether it does. It asks once
+    /// for a request. The page of the request before must have been sent.
+    pub fn ask_for_body(&mut self, rule: &Rule) -> Result<bool, AllocError>
+        requires { (talk self.old).unsent ≡ [] }
+        ensures ok { IfOk result (AsksIf (rule_view rule.now).most (talk self.old) (talk self.new)) }
+        ensures err { OnErr result (talk self.new ≡ talk self.old) }
+    {
+        if self.ended || self.has_asked {
+            return Ok(false);
+        }
+        if !is_expected(self.alloc, rule.most, &self.waiting)? {
+            return Ok(false);
+        }
+        self.page = Unsent::asking(self.alloc)?;
+        self.has_asked = true;
+        Ok(true)
+    }
+
     /// Answers the first request that came whole, by a rule, and returns it. Returns `None` if no request came whole, or the stream has ended. The service goes
     /// on from what the client knows, and the client then knows what the service reports. The page of the request before must have been sent. If memory runs
     /// out, the conversation ends.
@@ -128,7 +157,7 @@ impl<K: Drop> Conversation<K> {
         // A failure ends the conversation, so that nothing is done twice.
         self.ended = true;
         let mut rest = self.waiting.as_slice();
-        let Some(whole) = read_request(self.alloc, &mut rest)? else {
+        let Some(whole) = read_request(self.alloc, rule.most, &mut rest)? else {
             self.ended = false;
             return Ok(None);
         };
@@ -138,6 +167,7 @@ impl<K: Drop> Conversation<K> {
         self.known = Some(service.known());
         self.page = Unsent::of(page);
         self.ended = whole.ends();
+        self.has_asked = false;
         self.waiting = rest;
         Ok(Some(whole))
     }

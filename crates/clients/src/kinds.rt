@@ -33,11 +33,17 @@ pub(crate) fn kind_of(bytes: &[u8]) -> Kind {
             Kind::Search
         };
     }
-    if line.starts_with("GET ") && !line.contains("/_refresh") || line.starts_with("HEAD ") {
+    if is_get(line) {
         Kind::Light
     } else {
         Kind::Write
     }
+}
+
+/// Whether a line asks for a document, or for the greeting. Other paths may ask how the copies stand, which waits for them.
+fn is_get(line: &str) -> bool {
+    let reads = line.starts_with("GET ") || line.starts_with("HEAD ");
+    reads && (line.contains("/_doc/") || line.contains(" / "))
 }
 
 /// The bytes without the empty lines that may stand before a request.

@@ -4,8 +4,11 @@ ghost use Rattle.std.specs.Prelude.{◌≤◌};
 /// The most threads that work.
 pub const MOST_THREADS: usize = 64;
 
-/// The longest request: its head and its body, in bytes.
-pub(crate) const LONGEST_REQUEST: usize = 16_384 + 1_048_576;
+/// The most bytes of a head.
+pub(crate) const LONGEST_HEAD: usize = 16_384;
+
+/// How many bytes of an unfinished request a connection may keep with a ticket: enough for a body of 1 MiB. One that is larger needs a place of its own.
+pub(crate) const TICKET: usize = LONGEST_HEAD + 1_048_576;
 
 /// How many bytes of an unfinished request a connection may keep without a ticket.
 pub(crate) const SHARE: usize = 4096;

@@ -5,7 +5,7 @@ use crate::poller::Poller;
 use doc::Mapping;
 use front::command::Command;
 use front::reply::Reply;
-use front::{Resumable, Service};
+use front::{Resumable, Service, Stats};
 use std::sync::MutexGuard;
 use std::sync::atomic::{AtomicBool, AtomicU64, Ordering};
 
@@ -67,6 +67,15 @@ pub(crate) struct Noting<'a, S: Service> {
     pub(crate) lead: Option<MutexGuard<'a, Poller>>,
 }
 
+impl<'a, S: Service> Noting<'a, S> {
+    /// Gives the lead up, if this thread has it, so that another thread goes on.
+    pub(crate) fn give_up_lead(&mut self)
+        ensures { self.new.service ≡ self.old.service }
+    {
+        self.lead = None;
+    }
+}
+
 impl<'a, S: Service> Service for Noting<'a, S> {
     ghost name = { λ n. S.name n.service };
 
@@ -82,9 +91,13 @@ impl<'a, S: Service> Service for Noting<'a, S> {
         self.service.mapping()
     }
 
+    fn stats(&self) -> Option<Stats> {
+        self.service.stats()
+    }
+
     fn call(&mut self, command: Command) -> Reply {
         if self.lead.is_some() && self.notes.may_take_long(&command) {
-            self.lead = None;
+            self.give_up_lead();
         }
         let writes = writes_of(&command);
         let waits = may_wait(&command);

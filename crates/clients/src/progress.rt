@@ -1,9 +1,7 @@
 //! How much of a request has come, so that a request that comes byte by byte isn't looked at from its start for each byte.
 
+use crate::limits::LONGEST_HEAD;
 use wire::{Place, cut_at};
-
-/// The most bytes of a head.
-const MOST_HEAD: usize = 16_384;
 
 /// How far the head has come: where its next byte stands, or, once it is whole, how many bytes it has.
 #[derive(Clone, Copy)]
@@ -19,6 +17,8 @@ pub(crate) struct Progress {
     head: Head,
     seen: usize,
     wanted: usize,
+    /// Whether the head was found whole, and no byte of the body had come.
+    pub(crate) lacks_body: bool,
 }
 
 impl Progress {
@@ -28,6 +28,7 @@ impl Progress {
             head: Head::At(Place::Blank),
             seen: 0,
             wanted: 1,
+            lacks_body: false,
         }
     }
 
@@ -52,12 +53,13 @@ impl Progress {
         self.head = Head::At(place);
         self.seen = bytes.len();
         self.wanted = self.seen.saturating_add(1);
-        self.seen >= MOST_HEAD
+        self.seen >= LONGEST_HEAD
     }
 
     /// Notes that the bytes have no whole request. If their head is whole, a part of the body is missing. Else any byte may end the request.
     pub(crate) fn missed(&mut self, bytes: &[u8]) {
         let more = bytes.len().saturating_add(1);
+        self.lacks_body = matches!(self.head, Head::Whole(head) if head == bytes.len());
         self.wanted = match self.head {
             Head::Whole(head) if head <= bytes.len() => {
                 head.saturating_add(body_length(&bytes[..head])).max(more)

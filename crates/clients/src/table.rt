@@ -42,11 +42,12 @@ pub(crate) struct Table<K: Drop> {
     idle: u64,
 }
 
-/// What a connection gives back: its share, its ticket, and its place among the requests of a kind.
+/// What a connection gives back: its share, its ticket, its place among the large requests, and its place among the requests of a kind.
 #[derive(Clone, Copy)]
 pub(crate) struct Given {
     share: bool,
     ticket: bool,
+    large: bool,
     turn: Option<Kind>,
 }
 
@@ -56,6 +57,7 @@ impl Given {
         Given {
             share: connection.has_share,
             ticket: connection.has_ticket,
+            large: connection.has_large,
             turn: connection.turn,
         }
     }
@@ -65,6 +67,7 @@ impl Given {
         Given {
             share: connection.has_share && connection.is_empty(),
             ticket: connection.has_ticket && connection.is_small(),
+            large: connection.has_large && connection.is_small(),
             turn: connection.turn,
         }
     }
@@ -89,12 +92,12 @@ impl<K: Drop> Drop for Table<K> {
 }
 
 impl<K: Drop> Table<K> {
-    pub(crate) fn new(alloc: Global, limits: &Limits) -> Table<K> {
+    pub(crate) fn new(alloc: Global, limits: &Limits, most: u32) -> Table<K> {
         Table {
             slots: Vec::new(alloc),
             free: Vec::new(alloc),
             ready: VecDeque::new(alloc),
-            budget: Budget::new(alloc, limits),
+            budget: Budget::new(alloc, limits, most),
             pages: 0,
             most_pages: limits.pages,
             for_page: VecDeque::new(alloc),
@@ -223,6 +226,9 @@ impl<K: Drop> Table<K> {
         if given.ticket {
             connection.has_ticket = false;
         }
+        if given.large {
+            connection.has_large = false;
+        }
         connection.turn = None;
         self.charge(&mut connection);
         let again = next == Next::Goes || self.has_what_it_wants(place, &mut connection, next);
@@ -240,6 +246,7 @@ impl<K: Drop> Table<K> {
     ) -> bool {
         let (taken, held) = match next {
             Next::Wants => (self.budget.tickets.take(place), Held::ForTicket),
+            Next::WantsMore => (self.budget.large.take(place), Held::ForLarge),
             Next::WantsTurn(kind) => match self.budget.of(kind) {
                 Some(places) => (places.take(place), Held::ForTurn(kind)),
                 None => (Ok(true), Held::Free),
@@ -311,6 +318,7 @@ impl<K: Drop> Table<K> {
         let nothing = Given {
             share: false,
             ticket: false,
+            large: false,
             turn: None,
         };
         self.end(place, nothing, 0, now);
@@ -324,6 +332,10 @@ impl<K: Drop> Table<K> {
         }
         if given.ticket {
             let next = self.budget.tickets.give_back();
+            self.grant(next, now);
+        }
+        if given.large {
+            let next = self.budget.large.give_back();
             self.grant(next, now);
         }
         if let Some(kind) = given.turn {

@@ -22,7 +22,7 @@ use crossbeam_channel::{Receiver, bounded};
 use doc::DocId;
 use master::{MasterFault, Request, State};
 use node::{Got, Receipt};
-use replica::{Input, Write, Written};
+use replica::{CopyStatus, Input, Write, Written};
 use ruled::{Decided, Known, Leading};
 use std::alloc::{AllocError, Global};
 use std::sync::{Arc, Wait};
@@ -231,6 +231,19 @@ impl<R: Wait + Drop, D: LogDevice, J: IndexName> Client<R, D, J> {
         ensures { IfOk result (λ d. IsDecided (Promote copy) d.decision d.past) }
     {
         Ok(self.shared.ask(rt, self.alloc, 0, Request::Promote(copy))?)
+    }
+
+    /// How each copy stands that is served. One is asked after the other, and each waits for what its copy does just then.
+    pub fn statuses(&self, rt: &R) -> Result<Vec<CopyStatus>, ClusterFault> {
+        let mut statuses = Vec::new(self.alloc);
+        for copy in self.locks.copies(rt, self.alloc)? {
+            if let Some(lock) = self.locks.of(rt, copy) {
+                if let Some(status) = lock.status(rt) {
+                    statuses.push(status)?;
+                }
+            }
+        }
+        Ok(statuses)
     }
 
     /// The primary, as the master knows it.

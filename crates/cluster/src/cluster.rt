@@ -324,15 +324,10 @@ where
         match done {
             Ok(()) => Ok(self),
             Err(fault) => {
-                self.let_go(rt);
+                drop(self.ended(rt));
                 Err(fault)
             }
         }
-    }
-
-    /// Ends a cluster whose journals nobody wants.
-    fn let_go(self, rt: &R) {
-        drop(self.ended(rt));
     }
 
     /// Opens the copies that are in sync, and has one of them lead.
@@ -472,47 +467,24 @@ where
         ensures opened { IfOk result (λ o. IfSome o (λ x. IsOpenedAs (V.gave self.new.devices) self.new.label.mapping count id self.old.crew.began.items self.new.crew.began.items x × (self.new.unopened ≡ self.old.unopened))) }
         ensures left { IfOk result (λ o. IfNone o ((self.new.crew ≡ self.old.crew) × IsLeftOut id self.old.unopened.items self.new.unopened.items)) }
     {
-        match self.kept(id, count) {
+        let alloc = self.crew.client.alloc;
+        match copy_in(
+            alloc,
+            self.journals,
+            &self.label,
+            &mut self.devices,
+            id,
+            count,
+        ) {
             Ok(ready) => {
                 let next = ready.copy().next_seq();
                 self.crew.launch(rt, ready)?;
                 Ok(Some(Opened { copy: id, next }))
             }
             Err(fault) => {
-                self.leave_out(id, fault)?;
+                leave_out(&mut self.unopened, id, fault)?;
                 Ok(None)
             }
-        }
-    }
-
-    /// Notes that a copy didn't open, and why.
-    fn leave_out(&mut self, copy: u32, fault: OpenFault) -> Result<(), ClusterFault>
-        ensures same { self.new ≡ record self.old { unopened = self.new.unopened } }
-        ensures left { OnOk result (IsLeftOut copy self.old.unopened.items self.new.unopened.items) }
-    {
-        if let OpenFault::Copy(CopyFault::NoMemory) = &fault {
-            return Err(ClusterFault::NoMemory);
-        }
-        self.unopened.push(Unopened { copy, fault })?;
-        Ok(())
-    }
-
-    /// The copy that its device holds.
-    fn kept(&mut self, id: u32, count: u8) -> Result<Ready<D, J>, OpenFault>
-        ensures same { self.new ≡ record self.old { devices = self.new.devices } }
-        ensures gave { IsPrefix (V.gave self.old.devices) (V.gave self.new.devices) }
-        ensures kept { IfOk result (λ r. HasKept (V.gave self.new.devices) self.old.label.mapping count r.copy × (r.copy.id ≡ id)) }
-    {
-        let device = match self.devices.kept(id) {
-            Ok(Some(device)) => device,
-            Ok(None) => return Err(OpenFault::Missing),
-            Err(fault) => return Err(OpenFault::Copy(CopyFault::from(fault))),
-        };
-        let alloc = self.crew.client.alloc;
-        let birth = birth_of(id, count);
-        match kept_copy(alloc, self.journals, id, birth, &self.label, device) {
-            Ok(ready) => Ok(ready),
-            Err(fault) => Err(OpenFault::Copy(fault)),
         }
     }
 
@@ -762,6 +734,41 @@ fn new_copies<D: LogDevice, V: Devices<D>, J: IndexName>(
         all.push(new_copy(alloc, journals, id, count, label, device)?)?;
     }
     Ok(all)
+}
+
+/// The copy that its device holds.
+fn copy_in<D: LogDevice, V: Devices<D>, J: IndexName>(
+    alloc: Global,
+    journals: Journals,
+    label: &IndexLabel<J>,
+    devices: &mut V,
+    id: u32,
+    count: u8,
+) -> Result<Ready<D, J>, OpenFault>
+    ensures gave { IsPrefix (V.gave devices.old) (V.gave devices.new) }
+    ensures kept { IfOk result (λ r. HasKept (V.gave devices.new) label.now.mapping count r.copy × (r.copy.id ≡ id)) }
+{
+    let device = match devices.kept(id) {
+        Ok(Some(device)) => device,
+        Ok(None) => return Err(OpenFault::Missing),
+        Err(fault) => return Err(OpenFault::Copy(CopyFault::from(fault))),
+    };
+    let birth = birth_of(id, count);
+    match kept_copy(alloc, journals, id, birth, label, device) {
+        Ok(ready) => Ok(ready),
+        Err(fault) => Err(OpenFault::Copy(fault)),
+    }
+}
+
+/// Notes that a copy didn't open, and why.
+fn leave_out(unopened: &mut Vec<Unopened>, copy: u32, fault: OpenFault) -> Result<(), ClusterFault>
+    ensures { OnOk result (IsLeftOut copy unopened.old.items unopened.new.items) }
+{
+    if let OpenFault::Copy(CopyFault::NoMemory) = &fault {
+        return Err(ClusterFault::NoMemory);
+    }
+    unopened.push(Unopened { copy, fault })?;
+    Ok(())
 }
 
 fn device_of<D: LogDevice, V: Devices<D>>(devices: &mut V, id: u32) -> Result<D, ClusterFault>

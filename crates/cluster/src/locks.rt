@@ -5,6 +5,7 @@ use crate::post::Post;
 use crate::worker::Worker;
 use cell::IndexName;
 use crossbeam_channel::Receiver;
+use replica::CopyStatus;
 use std::alloc::{AllocError, Global};
 use std::sync::{Arc, Mutex, MutexGuard, Wait};
 use translog::LogDevice;
@@ -60,6 +61,15 @@ impl<R: Wait + Drop, D: LogDevice, J: IndexName> CopyLock<R, D, J> {
         None
     }
 
+    /// How the copy stands; nothing where it isn't served.
+    pub(crate) fn status(&self, rt: &R) -> Option<CopyStatus> {
+        let held = self.enter(rt);
+        match &*held {
+            Some(worker) => Some(worker.copy().status()),
+            None => None,
+        }
+    }
+
     /// Does a post of the mail, as `Worker::serve_waiting` does, and says whether the copy is served on.
     pub(crate) fn serve_waiting<G: Gate>(
         &self,
@@ -105,6 +115,16 @@ impl<R: Wait + Drop, D: LogDevice, J: IndexName> CopyLocks<R, D, J> {
             }
         }
         None
+    }
+
+    /// The ids of the copies that have a lock.
+    pub(crate) fn copies(&self, rt: &R, alloc: Global) -> Result<Vec<u32>, AllocError> {
+        let all = self.all.lock(rt);
+        let mut copies = Vec::new(alloc);
+        for it in all.as_slice() {
+            copies.push(it.copy)?;
+        }
+        Ok(copies)
     }
 
     /// The lock of a copy that is to be served.

@@ -30,13 +30,6 @@ impl<R: Wait + Drop, D: LogDevice, J: IndexName> Worker<R, D, J> {
         }
     }
 
-    /// Has the copy lead where the master's primary is this copy, which couldn't lead when it was opened. It is done before each write.
-    pub(crate) fn lead_again(&mut self, rt: &R) {
-        if self.is_open() && self.is_to_lead {
-            self.lead(rt);
-        }
-    }
-
     /// Opens the copy again, and has it lead where the master's primary is this copy; one that doesn't open is given up.
     pub(crate) fn reopen(&mut self, rt: &R) {
         if !self.restart(rt) {
@@ -46,13 +39,6 @@ impl<R: Wait + Drop, D: LogDevice, J: IndexName> Worker<R, D, J> {
         self.given_up = false;
         self.is_to_lead = true;
         self.lead(rt);
-    }
-
-    /// Opens the copy again where its log has failed since.
-    pub(crate) fn mend_since(&mut self, rt: &R, was_open: bool) {
-        if was_open {
-            self.mend(rt);
-        }
     }
 
     fn restart(&mut self, rt: &R) -> bool {
@@ -67,7 +53,7 @@ impl<R: Wait + Drop, D: LogDevice, J: IndexName> Worker<R, D, J> {
     }
 
     /// Has the master make this copy the primary of the next term, where it is the primary. A copy that can't keep that is opened for reading.
-    fn lead(&mut self, rt: &R) {
+    pub(crate) fn lead(&mut self, rt: &R) {
         let id = self.id();
         if self.shared.primary(rt) != id {
             self.is_to_lead = false;

@@ -87,23 +87,17 @@ impl<R: Wait + Drop, D: LogDevice, J: IndexName> Worker<R, D, J> {
         }
     }
 
-    /// Puts a merge in place that was built. One whose segments are gone by then is dropped, and the next one is begun; without memory for one the next
-    /// refresh begins it.
+    /// Puts a merge in place that was built. A refresh has searches look through it, where that shows them nothing else; where it would, they do from the next
+    /// one on. One whose segments are gone by then is dropped, and the next one is begun; without memory for one the next refresh begins it.
     pub(crate) fn put_merged(&mut self, rt: &R, merged: Option<Merged>) {
         self.merges.is_under_way = false;
         if merged.is_none() {
             return;
         }
-        if let Ok(true) = self.cell.finish_merge(self.alloc) {
-            self.show_merged(rt);
-        }
-        self.begin_merge(rt);
-    }
-
-    /// Has searches look through the merged segment, by a refresh, where that shows them nothing else; where it would, they do from the next one on.
-    fn show_merged(&mut self, rt: &R) {
-        if self.is_open() && self.copy().is_all_shown() {
+        let is_placed = matches!(self.cell.finish_merge(self.alloc), Ok(true));
+        if is_placed && self.is_open() && self.copy().is_all_shown() {
             self.call(rt, Input::Refresh);
         }
+        self.begin_merge(rt);
     }
 }

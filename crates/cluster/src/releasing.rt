@@ -4,11 +4,10 @@ ghost use Rattle.std.specs.Prelude.{◌<◌, length};
 ghost use Rattle.cluster.specs.Leaving.{sent_by};
 
 use crate::channels::give;
-use crate::checks::{is_shut, items_in, written_in};
 use crate::durable::Durable;
 use crate::gate::Gate;
 use crate::outbox::{Asked, Entry, Mail, Parcel};
-use crate::post::{BulkEnding, Ending, Post};
+use crate::post::{Answered, Post};
 use crate::worker::Worker;
 use cell::IndexName;
 use crossbeam_channel::{Receiver, Sender};
@@ -103,7 +102,12 @@ impl<R: Wait + Drop, D: LogDevice, J: IndexName> Worker<R, D, J> {
         }
         match self.cell.sync() {
             Ok(on_disk) => {
-                self.let_go(rt, &on_disk);
+                for _ in 0..self.outbox.len() {
+                    let Some(parcel) = self.outbox.next() else {
+                        break;
+                    };
+                    self.leave(rt, parcel, &on_disk);
+                }
                 self.deliver(rt);
                 true
             }
@@ -111,36 +115,25 @@ impl<R: Wait + Drop, D: LogDevice, J: IndexName> Worker<R, D, J> {
         }
     }
 
-    fn let_go(&mut self, rt: &R, on_disk: &OnDisk) {
-        for _ in 0..self.outbox.len() {
-            let Some(parcel) = self.outbox.next() else {
-                return;
-            };
-            self.leave(rt, parcel, on_disk);
-        }
-    }
-
     fn leave(&mut self, rt: &R, parcel: Parcel<J>, on_disk: &OnDisk) {
         match parcel {
-            Parcel::Entry(entry) => self.tell(rt, entry, on_disk),
+            Parcel::Entry(entry) => {
+                let Entry {
+                    receipt,
+                    leads,
+                    term,
+                    asked,
+                } = entry;
+                match Durable::entry(receipt, on_disk) {
+                    Ok(entry) => self.tell_durable(rt, entry, leads, term, asked),
+                    Err(receipt) => refuse(rt, receipt, asked),
+                }
+            }
             Parcel::Got(got, to) => tell_got(rt, got, to, on_disk),
             end => {
                 drop(end);
                 self.end_waits();
             }
-        }
-    }
-
-    fn tell(&mut self, rt: &R, entry: Entry<J>, on_disk: &OnDisk) {
-        let Entry {
-            receipt,
-            leads,
-            term,
-            asked,
-        } = entry;
-        match Durable::entry(receipt, on_disk) {
-            Ok(entry) => self.tell_durable(rt, entry, leads, term, asked),
-            Err(receipt) => refuse(rt, receipt, asked),
         }
     }
 
@@ -160,12 +153,12 @@ impl<R: Wait + Drop, D: LogDevice, J: IndexName> Worker<R, D, J> {
                 give(rt, to, Ok(entry));
             }
             Asked::Write(first, second) => {
-                self.note(&entry, term, second);
+                self.waits.note(&entry, term >= self.deposed, second);
                 self.follow(rt, &entry, leads, term);
                 give(rt, first, Ok(entry));
             }
             Asked::Bulk(first, second) => {
-                self.note_bulk(&entry, term, second);
+                self.waits.note_bulk(&entry, term >= self.deposed, second);
                 self.follow(rt, &entry, leads, term);
                 give(rt, first, Ok(entry));
             }
@@ -177,33 +170,12 @@ impl<R: Wait + Drop, D: LogDevice, J: IndexName> Worker<R, D, J> {
         }
     }
 
-    /// Notes who waits for the acknowledgement of a write that is kept, unless another copy is the primary of a later term.
-    fn note(&mut self, entry: &Durable<Receipt<J>>, term: u64, to: Sender<Ending<J>, Global>) {
-        match written_in(entry.what()) {
-            Some(written) if term >= self.deposed => self.waits.add(written, to),
-            _ => drop(to),
-        }
-    }
-
-    /// Notes who waits for the writes of a bulk that are kept, unless another copy is the primary of a later term.
-    fn note_bulk(
-        &mut self,
-        entry: &Durable<Receipt<J>>,
-        term: u64,
-        to: Sender<BulkEnding<J>, Global>,
-    ) {
-        match items_in(entry.what()) {
-            Some(items) if term >= self.deposed => self.waits.add_bulk(items, to),
-            _ => drop(to),
-        }
-    }
-
     fn follow(&mut self, rt: &R, entry: &Durable<Receipt<J>>, leads: bool, term: u64) {
         for at in 0..entry.sent().len() {
             self.send(rt, entry, at, leads);
         }
-        self.tell_acknowledged(rt, entry);
-        self.tell_lost(rt, entry, leads, term);
+        self.waits.acknowledge_all(rt, entry);
+        self.waits.lose_unless(rt, entry, leads, term);
     }
 
     /// Has the master decide a message of an entry, or puts it to those that leave for its copy.
@@ -215,34 +187,12 @@ impl<R: Wait + Drop, D: LogDevice, J: IndexName> Worker<R, D, J> {
             Ok(message) if to == 0 => self
                 .shared
                 .tell(rt, self.alloc, self.number, message.what()),
-            Ok(message) => self.pack(message, to, leads),
+            Ok(message) => pack(self.alloc, &mut self.mails, message, to, leads),
             Err(_) => false,
         };
         if !is_sent {
             self.miss(rt, to, leads);
         }
-    }
-
-    /// Puts a message to those that leave for its copy. Says whether there was memory for that.
-    fn pack(&mut self, message: Durable<Msg>, to: u32, leads: bool) -> bool {
-        if let Some(place) = self
-            .mails
-            .iter()
-            .position(|mail| mail.to == to && mail.leads == leads)
-        {
-            return self.mails[place].messages.push(message).is_ok();
-        }
-        let mut messages = Vec::new(self.alloc);
-        if messages.push(message).is_err() {
-            return false;
-        }
-        self.mails
-            .push(Mail {
-                to,
-                leads,
-                messages,
-            })
-            .is_ok()
     }
 
     /// Sends what was put together for each copy on its way, as one post.
@@ -276,66 +226,17 @@ impl<R: Wait + Drop, D: LogDevice, J: IndexName> Worker<R, D, J> {
         }
     }
 
-    /// Answers those whose writes an entry acknowledges.
-    fn tell_acknowledged(&mut self, rt: &R, entry: &Durable<Receipt<J>>) {
-        if let Ok(output) = &entry.what().deed().answer {
-            for op in output.acknowledged.as_slice() {
-                self.waits.acknowledge(rt, op, entry);
-            }
-            self.waits.acknowledge_bulks(rt, entry);
-        }
-    }
-
-    /// Answers those who wait where the copy was the primary no more, or of a later term than that of their writes.
-    fn tell_lost(&mut self, rt: &R, entry: &Durable<Receipt<J>>, leads: bool, term: u64) {
-        let leads = leads && !is_shut(entry.what());
-        if !leads || !self.waits.are_of(term) {
-            self.waits.lose(rt, entry);
-        }
-    }
-
-    /// Answers all who asked: the log has failed. What entries send and acknowledge goes on waiting.
+    /// Answers all who asked: the log has failed. What entries send and acknowledge goes on waiting; there is room for that.
     fn refuse_all(&mut self, rt: &R) {
         for _ in 0..self.outbox.len() {
             let Some(parcel) = self.outbox.next() else {
                 return;
             };
-            self.refuse_one(rt, parcel);
-        }
-    }
-
-    fn refuse_one(&mut self, rt: &R, parcel: Parcel<J>) {
-        match parcel {
-            Parcel::Entry(entry) => {
-                let Entry {
-                    receipt,
-                    leads,
-                    term,
-                    asked,
-                } = entry;
-                refuse_copied(self.alloc, rt, &receipt, asked);
-                self.put_back(
-                    rt,
-                    Parcel::Entry(Entry {
-                        receipt,
-                        leads,
-                        term,
-                        asked: Asked::Within,
-                    }),
-                );
+            if let Some(rest) = rest_of_refused(self.alloc, rt, parcel) {
+                if let Err(rest) = self.outbox.push(rest) {
+                    self.withdraw(rt, rest);
+                }
             }
-            Parcel::Got(got, to) => {
-                drop(got);
-                give(rt, to, Err(unsynced()));
-            }
-            end => self.put_back(rt, end),
-        }
-    }
-
-    /// Puts a parcel after the others again; there is room for it.
-    fn put_back(&mut self, rt: &R, parcel: Parcel<J>) {
-        if let Err(parcel) = self.outbox.push(parcel) {
-            self.withdraw(rt, parcel);
         }
     }
 
@@ -368,6 +269,27 @@ impl<R: Wait + Drop, D: LogDevice, J: IndexName> Worker<R, D, J> {
     }
 }
 
+/// Puts a message to those that leave for its copy. Says whether there was memory for that.
+fn pack(alloc: Global, mails: &mut Vec<Mail>, message: Durable<Msg>, to: u32, leads: bool) -> bool {
+    if let Some(place) = mails
+        .iter()
+        .position(|mail| mail.to == to && mail.leads == leads)
+    {
+        return mails[place].messages.push(message).is_ok();
+    }
+    let mut messages = Vec::new(alloc);
+    if messages.push(message).is_err() {
+        return false;
+    }
+    mails
+        .push(Mail {
+            to,
+            leads,
+            messages,
+        })
+        .is_ok()
+}
+
 /// Answers whoever asked for an entry that isn't on the disk: the log has failed; or the copy is closed or isn't the primary, where that is the entry.
 fn refuse<R: Wait, J: IndexName>(rt: &R, receipt: Receipt<J>, asked: Asked<J>) {
     let told = match Durable::idle(receipt) {
@@ -377,6 +299,11 @@ fn refuse<R: Wait, J: IndexName>(rt: &R, receipt: Receipt<J>, asked: Asked<J>) {
             Err(unsynced())
         }
     };
+    tell(rt, asked, told);
+}
+
+/// Answers whoever asked for an entry. Who waits for an ending too gets none.
+pub(crate) fn tell<R: Wait, J: IndexName>(rt: &R, asked: Asked<J>, told: Answered<J>) {
     match asked {
         Asked::Call(to) => give(rt, to, told),
         Asked::Write(to, ending) => {
@@ -391,6 +318,37 @@ fn refuse<R: Wait, J: IndexName>(rt: &R, receipt: Receipt<J>, asked: Asked<J>) {
             drop(within);
             drop(told);
         }
+    }
+}
+
+/// Answers whoever asked: the log has failed. It gives what goes on waiting.
+fn rest_of_refused<R: Wait, J: IndexName>(
+    alloc: Global,
+    rt: &R,
+    parcel: Parcel<J>,
+) -> Option<Parcel<J>> {
+    match parcel {
+        Parcel::Entry(entry) => {
+            let Entry {
+                receipt,
+                leads,
+                term,
+                asked,
+            } = entry;
+            refuse_copied(alloc, rt, &receipt, asked);
+            Some(Parcel::Entry(Entry {
+                receipt,
+                leads,
+                term,
+                asked: Asked::Within,
+            }))
+        }
+        Parcel::Got(got, to) => {
+            drop(got);
+            give(rt, to, Err(unsynced()));
+            None
+        }
+        end => Some(end),
     }
 }
 

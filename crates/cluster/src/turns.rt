@@ -23,13 +23,16 @@ fn is_of_caller<J: IndexName>(post: &Post<J>) -> bool {
 }
 
 impl<R: Wait + Drop, D: LogDevice, J: IndexName> Worker<R, D, J> {
-    /// Does a post, or holds it back. Says whether it goes on.
+    /// Does a post, or holds it back where it may not be done now. Without memory for that it is dropped, and its caller learns so. Says whether it goes on.
     pub(crate) fn admit<G: Gate>(&mut self, rt: &R, gate: &G, post: Post<J>) -> bool {
         if let Post::Stop = &post {
             drop(post);
             return false;
         }
-        if let Some(post) = self.admitted(post) {
+        let waits = is_of_caller(&post) && (!self.backlog.is_empty() || self.is_to_wait(&post));
+        if waits {
+            let _ = self.backlog.push(post);
+        } else {
             self.serve(rt, gate, post);
         }
         true
@@ -49,29 +52,15 @@ impl<R: Wait + Drop, D: LogDevice, J: IndexName> Worker<R, D, J> {
 
     /// The oldest post that is held back, where it may be done now.
     fn next_held(&mut self) -> Option<Post<J>> {
-        if self.backlog.is_freed() || !self.first_is_to_wait() {
-            self.backlog.next()
-        } else {
-            None
-        }
-    }
-
-    /// Whether the oldest post that is held back is to wait on.
-    fn first_is_to_wait(&self) -> bool {
-        match self.backlog.first() {
+        let waits = match self.backlog.first() {
             Some(post) => self.is_to_wait(post),
             None => false,
+        };
+        if waits && !self.backlog.is_freed() {
+            None
+        } else {
+            self.backlog.next()
         }
-    }
-
-    /// A post that came, where it may be done now; else it is held back. Without memory for that it is dropped, and its caller learns so.
-    fn admitted(&mut self, post: Post<J>) -> Option<Post<J>> {
-        let waits = is_of_caller(&post) && (!self.backlog.is_empty() || self.is_to_wait(&post));
-        if !waits {
-            return Some(post);
-        }
-        let _ = self.backlog.push(post);
-        None
     }
 
     /// Whether a post is a write or a bulk that is to wait: the copy leads, by all that it knows, and its window has no room for it.

@@ -1,6 +1,7 @@
 //! Writes and bulks that wait for their acknowledgements.
 
 use crate::channels::sent;
+use crate::checks::{is_shut, items_in, written_in};
 use crate::durable::Durable;
 use crate::post::{BulkEnding, Ending};
 use cell::IndexName;
@@ -102,8 +103,34 @@ impl<J: IndexName> Waits<J> {
         }
     }
 
+    /// Notes who waits for the acknowledgement of a write that is kept, unless nobody is to wait for it.
+    pub(crate) fn note(
+        &mut self,
+        entry: &Durable<Receipt<J>>,
+        is_to_wait: bool,
+        to: Sender<Ending<J>, Global>,
+    ) {
+        match written_in(entry.what()) {
+            Some(written) if is_to_wait => self.add(written, to),
+            _ => drop(to),
+        }
+    }
+
+    /// Notes who waits for the writes of a bulk that are kept, unless nobody is to wait for them.
+    pub(crate) fn note_bulk(
+        &mut self,
+        entry: &Durable<Receipt<J>>,
+        is_to_wait: bool,
+        to: Sender<BulkEnding<J>, Global>,
+    ) {
+        match items_in(entry.what()) {
+            Some(items) if is_to_wait => self.add_bulk(items, to),
+            _ => drop(to),
+        }
+    }
+
     /// Notes who waits for a write. Where there is no memory for that, its wait ends.
-    pub(crate) fn add(&mut self, written: Written, to: Sender<Ending<J>, Global>) {
+    fn add(&mut self, written: Written, to: Sender<Ending<J>, Global>) {
         let _ = self.items.push(Waiting {
             seq: written.seq,
             term: written.term,
@@ -112,7 +139,7 @@ impl<J: IndexName> Waits<J> {
     }
 
     /// Notes who waits for the writes of a bulk that were kept. Where there is no memory for that, its wait ends.
-    pub(crate) fn add_bulk(&mut self, items: &[Item], to: Sender<BulkEnding<J>, Global>) {
+    fn add_bulk(&mut self, items: &[Item], to: Sender<BulkEnding<J>, Global>) {
         let Ok(left) = kept(self.alloc, items) else {
             return;
         };
@@ -126,15 +153,25 @@ impl<J: IndexName> Waits<J> {
         });
     }
 
+    /// Reports to those who wait what an entry acknowledges.
+    pub(crate) fn acknowledge_all<R: Wait>(&mut self, rt: &R, entry: &Durable<Receipt<J>>) {
+        if let Ok(output) = &entry.what().deed().answer {
+            for op in output.acknowledged.as_slice() {
+                self.acknowledge(rt, op, entry);
+            }
+            self.acknowledge_bulks(rt, entry);
+        }
+    }
+
     /// Reports to the bulks that wait what an entry acknowledges.
-    pub(crate) fn acknowledge_bulks<R: Wait>(&mut self, rt: &R, entry: &Durable<Receipt<J>>) {
+    fn acknowledge_bulks<R: Wait>(&mut self, rt: &R, entry: &Durable<Receipt<J>>) {
         let alloc = self.alloc;
         self.bulks
             .retain_mut(|bulk| bulk.waits_on(rt, alloc, entry));
     }
 
     /// Reports to those who wait for an operation that an entry acknowledges it.
-    pub(crate) fn acknowledge<R: Wait>(&mut self, rt: &R, op: &Op, entry: &Durable<Receipt<J>>) {
+    fn acknowledge<R: Wait>(&mut self, rt: &R, op: &Op, entry: &Durable<Receipt<J>>) {
         let Some(place) = self
             .items
             .iter()
@@ -148,14 +185,28 @@ impl<J: IndexName> Waits<J> {
         }
     }
 
+    /// Reports to all an entry after which the copy is the primary no more, or of a later term than that of their writes.
+    pub(crate) fn lose_unless<R: Wait>(
+        &mut self,
+        rt: &R,
+        entry: &Durable<Receipt<J>>,
+        leads: bool,
+        term: u64,
+    ) {
+        let leads = leads && !is_shut(entry.what());
+        if !leads || !self.are_of(term) {
+            self.lose(rt, entry);
+        }
+    }
+
     /// Whether all are of this term.
-    pub(crate) fn are_of(&self, term: u64) -> bool {
+    fn are_of(&self, term: u64) -> bool {
         self.items.iter().all(|waiting| waiting.term == term)
             && self.bulks.iter().all(|bulk| is_of(bulk, term))
     }
 
     /// Reports to all that their copy is the primary of their term no more since this entry.
-    pub(crate) fn lose<R: Wait>(&mut self, rt: &R, entry: &Durable<Receipt<J>>) {
+    fn lose<R: Wait>(&mut self, rt: &R, entry: &Durable<Receipt<J>>) {
         for waiting in self.items.drain(..) {
             if let Ok(copied) = entry.copy(self.alloc) {
                 sent(rt, &waiting.to, Ending::Lost(copied));

@@ -9,8 +9,8 @@ use crate::left::Left;
 use crate::merging::Merges;
 use crate::outbox::{Asked, Entry, Mail, Outbox, Parcel};
 use crate::own::OwnCell;
-use crate::post::{Answered, BulkEnding, Ending, Post, Seated};
-use crate::releasing::unsynced;
+use crate::post::{Answered, Post, Seated};
+use crate::releasing::{tell, unsynced};
 use crate::shared::Shared;
 use crate::waits::Waits;
 use cell::IndexName;
@@ -19,7 +19,7 @@ use doc::DocId;
 use engine::Merging;
 use node::{Got, NodeFault, Receipt};
 use op::Msg;
-use replica::{Copy, CopyFault, Input, Write, Writes};
+use replica::{Copy, CopyFault, Input};
 use std::alloc::Global;
 use std::sync::{Arc, Wait};
 use translog::LogDevice;
@@ -110,8 +110,12 @@ impl<R: Wait + Drop, D: LogDevice, J: IndexName> Worker<R, D, J> {
     fn answer(&mut self, rt: &R, post: Post<J>) {
         match post {
             Post::Ask(input, to) => self.ask(rt, input, to),
-            Post::Write(write, first, second) => self.write(rt, write, first, second),
-            Post::Bulk(writes, first, second) => self.bulk(rt, writes, first, second),
+            Post::Write(write, first, second) => {
+                self.do_led(rt, Input::Write(write), Asked::Write(first, second));
+            }
+            Post::Bulk(writes, first, second) => {
+                self.do_led(rt, Input::Bulk(writes), Asked::Bulk(first, second));
+            }
             Post::Hand(message, tries) => self.take(rt, message, tries),
             Post::Report(copy) => self.report(rt, copy),
             Post::Lead => self.is_to_lead = true,
@@ -121,11 +125,6 @@ impl<R: Wait + Drop, D: LogDevice, J: IndexName> Worker<R, D, J> {
             Post::Seat(to) => self.seat(rt, to),
             none => drop(none),
         }
-    }
-
-    /// One call of the copy: its entry, also where the copy refuses.
-    fn made(&mut self, input: Input) -> Result<Receipt<J>, NodeFault> {
-        self.cell.call(self.alloc, input)
     }
 
     /// An entry, with what the copy is after it.
@@ -140,7 +139,7 @@ impl<R: Wait + Drop, D: LogDevice, J: IndexName> Worker<R, D, J> {
 
     /// A call that nobody waits for, and whether the copy accepts it. What it sends and acknowledges leaves when it is on the disk.
     pub(crate) fn call(&mut self, rt: &R, input: Input) -> bool {
-        let Ok(receipt) = self.made(input) else {
+        let Ok(receipt) = self.cell.call(self.alloc, input) else {
             return false;
         };
         let is_accepted = receipt.deed().answer.is_ok();
@@ -155,7 +154,7 @@ impl<R: Wait + Drop, D: LogDevice, J: IndexName> Worker<R, D, J> {
             drop(input);
             self.refresh(rt, to);
         } else {
-            self.do_asked(rt, input, to);
+            self.do_asked(rt, input, Asked::Call(to));
         }
     }
 
@@ -166,66 +165,31 @@ impl<R: Wait + Drop, D: LogDevice, J: IndexName> Worker<R, D, J> {
             return;
         }
         self.note_rest();
-        self.do_asked(rt, Input::Refresh, to);
+        self.do_asked(rt, Input::Refresh, Asked::Call(to));
         self.begin_merge(rt);
     }
 
-    fn do_asked(&mut self, rt: &R, input: Input, to: Sender<Answered<J>, Global>) {
-        let was_open = self.is_open();
-        match self.made(input) {
-            Ok(receipt) => {
-                let parcel = self.entry(receipt, Asked::Call(to));
-                self.keep(rt, parcel);
-            }
-            Err(fault) => give(rt, to, Err(fault)),
+    /// Does a write or a bulk. First the copy leads where the master's primary is this copy, which couldn't lead when it was opened.
+    fn do_led(&mut self, rt: &R, input: Input, asked: Asked<J>) {
+        if self.is_open() && self.is_to_lead {
+            self.lead(rt);
         }
-        self.mend_since(rt, was_open);
+        self.do_asked(rt, input, asked);
     }
 
-    /// A write. A copy that the write has closed is mended before its answer, so that the next write finds a primary.
-    fn write(
-        &mut self,
-        rt: &R,
-        write: Write,
-        first: Sender<Answered<J>, Global>,
-        second: Sender<Ending<J>, Global>,
-    ) {
-        self.lead_again(rt);
+    /// Does what was asked. A copy that this has closed is mended before its answer, so that the next write finds a primary.
+    fn do_asked(&mut self, rt: &R, input: Input, asked: Asked<J>) {
         let was_open = self.is_open();
-        match self.made(Input::Write(write)) {
+        match self.cell.call(self.alloc, input) {
             Ok(receipt) => {
-                let parcel = self.entry(receipt, Asked::Write(first, second));
+                let parcel = self.entry(receipt, asked);
                 self.keep(rt, parcel);
             }
-            Err(fault) => {
-                drop(second);
-                give(rt, first, Err(fault));
-            }
+            Err(fault) => tell(rt, asked, Err(fault)),
         }
-        self.mend_since(rt, was_open);
-    }
-
-    /// A bulk. A copy that the bulk has closed is mended before its answer.
-    fn bulk(
-        &mut self,
-        rt: &R,
-        writes: Writes,
-        first: Sender<Answered<J>, Global>,
-        second: Sender<BulkEnding<J>, Global>,
-    ) {
-        self.lead_again(rt);
-        let was_open = self.is_open();
-        match self.made(Input::Bulk(writes)) {
-            Ok(receipt) => {
-                let parcel = self.entry(receipt, Asked::Bulk(first, second));
-                self.keep(rt, parcel);
-            }
-            Err(fault) => {
-                drop(second);
-                give(rt, first, Err(fault));
-            }
+        if was_open {
+            self.mend(rt);
         }
-        self.mend_since(rt, was_open);
     }
 
     /// Takes a message.
@@ -247,7 +211,7 @@ impl<R: Wait + Drop, D: LogDevice, J: IndexName> Worker<R, D, J> {
     /// Has the copy take a message, and says what becomes of it.
     fn fate(&mut self, rt: &R, message: Msg) -> Fate {
         let was_open = self.is_open();
-        let made = self.made(Input::Take(message));
+        let made = self.cell.call(self.alloc, Input::Take(message));
         let fate = fate_of(&made);
         match made {
             Ok(receipt) => {
@@ -256,7 +220,9 @@ impl<R: Wait + Drop, D: LogDevice, J: IndexName> Worker<R, D, J> {
             }
             Err(fault) => drop(fault),
         }
-        self.mend_since(rt, was_open);
+        if was_open {
+            self.mend(rt);
+        }
         fate
     }
 
@@ -304,7 +270,7 @@ impl<R: Wait + Drop, D: LogDevice, J: IndexName> Worker<R, D, J> {
 
     /// Reports a copy. Where that isn't possible nobody knows whether the copies that are left are enough, so all waits end.
     fn report(&mut self, rt: &R, copy: u32) {
-        let Ok(receipt) = self.made(Input::Report(copy)) else {
+        let Ok(receipt) = self.cell.call(self.alloc, Input::Report(copy)) else {
             self.keep(rt, Parcel::EndOfWaits);
             return;
         };

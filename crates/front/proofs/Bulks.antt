@@ -1,5 +1,6 @@
 -- Parts of a bulk that are done one after another.
-use Rattle.std.proofs.Common.{◌≡◌, ℕ, zero, ◌<◌, ◌≤◌, take-append-drop, Bool, true, ◌&&◌, ◌||◌, List, [], ◌∷◌, ◌++◌, map, Option, Result, Ok, Err, refl, sym, ap, ◌∙◌, append_assoc, append-nil, add-one, arith, suc, ◌+◌, length, length-append, get_or, take, drop}
+use Rattle.std.proofs.Common.{◌≡◌, ℕ, zero, ◌<◌, ◌≤◌, take-append-drop, Bool, true, ◌&&◌, ◌||◌, List, [], ◌∷◌, ◌++◌, map, Option, Some, None, IfSome, false, Result, Ok, Err, refl, sym, ap, ◌∙◌, append_assoc, append-nil, add-one, arith, suc, ◌+◌, length, length-append, get_or, take, drop}
+use Rattle.std.specs.Prelude.{is_none}
 use Rattle.std.proofs.Math.Seq.{drop-append_seam}
 use Rattle.std.proofs.lemmas.List.{map-append, length-map, take_more}
 use Rattle.doc.specs.Mapping.{MappingData}
@@ -7,7 +8,7 @@ use Rattle.front.specs.declared.command.Write.{Write}
 use Rattle.front.specs.declared.reply.ItemReply.{ItemReply}
 use Rattle.front.specs.declared.reply.Refusal.{Refusal}
 use Rattle.front.specs.Item.{Item}
-use Rattle.front.specs.Bulk.{item_write, good, batch, parts, fault_text, reply_text, item_reply, each, writes_in, told, text_then, refreshing, is_any, writes_of, write_commands, bulk_commands, bulk_texts, refusal_in, bulk_refusal, said, Step, step_of, step_text, steps_of, IsPart, PartDone, BegunOf, WritesDone, RefreshDone, BulkDone}
+use Rattle.front.specs.Bulk.{item_write, good, batch, parts, fault_text, reply_text, item_reply, each, writes_in, told, text_then, refreshing, is_any, writes_of, write_commands, bulk_commands, bulk_texts, refusal_in, bulk_refusal, said, Step, step_of, step_text, steps_of, told_of, waits, AreSteps, IsFaultText, IsStepOf, IsPart, PartDone, BegunOf, WritesDone, RefreshDone, BulkDone}
 use Rattle.front.specs.Command.{Command, bulk, refresh}
 use Rattle.front.specs.Fault.{Fault}
 use Rattle.front.specs.Reply.{Reply}
@@ -23,31 +24,35 @@ each_length : (r : Reply) (k : ℕ) (ws : List Write) → length (each r k ws) �
 each_length r k [] = refl
 each_length r k (w ∷ ws) = ap suc (each_length r (suc k) ws)
 
-then_step : (i : Item) (k : ℕ) (w : Result Write Fault) (r : Reply) (steps : ℕ → List Step) (ws : List Write) (more : List ItemReply → List (Bool × List ℕ))
-    → ((j : ℕ) → map (step_text r) (steps j) ≡ more (each r j ws)) → map (step_text r) (step_of i k w ∷ steps (k + length (good w))) ≡ text_then i w (each r k (good w ++ ws)) more
-then_step i k (Err f) r steps ws more h = ap (λ l. fault_text i f ∷ l) (ap (λ j. map (step_text r) (steps j)) (omega arith) ∙ h k)
-then_step i k (Ok w) r steps ws more h = ap (λ l. reply_text i (item_reply r k) ∷ l) (ap (λ j. map (step_text r) (steps j)) (add-one k) ∙ h (suc k))
+then_step : (greets : Bool) (why : List ℕ) (i : Item) (k : ℕ) (w : Result Write Fault) (r : Reply) (steps : ℕ → List Step) (ws : List Write) (more : List ItemReply → List (Bool × List ℕ))
+    → ((j : ℕ) → map (step_text greets r) (steps j) ≡ more (each r j ws)) → map (step_text greets r) (step_of greets why i k w ∷ steps (k + length (good w))) ≡ text_then greets why i w (each r k (good w ++ ws)) more
+then_step greets why i k (Err f) r steps ws more h = ap (λ l. fault_text greets why i f ∷ l) (ap (λ j. map (step_text greets r) (steps j)) (omega arith) ∙ h k)
+then_step greets why i k (Ok w) r steps ws more h = ap (λ l. reply_text greets i (item_reply r k) ∷ l) (ap (λ j. map (step_text greets r) (steps j)) (add-one k) ∙ h (suc k))
 
-step_texts : (served : List ℕ) (mapping : MappingData) (r : Reply) (k : ℕ) (items : List Item)
-    → map (step_text r) (steps_of served mapping k items) ≡ bulk_texts served mapping items (each r k (writes_of served mapping items))
-step_texts served mapping r k [] = refl
-step_texts served mapping r k (i ∷ items) =
-    then_step i k (item_write served mapping i) r (λ j. steps_of served mapping j items) (writes_of served mapping items) (bulk_texts served mapping items) (λ j. step_texts served mapping r j items)
+step_texts : (greets : Bool) (served : List ℕ) (mapping : MappingData) (r : Reply) (k : ℕ) (items : List Item) (whys : List (List ℕ))
+    → map (step_text greets r) (steps_of greets served mapping k items whys) ≡ bulk_texts served mapping greets items whys (each r k (writes_of served mapping items))
+step_texts greets served mapping r k [] whys = refl
+step_texts greets served mapping r k (i ∷ items) [] =
+    then_step greets [] i k (item_write served mapping i) r (λ j. steps_of greets served mapping j items []) (writes_of served mapping items) (bulk_texts served mapping greets items []) (λ j. step_texts greets served mapping r j items [])
+step_texts greets served mapping r k (i ∷ items) (why ∷ whys) =
+    then_step greets why i k (item_write served mapping i) r (λ j. steps_of greets served mapping j items whys) (writes_of served mapping items) (bulk_texts served mapping greets items whys) (λ j. step_texts greets served mapping r j items whys)
 
 -- the texts of items, and those of others behind them
-then_join : (i : Item) (w : Result Write Fault) (ra rb : List ItemReply) (ws : List Write) (long short : List ItemReply → List (Bool × List ℕ)) (end : List (Bool × List ℕ))
-    → length ra ≡ length (good w ++ ws) → ((rs : List ItemReply) → length rs ≡ length ws → long (rs ++ rb) ≡ short rs ++ end) → text_then i w (ra ++ rb) long ≡ text_then i w ra short ++ end
-then_join i (Err f) ra rb ws long short end e h = ap (λ l. fault_text i f ∷ l) (h ra e)
-then_join i (Ok w) [] rb ws long short end e h = absurd (omega (arith, e))
-then_join i (Ok w) (r ∷ ra) rb ws long short end e h = ap (λ l. reply_text i r ∷ l) (h ra (omega (arith, e)))
+then_join : (greets : Bool) (why : List ℕ) (i : Item) (w : Result Write Fault) (ra rb : List ItemReply) (ws : List Write) (long short : List ItemReply → List (Bool × List ℕ)) (end : List (Bool × List ℕ))
+    → length ra ≡ length (good w ++ ws) → ((rs : List ItemReply) → length rs ≡ length ws → long (rs ++ rb) ≡ short rs ++ end) → text_then greets why i w (ra ++ rb) long ≡ text_then greets why i w ra short ++ end
+then_join greets why i (Err f) ra rb ws long short end e h = ap (λ l. fault_text greets why i f ∷ l) (h ra e)
+then_join greets why i (Ok w) [] rb ws long short end e h = absurd (omega (arith, e))
+then_join greets why i (Ok w) (r ∷ ra) rb ws long short end e h = ap (λ l. reply_text greets i r ∷ l) (h ra (omega (arith, e)))
 
-texts_join : (served : List ℕ) (mapping : MappingData) (p q : List Item) (ra rb : List ItemReply) → length ra ≡ length (writes_of served mapping p)
-    → bulk_texts served mapping (p ++ q) (ra ++ rb) ≡ bulk_texts served mapping p ra ++ bulk_texts served mapping q rb
-texts_join served mapping [] q [] rb e = refl
-texts_join served mapping [] q (r ∷ ra) rb e = absurd (omega (arith, e))
-texts_join served mapping (i ∷ p) q ra rb e =
-    then_join i (item_write served mapping i) ra rb (writes_of served mapping p) (bulk_texts served mapping (p ++ q)) (bulk_texts served mapping p) (bulk_texts served mapping q rb) e
-    (λ rs k. texts_join served mapping p q rs rb k)
+texts_join : (greets : Bool) (served : List ℕ) (mapping : MappingData) (p q : List Item) (ya yb : List (List ℕ)) (ra rb : List ItemReply) → length ya ≡ length p → length ra ≡ length (writes_of served mapping p)
+    → bulk_texts served mapping greets (p ++ q) (ya ++ yb) (ra ++ rb) ≡ bulk_texts served mapping greets p ya ra ++ bulk_texts served mapping greets q yb rb
+texts_join greets served mapping [] q [] yb [] rb l e = refl
+texts_join greets served mapping [] q (y ∷ ya) yb ra rb l e = absurd (omega (arith, l))
+texts_join greets served mapping [] q [] yb (r ∷ ra) rb l e = absurd (omega (arith, e))
+texts_join greets served mapping (i ∷ p) q [] yb ra rb l e = absurd (omega (arith, l))
+texts_join greets served mapping (i ∷ p) q (y ∷ ya) yb ra rb l e =
+    then_join greets y i (item_write served mapping i) ra rb (writes_of served mapping p) (bulk_texts served mapping greets (p ++ q) (ya ++ yb)) (bulk_texts served mapping greets p ya) (bulk_texts served mapping greets q yb rb) e
+    (λ rs k. texts_join greets served mapping p q ya yb rs rb (omega (arith, l)) k)
 
 -- the items of parts
 abbrev pub all_of : List (List Item) → List Item
@@ -128,16 +133,18 @@ items_more items left n done e =
     e ∙ ap (λ l. all_of done ++ l) (sym (take-append-drop n left)) ∙ sym (append_assoc (all_of done) (take n left) (drop n left)) ∙ ap (λ l. l ++ drop n left) (sym (all_more done (take n left)))
 
 -- parts were done one after another
-abbrev pub PartsDone : {S : Type 0} → (S → Command → Reply → S → Type 0) → List ℕ → MappingData → S → List (List Item) → List (Bool × List ℕ) → S → Type 0
-PartsDone {S} answers served mapping s [] texts t = (t ≡ s) × (texts ≡ [])
-PartsDone {S} answers served mapping s (p ∷ ps) texts t =
-    (m : S) × (one : List (Bool × List ℕ)) × (more : List (Bool × List ℕ)) × PartDone answers served mapping p s one m × PartsDone answers served mapping m ps more t × (texts ≡ one ++ more)
+abbrev pub PartsDone : {S : Type 0} → Bool → (S → Command → Reply → S → Type 0) → List ℕ → MappingData → S → List (List Item) → List (Bool × List ℕ) → S → Type 0
+PartsDone {S} greets answers served mapping s [] texts t = (t ≡ s) × (texts ≡ [])
+PartsDone {S} greets answers served mapping s (p ∷ ps) texts t =
+    (m : S) × (one : List (Bool × List ℕ)) × (more : List (Bool × List ℕ)) × PartDone greets answers served mapping p s one m × PartsDone greets answers served mapping m ps more t × (texts ≡ one ++ more)
 
 -- the commands of parts were given, and these are the texts of all their items
-record AllCalled {S : Type 0} (answers : S → Command → Reply → S → Type 0) (served : List ℕ) (mapping : MappingData) (ps : List (List Item)) (s : S) (texts : List (Bool × List ℕ)) (t : S) : Type 0 where
+record AllCalled {S : Type 0} (greets : Bool) (answers : S → Command → Reply → S → Type 0) (served : List ℕ) (mapping : MappingData) (ps : List (List Item)) (s : S) (texts : List (Bool × List ℕ)) (t : S) : Type 0 where
   replies : List Reply
+  whys : List (List ℕ)
   called : Calls answers s (batches served mapping ps) replies t
-  same : texts ≡ bulk_texts served mapping (all_of ps) (told (batches served mapping ps) replies)
+  many : length whys ≡ length (all_of ps)
+  same : texts ≡ bulk_texts served mapping greets (all_of ps) whys (told (batches served mapping ps) replies)
 
 module _ {S : Type 0} (answers : S → Command → Reply → S → Type 0) where
   pub none_begun : (cs : List Command) (s : S) → BegunOf answers cs s s
@@ -162,16 +169,18 @@ module _ {S : Type 0} (answers : S → Command → Reply → S → Type 0) where
   told_join (w ∷ ws) cs (r ∷ q ∷ rs) qs s t h = absurd (h.2)
 
   -- the service has said this to the writes of a part
-  pub part_done : (served : List ℕ) (mapping : MappingData) (items : List Item) (ws : List Write) (steps : List Step) (r : Reply) (s t : S) (texts : List (Bool × List ℕ))
-      → ws ≡ writes_of served mapping items → steps ≡ steps_of served mapping 0 items → Calls answers s (batch ws) (said ws r) t → texts ≡ map (step_text r) steps
-      → PartDone answers served mapping items s texts t
-  part_done served mapping items ws steps r s t texts e k h l =
+  pub part_done : (greets : Bool) (served : List ℕ) (mapping : MappingData) (items : List Item) (ws : List Write) (steps : List Step) (r : Reply) (s t : S) (texts : List (Bool × List ℕ))
+      → ws ≡ writes_of served mapping items → AreSteps greets served mapping items steps → Calls answers s (batch ws) (said ws r) t → texts ≡ map (step_text greets r) steps
+      → PartDone greets answers served mapping items s texts t
+  part_done greets served mapping items ws steps r s t texts e k h l =
       let all = writes_of served mapping items in
       let called : Calls answers s (batch all) (said all r) t = rw e at h in
       record {
         replies = said all r;
+        whys = k.whys;
         called = called;
-        same = l ∙ ap (map (step_text r)) k ∙ step_texts served mapping r 0 items ∙ ap (bulk_texts served mapping items) (sym (told_said r all));
+        many = k.many;
+        same = l ∙ ap (map (step_text greets r)) k.are ∙ step_texts greets served mapping r 0 items k.whys ∙ ap (bulk_texts served mapping greets items k.whys) (sym (told_said r all));
       }
 
   -- the commands of the first part were done
@@ -185,48 +194,51 @@ module _ {S : Type 0} (answers : S → Command → Reply → S → Type 0) where
     called = h;
   }
 
-  pub parts_more : (served : List ℕ) (mapping : MappingData) (s m t : S) (ps : List (List Item)) (p : List Item) (texts one : List (Bool × List ℕ))
-      → PartsDone answers served mapping s ps texts m → PartDone answers served mapping p m one t → PartsDone answers served mapping s (ps ++ p ∷ []) (texts ++ one) t
-  parts_more served mapping s m t [] p texts one h d =
-      let d' : PartDone answers served mapping p s one t = rw h.0 at d in
+  pub parts_more : (greets : Bool) (served : List ℕ) (mapping : MappingData) (s m t : S) (ps : List (List Item)) (p : List Item) (texts one : List (Bool × List ℕ))
+      → PartsDone greets answers served mapping s ps texts m → PartDone greets answers served mapping p m one t → PartsDone greets answers served mapping s (ps ++ p ∷ []) (texts ++ one) t
+  parts_more greets served mapping s m t [] p texts one h d =
+      let d' : PartDone greets answers served mapping p s one t = rw h.0 at d in
       (t, one, [], d', (refl, refl), ap (λ x. x ++ one) h.1 ∙ sym (append-nil one))
-  parts_more served mapping s m t (q ∷ ps) p texts one h d =
-      (h.0, h.1, h.2 ++ one, h.3, parts_more served mapping h.0 m t ps p h.2 one h.4 d, ap (λ x. x ++ one) h.5 ∙ append_assoc h.1 h.2 one)
+  parts_more greets served mapping s m t (q ∷ ps) p texts one h d =
+      (h.0, h.1, h.2 ++ one, h.3, parts_more greets served mapping h.0 m t ps p h.2 one h.4 d, ap (λ x. x ++ one) h.5 ∙ append_assoc h.1 h.2 one)
 
-  parts_called : (served : List ℕ) (mapping : MappingData) (s t : S) (ps : List (List Item)) (texts : List (Bool × List ℕ))
-      → PartsDone answers served mapping s ps texts t → AllCalled answers served mapping ps s texts t
-  parts_called served mapping s t [] texts h = record { replies = []; called = h.0; same = h.1 }
-  parts_called served mapping s t (p ∷ ps) texts h =
-      let others = parts_called served mapping h.0 t ps h.2 h.4 in
+  parts_called : (greets : Bool) (served : List ℕ) (mapping : MappingData) (s t : S) (ps : List (List Item)) (texts : List (Bool × List ℕ))
+      → PartsDone greets answers served mapping s ps texts t → AllCalled greets answers served mapping ps s texts t
+  parts_called greets served mapping s t [] texts h = record { replies = []; whys = []; called = h.0; many = refl; same = h.1 }
+  parts_called greets served mapping s t (p ∷ ps) texts h =
+      let others = parts_called greets served mapping h.0 t ps h.2 h.4 in
       let ws = writes_of served mapping p in
       let items = all_of ps in
       let here = told (batch ws) h.3.replies in
       let behind = told (batches served mapping ps) others.replies in
       record {
         replies = h.3.replies ++ others.replies;
+        whys = h.3.whys ++ others.whys;
+        many = omega (arith, length-append h.3.whys others.whys, length-append p items, h.3.many, others.many);
         called = calls_join s h.0 t (batch ws) (batches served mapping ps) h.3.replies others.replies h.3.called others.called;
-        same = h.5 ∙ ap (λ x. x ++ h.2) h.3.same ∙ ap (λ x. bulk_texts served mapping p here ++ x) others.same
-            ∙ sym (texts_join served mapping p items here behind (told_length ws h.3.replies s h.0 h.3.called))
-            ∙ ap (bulk_texts served mapping (p ++ items)) (sym (told_join ws (batches served mapping ps) h.3.replies others.replies s h.0 h.3.called));
+        same = h.5 ∙ ap (λ x. x ++ h.2) h.3.same ∙ ap (λ x. bulk_texts served mapping greets p h.3.whys here ++ x) others.same
+            ∙ sym (texts_join greets served mapping p items h.3.whys others.whys here behind h.3.many (told_length ws h.3.replies s h.0 h.3.called))
+            ∙ ap (bulk_texts served mapping greets (p ++ items) (h.3.whys ++ others.whys)) (sym (told_join ws (batches served mapping ps) h.3.replies others.replies s h.0 h.3.called));
       }
 
-  pub writes_done : (served : List ℕ) (mapping : MappingData) (s t : S) (items : List Item) (ps : List (List Item)) (texts : List (Bool × List ℕ))
-      → items ≡ all_of ps → write_commands served mapping items ≡ batches served mapping ps → PartsDone answers served mapping s ps texts t → WritesDone answers served mapping items s texts t
-  writes_done served mapping s t items ps texts e k h =
-      let d = parts_called served mapping s t ps texts h in
+  pub writes_done : (greets : Bool) (served : List ℕ) (mapping : MappingData) (s t : S) (items : List Item) (ps : List (List Item)) (texts : List (Bool × List ℕ))
+      → items ≡ all_of ps → write_commands served mapping items ≡ batches served mapping ps → PartsDone greets answers served mapping s ps texts t → WritesDone greets answers served mapping items s texts t
+  writes_done greets served mapping s t items ps texts e k h =
+      let d = parts_called greets served mapping s t ps texts h in
       let called : Calls answers s (write_commands served mapping items) d.replies t = rw (← k) at d.called in
       record {
         replies = d.replies;
+        whys = d.whys;
         called = called;
-        same = d.same ∙ ap (λ l. bulk_texts served mapping l (told (batches served mapping ps) d.replies)) (sym e)
-            ∙ ap (λ l. bulk_texts served mapping items (told l d.replies)) (sym k);
+        same = d.same ∙ ap (λ l. bulk_texts served mapping greets l d.whys (told (batches served mapping ps) d.replies)) (sym e)
+            ∙ ap (λ l. bulk_texts served mapping greets items d.whys (told l d.replies)) (sym k);
       }
 
   -- the commands of parts, and a beginning of those behind them
-  begun_behind : (served : List ℕ) (mapping : MappingData) (s m t : S) (ps : List (List Item)) (cs : List Command) (texts : List (Bool × List ℕ))
-      → PartsDone answers served mapping s ps texts m → BegunOf answers cs m t → BegunOf answers (batches served mapping ps ++ cs) s t
-  begun_behind served mapping s m t ps cs texts h b =
-      let d = parts_called served mapping s m ps texts h in
+  begun_behind : (greets : Bool) (served : List ℕ) (mapping : MappingData) (s m t : S) (ps : List (List Item)) (cs : List Command) (texts : List (Bool × List ℕ))
+      → PartsDone greets answers served mapping s ps texts m → BegunOf answers cs m t → BegunOf answers (batches served mapping ps ++ cs) s t
+  begun_behind greets served mapping s m t ps cs texts h b =
+      let d = parts_called greets served mapping s m ps texts h in
       let front = batches served mapping ps in
       record {
         done = front ++ b.done;
@@ -236,10 +248,10 @@ module _ {S : Type 0} (answers : S → Command → Reply → S → Type 0) where
         called = calls_join s m t front b.done d.replies b.replies d.called b.called;
       }
 
-  pub parts_begun : (served : List ℕ) (mapping : MappingData) (s m t : S) (items left : List Item) (ps : List (List Item)) (texts : List (Bool × List ℕ))
-      → write_commands served mapping items ≡ batches served mapping ps ++ write_commands served mapping left → PartsDone answers served mapping s ps texts m
+  pub parts_begun : (greets : Bool) (served : List ℕ) (mapping : MappingData) (s m t : S) (items left : List Item) (ps : List (List Item)) (texts : List (Bool × List ℕ))
+      → write_commands served mapping items ≡ batches served mapping ps ++ write_commands served mapping left → PartsDone greets answers served mapping s ps texts m
       → BegunOf answers (write_commands served mapping left) m t → BegunOf answers (write_commands served mapping items) s t
-  parts_begun served mapping s m t items left ps texts e h b = rw e (begun_behind served mapping s m t ps (write_commands served mapping left) texts h b)
+  parts_begun greets served mapping s m t items left ps texts e h b = rw e (begun_behind greets served mapping s m t ps (write_commands served mapping left) texts h b)
 
   same_length : (s t : S) (cs : List Command) (rs : List Reply) → Calls answers s cs rs t → length rs ≡ length cs
   same_length s t [] [] h = refl
@@ -253,17 +265,18 @@ module _ {S : Type 0} (answers : S → Command → Reply → S → Type 0) where
   told_more s t (c ∷ cs) (r ∷ rs) qs h = ap (λ l. each r 0 (writes_in c) ++ l) (told_more h.0 t cs rs qs h.2)
 
   -- the writes, and then the refresh
-  pub bulk_done : (served : List ℕ) (mapping : MappingData) (wanted any now : Bool) (s m t : S) (items : List Item) (texts : List (Bool × List ℕ)) (refusal : Option Refusal)
-      → WritesDone answers served mapping items s texts m → any ≡ is_any (write_commands served mapping items) → now ≡ (wanted && any) → RefreshDone answers now m refusal t
-      → BulkDone answers served mapping wanted items s texts refusal t
-  bulk_done served mapping wanted any now s m t items texts refusal w e k r =
+  pub bulk_done : (greets : Bool) (served : List ℕ) (mapping : MappingData) (wanted any now : Bool) (s m t : S) (items : List Item) (texts : List (Bool × List ℕ)) (refusal : Option Refusal)
+      → WritesDone greets answers served mapping items s texts m → any ≡ is_any (write_commands served mapping items) → now ≡ (wanted && any) → RefreshDone answers now m refusal t
+      → BulkDone greets answers served mapping wanted items s texts refusal t
+  bulk_done greets served mapping wanted any now s m t items texts refusal w e k r =
       let writes = write_commands served mapping items in
       let long = sym (same_length s m writes w.replies w.called) in
       let called : Calls answers m (refreshing (wanted && is_any writes)) r.replies t = rw (k, e) at r.called in
       record {
         replies = w.replies ++ r.replies;
+        whys = w.whys;
         called = calls_join s m t writes (refreshing (wanted && is_any writes)) w.replies r.replies w.called called;
-        texts_are = w.same ∙ ap (bulk_texts served mapping items) (sym (told_more s m writes w.replies r.replies w.called));
+        texts_are = w.same ∙ ap (bulk_texts served mapping greets items w.whys) (sym (told_more s m writes w.replies r.replies w.called));
         refusal_is = r.same ∙ ap bulk_refusal (sym (ap (λ n. drop n (w.replies ++ r.replies)) long ∙ drop-append_seam w.replies r.replies));
       }
 
@@ -302,21 +315,41 @@ writes_more served mapping [] i = append-nil (good (item_write served mapping i)
 writes_more served mapping (j ∷ items) i =
     ap (λ l. good (item_write served mapping j) ++ l) (writes_more served mapping items i) ∙ sym (append_assoc (good (item_write served mapping j)) (writes_of served mapping items) (good (item_write served mapping i)))
 
-steps_from : (served : List ℕ) (mapping : MappingData) (k : ℕ) (items : List Item) (i : Item)
-    → steps_of served mapping k (items ++ i ∷ []) ≡ steps_of served mapping k items ++ step_of i (k + length (writes_of served mapping items)) (item_write served mapping i) ∷ []
-steps_from served mapping k [] i = ap (λ n. step_of i n (item_write served mapping i) ∷ []) (omega arith)
-steps_from served mapping k (j ∷ items) i =
+steps_from : (greets : Bool) (served : List ℕ) (mapping : MappingData) (k : ℕ) (items : List Item) (i : Item) (whys : List (List ℕ)) (why : List ℕ) → length whys ≡ length items
+    → steps_of greets served mapping k (items ++ i ∷ []) (whys ++ why ∷ []) ≡ steps_of greets served mapping k items whys ++ step_of greets why i (k + length (writes_of served mapping items)) (item_write served mapping i) ∷ []
+steps_from greets served mapping k [] i [] why l = ap (λ n. step_of greets why i n (item_write served mapping i) ∷ []) (omega arith)
+steps_from greets served mapping k [] i (y ∷ whys) why l = absurd (omega (arith, l))
+steps_from greets served mapping k (j ∷ items) i [] why l = absurd (omega (arith, l))
+steps_from greets served mapping k (j ∷ items) i (y ∷ whys) why l =
     let g = good (item_write served mapping j) in
     let ws = writes_of served mapping items in
     let place : (k + length g) + length ws ≡ k + length (g ++ ws) = omega (arith, length-append g ws) in
-    ap (λ l. step_of j k (item_write served mapping j) ∷ l) (steps_from served mapping (k + length g) items i
-    ∙ ap (λ n. steps_of served mapping (k + length g) items ++ step_of i n (item_write served mapping i) ∷ []) place)
+    ap (λ l. step_of greets y j k (item_write served mapping j) ∷ l) (steps_from greets served mapping (k + length g) items i whys why (omega (arith, l))
+    ∙ ap (λ n. steps_of greets served mapping (k + length g) items whys ++ step_of greets why i n (item_write served mapping i) ∷ []) place)
 
-pub steps_more : (served : List ℕ) (mapping : MappingData) (items : List Item) (i : Item) (step : Step) (ws : List Write) → ws ≡ writes_of served mapping items → step ≡ step_of i (length ws) (item_write served mapping i)
-    → steps_of served mapping 0 (items ++ i ∷ []) ≡ steps_of served mapping 0 items ++ step ∷ []
-steps_more served mapping items i step ws e k =
+-- the step of an item with a fault, and that of one with a write
+pub told_step : (greets : Bool) (i : Item) (k : ℕ) (w : Result Write Fault) (o : Option Fault) (text : Bool × List ℕ) → is_none o ≡ false → IfSome o (λ f. w ≡ Err f) → IfSome o (λ f. IsFaultText greets i f text) → IsStepOf greets i k w (told_of text)
+told_step greets i k w None text there e t = absurd cc
+told_step greets i k w (Some f) text there e t = record { why = t.why; is = ap told_of t.is ∙ sym (ap (step_of greets t.why i k) e) }
+
+pub waiting_step : (greets : Bool) (i : Item) (k : ℕ) (w : Result Write Fault) (x : Write) → w ≡ Ok x → IsStepOf greets i k w (waits i k)
+waiting_step greets i k w x e = record { why = []; is = sym (ap (step_of greets [] i k) e) }
+
+-- no steps yet
+pub no_steps : (greets : Bool) (served : List ℕ) (mapping : MappingData) → AreSteps greets served mapping [] []
+no_steps greets served mapping = record { whys = []; many = refl; are = refl }
+
+pub steps_more : (greets : Bool) (served : List ℕ) (mapping : MappingData) (items : List Item) (i : Item) (steps : List Step) (step : Step) (ws : List Write) → ws ≡ writes_of served mapping items
+    → AreSteps greets served mapping items steps → IsStepOf greets i (length ws) (item_write served mapping i) step → AreSteps greets served mapping (items ++ i ∷ []) (steps ++ step ∷ [])
+steps_more greets served mapping items i steps step ws e so_far next =
     let place : length ws ≡ 0 + length (writes_of served mapping items) = ap length e ∙ omega arith in
-    steps_from served mapping 0 items i ∙ ap (λ x. steps_of served mapping 0 items ++ x ∷ []) (sym (k ∙ ap (λ n. step_of i n (item_write served mapping i)) place))
+    record {
+      whys = so_far.whys ++ next.why ∷ [];
+      many = omega (arith, length-append so_far.whys (next.why ∷ []), length-append items (i ∷ []), so_far.many);
+      are = ap (λ l. l ++ step ∷ []) so_far.are
+          ∙ ap (λ x. steps_of greets served mapping 0 items so_far.whys ++ x ∷ []) (next.is ∙ ap (λ n. step_of greets next.why i n (item_write served mapping i)) place)
+          ∙ sym (steps_from greets served mapping 0 items i so_far.whys next.why so_far.many);
+    }
 
 pub one_longer : {A B : Type 0} (view : A → B) (xs : List A) (i : ℕ) (x : A) → i < length xs → x ≡ get_or xs i x → map view (take (i + 1) xs) ≡ map view (take i xs) ++ view x ∷ []
 one_longer view xs i x lt e =

@@ -63,5 +63,5 @@ before_none (b ∷ bs) h =
     ∙ ap (λ l. b ∷ l) (before_none bs (λ k le. h (suc k) (omega arith)))
 
 -- what was answered was begun
-pub begun_answered : {S : Type 0} (answers : S → Command → Reply → S → Type 0) (index : List ℕ) (w : Work) (s : S) (out : List ℕ) (t : S) → Answered answers index w s out t → Begun answers w s t
-begun_answered answers index w s out t a = record { done = commands w; left = []; split = sym (append-nil (commands w)); replies = a.replies; called = a.called }
+pub begun_answered : {S : Type 0} (greets : Bool) (answers : S → Command → Reply → S → Type 0) (index : List ℕ) (w : Work) (s : S) (out : List ℕ) (t : S) → Answered greets answers index w s out t → Begun answers w s t
+begun_answered greets answers index w s out t a = record { done = commands w; left = []; split = sym (append-nil (commands w)); replies = a.replies; called = a.called }

@@ -3,6 +3,7 @@ use Rattle.std.specs.Prelude.{ℕ, ◌-◌, ◌==◌, ◌&&◌, ◌||◌, not, B
 use Rattle.std.specs.Char.{is_ascii_digit}
 use Rattle.std.specs.List.{list_all, list_any}
 use Rattle.doc.specs.Outcome.{◌>>=◌}
+use Rattle.front.specs.declared.page.Media.TheVariants as media
 use Rattle.front.specs.declared.page.Status.TheVariants as status
 use Rattle.front.specs.Asking.{or_nothing}
 use Rattle.front.specs.Fault.{Fault, foreign_origin, foreign_host}
@@ -57,7 +58,7 @@ abbrev pub is_preflight : Request → Bool
 is_preflight r = bytes_eq r.method (codes "OPTIONS") && not (length r.sender.origins == 0)
 
 abbrev pub preflight_page : List ℕ
-preflight_page = response status.Good (codes "access-control-allow-headers: authorization, *\r\naccess-control-allow-methods: DELETE, GET, HEAD, POST, PUT\r\naccess-control-allow-private-network: true\r\naccess-control-max-age: 600\r\n") []
+preflight_page = response media.Json status.Good (codes "access-control-allow-headers: authorization, *\r\naccess-control-allow-methods: DELETE, GET, HEAD, POST, PUT\r\naccess-control-allow-private-network: true\r\naccess-control-max-age: 600\r\n") []
 
 abbrev pub granted : Admission → List ℕ → List ℕ
 granted a origin = if lists_all a then codes "*" else or_nothing (text_of origin)

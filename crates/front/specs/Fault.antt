@@ -5,7 +5,7 @@ use Rattle.query.specs.Fault as query
 use Rattle.wire.specs.Fault as head
 use Rattle.front.specs.declared.request_fault.RequestFault.{RequestFault}
 use Rattle.front.specs.declared.target.Endpoint.{Endpoint}
-use Rattle.front.specs.declared.request_fault.RequestFault.TheVariants.{Head, NoRoute, NoIndex, BadMethod, BadParameter, BadBulk, ForeignOrigin, ForeignHost, TypeInPath, NoHandler, IndexExists, Document, Query, NoMemory}
+use Rattle.front.specs.declared.request_fault.RequestFault.TheVariants.{Head, NoRoute, NoIndex, BadMethod, BadParameter, BadBulk, ForeignOrigin, ForeignHost, TypeInPath, NoHandler, IndexExists, EncodedBody, Document, Query, NoMemory}
 
 pub data Fault : Type 0 where
   of_head : head.Fault → Fault
@@ -25,6 +25,8 @@ pub data Fault : Type 0 where
   no_handler : Fault
   -- the index that is to be made is served, by a server that greets
   index_exists : Fault
+  -- the body has a coding, by a server that greets
+  encoded_body : Fault
   of_document : doc.Fault → Fault
   of_query : query.Fault → Fault
 
@@ -41,6 +43,7 @@ fault_of ForeignHost = Some foreign_host
 fault_of TypeInPath = Some type_in_path
 fault_of NoHandler = Some no_handler
 fault_of IndexExists = Some index_exists
+fault_of EncodedBody = Some encoded_body
 fault_of (Document f) = option_map of_document (doc.fault_of f)
 fault_of (Query f) = option_map of_query (query.fault_of f)
 fault_of NoMemory = None

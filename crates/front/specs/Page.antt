@@ -1,8 +1,10 @@
 -- The pages that are written.
-use Rattle.std.specs.Prelude.{ℕ, List, [], ◌∷◌, ◌++◌, length, take, drop, bytes_eq, codes, decimal, Option, Some, None, if◌then◌else◌}
+use Rattle.std.specs.Prelude.{ℕ, Bool, true, false, List, [], ◌∷◌, ◌++◌, length, take, drop, bytes_eq, codes, decimal, Option, Some, None, if◌then◌else◌}
 use Rattle.json.specs.Print.{quoted}
 use Rattle.doc.specs.Fault as doc
 use Rattle.query.specs.Fault as query
+use Rattle.front.specs.declared.page.Media.{Media}
+use Rattle.front.specs.declared.page.Media.TheVariants as media
 use Rattle.front.specs.declared.page.Status.{Status}
 use Rattle.front.specs.declared.page.Status.TheVariants as status
 use Rattle.front.specs.declared.reply.Wrote.{Wrote}
@@ -16,7 +18,7 @@ use Rattle.front.specs.declared.target.Endpoint.{Endpoint}
 use Rattle.front.specs.declared.target.Endpoint.TheVariants.{Document, Create, Search, Count, Refresh, Bulk, Promote}
 use Rattle.front.specs.Command.{Command, write, bulk, get, search, count, refresh, promote}
 use Rattle.wire.specs.Fault.{bad_head, transfer_coding, body_too_large}
-use Rattle.front.specs.Fault.{Fault, of_head, no_route, no_index, bad_method, bad_parameter, bad_bulk, foreign_origin, foreign_host, type_in_path, no_handler, index_exists, of_document, of_query}
+use Rattle.front.specs.Fault.{Fault, of_head, no_route, no_index, bad_method, bad_parameter, bad_bulk, foreign_origin, foreign_host, type_in_path, no_handler, index_exists, encoded_body, of_document, of_query}
 use Rattle.front.specs.Reply.{Reply, wrote, got, hits, counted, refreshed, promoted, refused}
 
 abbrev pub number_of : Status → List ℕ
@@ -28,6 +30,7 @@ number_of status.NotFound = codes "404"
 number_of status.BadMethod = codes "405"
 number_of status.Conflict = codes "409"
 number_of status.TooLarge = codes "413"
+number_of status.Unsupported = codes "415"
 number_of status.Misdirected = codes "421"
 number_of status.TooMany = codes "429"
 number_of status.NotImplemented = codes "501"
@@ -42,24 +45,46 @@ reason_of status.NotFound = codes "Not Found"
 reason_of status.BadMethod = codes "Method Not Allowed"
 reason_of status.Conflict = codes "Conflict"
 reason_of status.TooLarge = codes "Content Too Large"
+reason_of status.Unsupported = codes "Unsupported Media Type"
 reason_of status.Misdirected = codes "Misdirected Request"
 reason_of status.TooMany = codes "Too Many Requests"
 reason_of status.NotImplemented = codes "Not Implemented"
 reason_of status.Unavailable = codes "Service Unavailable"
 
+abbrev pub media_name : Media → List ℕ
+media_name media.Json = codes "application/json"
+media_name media.JsonInUtf8 = codes "application/json; charset=UTF-8"
+media_name media.Text = codes "text/plain; charset=UTF-8"
+
+-- the JSON of a server that greets or of one that doesn't
+abbrev pub json : Bool → Media
+json true = media.JsonInUtf8
+json false = media.Json
+
+unfoldable pub head_start : Media → Status → List ℕ
+head_start m s = codes "HTTP/1.1 " ++ (number_of s ++ (codes " " ++ (reason_of s ++ (codes "\r\ncontent-type: " ++ (media_name m ++ codes "\r\ncontent-length: ")))))
+
 -- the status line and the headers of a page whose body has this length, and the empty line
-unfoldable pub response_head : Status → List ℕ → ℕ → List ℕ
-response_head s allow n =
-    codes "HTTP/1.1 " ++ (number_of s ++ (codes " " ++ (reason_of s ++ (codes "\r\ncontent-type: application/json\r\ncontent-length: " ++ (decimal n ++ (codes "\r\n" ++ (allow ++ codes "\r\n")))))))
+unfoldable pub response_head : Media → Status → List ℕ → ℕ → List ℕ
+response_head m s allow n = head_start m s ++ (decimal n ++ (codes "\r\n" ++ (allow ++ codes "\r\n")))
 
 -- the status line, the headers and the body
-abbrev pub response : Status → List ℕ → List ℕ → List ℕ
-response s allow body = response_head s allow (length body) ++ body
+abbrev pub response : Media → Status → List ℕ → List ℕ → List ℕ
+response m s allow body = response_head m s allow (length body) ++ body
 
 -- what stands before the first empty line
 abbrev pub before_empty : List ℕ → List ℕ
 before_empty [] = []
 before_empty (b ∷ bs) = if bytes_eq (take 4 (b ∷ bs)) (codes "\r\n\r\n") then [] else b ∷ before_empty bs
+
+-- a head without its body, which no HEAD gets (RFC 9110, section 9.3.2)
+unfoldable pub head_alone : List ℕ → List ℕ
+head_alone page = before_empty page ++ codes "\r\n\r\n"
+
+-- the page of a request, if it is a HEAD or not
+abbrev pub headed : Bool → List ℕ → List ℕ
+headed true page = head_alone page
+headed false page = page
 
 -- a page with more fields after its own
 unfoldable pub with_fields : List ℕ → List ℕ → List ℕ
@@ -87,6 +112,7 @@ kind_of bad_parameter = (status.BadRequest, codes "request_fault")
 kind_of bad_bulk = (status.BadRequest, codes "request_fault")
 kind_of type_in_path = (status.BadRequest, codes "request_fault")
 kind_of no_handler = (status.BadRequest, codes "no_route")
+kind_of encoded_body = (status.Unsupported, codes "content_encoding")
 kind_of index_exists = (status.BadRequest, codes "resource_already_exists_exception")
 kind_of foreign_origin = (status.Forbidden, codes "sender_fault")
 kind_of foreign_host = (status.Misdirected, codes "sender_fault")
@@ -104,6 +130,7 @@ name_of bad_parameter = codes "BadParameter"
 name_of bad_bulk = codes "BadBulk"
 name_of type_in_path = codes "TypeInPath"
 name_of no_handler = codes "NoHandler"
+name_of encoded_body = codes "EncodedBody"
 name_of index_exists = codes "IndexExists"
 name_of foreign_origin = codes "ForeignOrigin"
 name_of foreign_host = codes "ForeignHost"
@@ -146,7 +173,7 @@ unfoldable pub error_body : List ℕ → Status × List ℕ → List ℕ
 error_body name kind = codes "{\"error\":" ++ (error name kind.1 ++ (codes ",\"status\":" ++ (number_of kind.0 ++ codes "}")))
 
 abbrev pub fault_page : Fault → List ℕ
-fault_page f = response (kind_of f).0 (allow_of f) (error_body (name_of f) (kind_of f))
+fault_page f = response media.Json (kind_of f).0 (allow_of f) (error_body (name_of f) (kind_of f))
 
 -- the type of a fault, as Elasticsearch names it where it has such a fault
 abbrev pub type_of : Fault → List ℕ
@@ -158,6 +185,10 @@ type_of bad_bulk = codes "illegal_argument_exception"
 type_of type_in_path = codes "illegal_argument_exception"
 type_of no_handler = codes "illegal_argument_exception"
 type_of f = (kind_of f).1
+
+-- the object that names a refusal, and says in a sentence why
+unfoldable pub told_error : List ℕ → List ℕ → List ℕ → List ℕ
+told_error name sentence kind = codes "{\"name\":\"" ++ (name ++ (codes "\",\"reason\":" ++ (sentence ++ (codes ",\"type\":\"" ++ (kind ++ codes "\"}")))))
 
 -- the object that says in a sentence why something is refused
 unfoldable pub cause : List ℕ → List ℕ → List ℕ
@@ -172,10 +203,33 @@ explained_body name sentence kind s = codes "{\"error\":" ++ (explained_error na
 
 -- the page of a fault, with a sentence that says why
 abbrev pub explained_page : Fault → List ℕ → List ℕ
-explained_page f why = response (kind_of f).0 (allow_of f) (explained_body (name_of f) (quoted why) (type_of f) (kind_of f).0)
+explained_page f why = response media.JsonInUtf8 (kind_of f).0 (allow_of f) (explained_body (name_of f) (quoted why) (type_of f) (kind_of f).0)
 
-abbrev pub refusal_page : Refusal → List ℕ
-refusal_page r = response (refusal_kind r).0 [] (error_body (refusal_name r) (refusal_kind r))
+-- the type of a refusal, as Elasticsearch names it
+abbrev pub refusal_type : Refusal → List ℕ
+refusal_type VersionConflict = codes "version_conflict_engine_exception"
+refusal_type WindowFull = codes "es_rejected_execution_exception"
+refusal_type r = codes "unavailable_shards_exception"
+
+-- why a service refuses a command, in a sentence
+abbrev pub refusal_words : Refusal → List ℕ
+refusal_words NotPrimary = codes "no copy leads, or the one that led was followed by another before the write was confirmed, so the write may be kept or not"
+refusal_words VersionConflict = codes "the document has other numbers than the write asks for, or it is there already"
+refusal_words WindowFull = codes "too many writes wait for other copies"
+refusal_words Mismatch = codes "the answer was of another kind than the command"
+refusal_words Closed = codes "the copy is closed by a fault of its log"
+refusal_words Log = codes "the log can't be written, so the write is there whole or not at all"
+refusal_words NoMemory = codes "memory ran out"
+refusal_words NoSuchCopy = codes "there is no such copy"
+refusal_words NotInSync = codes "the copy isn't in sync"
+refusal_words Gone = codes "the copy has left for good"
+refusal_words IsPrimary = codes "the copy is the primary"
+refusal_words Full = codes "the master's table is full"
+refusal_words r = codes "the copy can't do it now"
+
+abbrev pub refusal_page : Bool → Refusal → List ℕ
+refusal_page false r = response media.Json (refusal_kind r).0 [] (error_body (refusal_name r) (refusal_kind r))
+refusal_page true r = response media.JsonInUtf8 (refusal_kind r).0 [] (explained_body (refusal_name r) (quoted (refusal_words r)) (refusal_type r) (refusal_kind r).0)
 
 unfoldable pub shards : ℕ → List ℕ
 shards n = codes "{\"failed\":0,\"successful\":" ++ (decimal n ++ (codes ",\"total\":" ++ (decimal n ++ codes "}")))
@@ -192,37 +246,45 @@ outcome_status Updated = status.Good
 outcome_status Deleted = status.Good
 outcome_status NotFound = status.NotFound
 
--- the first fields in the object of a document: its id and its index
-unfoldable pub place : List ℕ → List ℕ → List ℕ
-place id index = codes "\"_id\":" ++ (quoted id ++ (codes ",\"_index\":" ++ quoted index))
+-- the field of a document's type, by a server that greets: Elasticsearch 7 has one type
+abbrev pub type_field : Bool → List ℕ
+type_field true = codes ",\"_type\":\"_doc\""
+type_field false = []
 
-unfoldable pub wrote_front : List ℕ → List ℕ → Wrote → List ℕ
-wrote_front id index w = place id index ++ (codes ",\"_primary_term\":" ++ (decimal w.term ++ (codes ",\"_seq_no\":" ++ decimal w.seq)))
+unfoldable pub index_field : Bool → List ℕ → List ℕ
+index_field greets index = codes ",\"_index\":" ++ (quoted index ++ type_field greets)
+
+-- the first fields in the object of a document: its id and its index
+unfoldable pub place : Bool → List ℕ → List ℕ → List ℕ
+place greets id index = codes "\"_id\":" ++ (quoted id ++ index_field greets index)
+
+unfoldable pub wrote_front : Bool → List ℕ → List ℕ → Wrote → List ℕ
+wrote_front greets id index w = place greets id index ++ (codes ",\"_primary_term\":" ++ (decimal w.term ++ (codes ",\"_seq_no\":" ++ decimal w.seq)))
 
 unfoldable pub wrote_end : Wrote → List ℕ
 wrote_end w = codes "\"_version\":" ++ (decimal w.version ++ (codes ",\"result\":\"" ++ (outcome_name w.outcome ++ codes "\"")))
 
-unfoldable pub wrote_middle : List ℕ → List ℕ → Wrote → List ℕ
-wrote_middle id index w = wrote_front id index w ++ (codes ",\"_shards\":" ++ shards w.copies)
+unfoldable pub wrote_middle : Bool → List ℕ → List ℕ → Wrote → List ℕ
+wrote_middle greets id index w = wrote_front greets id index w ++ (codes ",\"_shards\":" ++ shards w.copies)
 
-unfoldable pub wrote_fields : List ℕ → List ℕ → Wrote → List ℕ
-wrote_fields id index w = wrote_middle id index w ++ (codes "," ++ wrote_end w)
+unfoldable pub wrote_fields : Bool → List ℕ → List ℕ → Wrote → List ℕ
+wrote_fields greets id index w = wrote_middle greets id index w ++ (codes "," ++ wrote_end w)
 
-abbrev pub wrote_page : List ℕ → List ℕ → Wrote → List ℕ
-wrote_page index id w = response (outcome_status w.outcome) [] (codes "{" ++ (wrote_fields id index w ++ codes "}"))
+abbrev pub wrote_page : Bool → List ℕ → List ℕ → Wrote → List ℕ
+wrote_page greets index id w = response (json greets) (outcome_status w.outcome) [] (codes "{" ++ (wrote_fields greets id index w ++ codes "}"))
 
-unfoldable pub found_body : List ℕ → List ℕ → Found → List ℕ
-found_body id index f =
-    codes "{" ++ (place id index ++ (codes ",\"_primary_term\":" ++ (decimal f.term ++ (codes ",\"_seq_no\":" ++ (decimal f.seq ++ (codes ",\"_source\":" ++ (f.source
+unfoldable pub found_body : Bool → List ℕ → List ℕ → Found → List ℕ
+found_body greets id index f =
+    codes "{" ++ (place greets id index ++ (codes ",\"_primary_term\":" ++ (decimal f.term ++ (codes ",\"_seq_no\":" ++ (decimal f.seq ++ (codes ",\"_source\":" ++ (f.source
     ++ (codes ",\"_version\":" ++ (decimal f.version ++ codes ",\"found\":true}")))))))))
 
-abbrev pub got_page : List ℕ → List ℕ → Option Found → List ℕ
-got_page index id None = response status.NotFound [] (codes "{" ++ (place id index ++ codes ",\"found\":false}"))
-got_page index id (Some f) = response status.Good [] (found_body id index f)
+abbrev pub got_page : Bool → List ℕ → List ℕ → Option Found → List ℕ
+got_page greets index id None = response (json greets) status.NotFound [] (codes "{" ++ (place greets id index ++ codes ",\"found\":false}"))
+got_page greets index id (Some f) = response (json greets) status.Good [] (found_body greets id index f)
 
 -- what stands between a hit's id and its source
-unfoldable pub hit_middle : List ℕ → List ℕ
-hit_middle index = codes ",\"_index\":" ++ (quoted index ++ codes ",\"_score\":null,\"_source\":")
+unfoldable pub hit_middle : Bool → List ℕ → List ℕ
+hit_middle greets index = index_field greets index ++ codes ",\"_score\":null,\"_source\":"
 
 unfoldable pub hit_text : List ℕ → Hit → List ℕ
 hit_text middle h = codes "{\"_id\":" ++ (quoted h.id ++ (middle ++ (h.source ++ codes "}")))
@@ -240,9 +302,9 @@ hits_text middle (h ∷ hs) = hit_text middle h ++ more_hits middle hs
 unfoldable pub hits_end : ℕ → List ℕ
 hits_end total = codes "],\"max_score\":null,\"total\":{\"relation\":\"eq\",\"value\":" ++ (decimal total ++ codes "}},\"timed_out\":false,\"took\":0}")
 
-unfoldable pub hits_body : List ℕ → ℕ → List Hit → List ℕ
-hits_body index total hs =
-    codes "{\"_shards\":{\"failed\":0,\"skipped\":0,\"successful\":1,\"total\":1},\"hits\":{\"hits\":[" ++ (hits_text (hit_middle index) hs ++ hits_end total)
+unfoldable pub hits_body : Bool → List ℕ → ℕ → List Hit → List ℕ
+hits_body greets index total hs =
+    codes "{\"_shards\":{\"failed\":0,\"skipped\":0,\"successful\":1,\"total\":1},\"hits\":{\"hits\":[" ++ (hits_text (hit_middle greets index) hs ++ hits_end total)
 
 unfoldable pub counted_body : ℕ → List ℕ
 counted_body n = codes "{\"_shards\":{\"failed\":0,\"skipped\":0,\"successful\":1,\"total\":1},\"count\":" ++ (decimal n ++ codes "}")
@@ -273,12 +335,12 @@ subject_of refresh = refreshing
 subject_of (promote copy) = promoting
 
 -- the page of a reply; for a reply of another kind than the command's, the page of the refusal `Mismatch`
-abbrev pub reply_page : List ℕ → Subject → Reply → List ℕ
-reply_page index s (refused r) = refusal_page r
-reply_page index (written id) (wrote w) = wrote_page index id w
-reply_page index (sought id) (got f) = got_page index id f
-reply_page index searching (hits total hs) = response status.Good [] (hits_body index total hs)
-reply_page index counting (counted n) = response status.Good [] (counted_body n)
-reply_page index refreshing (refreshed n) = response status.Good [] (refreshed_body n)
-reply_page index promoting (promoted copy term) = response status.Good [] (promoted_body copy term)
-reply_page index s r = refusal_page Mismatch
+abbrev pub reply_page : Bool → List ℕ → Subject → Reply → List ℕ
+reply_page greets index s (refused r) = refusal_page greets r
+reply_page greets index (written id) (wrote w) = wrote_page greets index id w
+reply_page greets index (sought id) (got f) = got_page greets index id f
+reply_page greets index searching (hits total hs) = response (json greets) status.Good [] (hits_body greets index total hs)
+reply_page greets index counting (counted n) = response (json greets) status.Good [] (counted_body n)
+reply_page greets index refreshing (refreshed n) = response (json greets) status.Good [] (refreshed_body n)
+reply_page greets index promoting (promoted copy term) = response (json greets) status.Good [] (promoted_body copy term)
+reply_page greets index s r = refusal_page greets Mismatch

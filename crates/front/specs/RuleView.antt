@@ -9,4 +9,4 @@ abbrev pub admission_view : kept.Admission → Admission
 admission_view a = record { origins = map string_bytes a.origins.items; names = map string_bytes a.names.items }
 
 abbrev pub rule_view : rules.Rule → Rule
-rule_view r = record { greets = r.greets; admission = admission_view r.admission }
+rule_view r = record { greets = r.greets; admission = admission_view r.admission; most = r.most; idle = r.idle }

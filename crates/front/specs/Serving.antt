@@ -1,5 +1,5 @@
 -- Requests that a service answers one after another.
-use Rattle.std.specs.Prelude.{◌≡◌, ℕ, List, [], ◌∷◌, ◌++◌, length, Option, Some}
+use Rattle.std.specs.Prelude.{◌≡◌, ℕ, Bool, false, List, [], ◌∷◌, ◌++◌, length, Option, Some}
 use Rattle.std.specs.Io.KnownBytes.{Appends}
 use Rattle.doc.specs.Mapping.{MappingData}
 use Rattle.wire.specs.Bytes.{IsFront}
@@ -11,11 +11,12 @@ use Rattle.wire.specs.Requests.{Standing, requests}
 use Rattle.front.specs.Calls.{Calls}
 use Rattle.front.specs.Work.{Work, work_of, commands, page}
 
--- the service was called with exactly the commands of this work, and this is the page of its replies
-pub record Answered {S : Type 0} (answers : S → Command → Reply → S → Type 0) (index : List ℕ) (w : Work) (s : S) (out : List ℕ) (t : S) : Type 0 where
+-- the service was called with exactly the commands of this work, and this is the page of its replies, by a server that greets or one that doesn't
+pub record Answered {S : Type 0} (greets : Bool) (answers : S → Command → Reply → S → Type 0) (index : List ℕ) (w : Work) (s : S) (out : List ℕ) (t : S) : Type 0 where
   pub replies : List Reply
+  pub whys : List (List ℕ)
   pub called : Calls answers s (commands w) replies t
-  pub is_page : out ≡ page index w replies
+  pub is_page : out ≡ page greets whys index w replies
 
 -- the service was called with the first commands of this work
 pub record Begun {S : Type 0} (answers : S → Command → Reply → S → Type 0) (w : Work) (s t : S) : Type 0 where
@@ -29,7 +30,7 @@ pub record Begun {S : Type 0} (answers : S → Command → Reply → S → Type 
 abbrev pub Serves : {S : Type 0} → (S → Command → Reply → S → Type 0) → List ℕ → MappingData → S → List Standing → List ℕ → S → Type 0
 Serves {S} answers index mapping s [] out t = (t ≡ s) × (out ≡ [])
 Serves {S} answers index mapping s (q ∷ qs) out t =
-    (m : S) × (one : List ℕ) × (rest : List ℕ) × Answered answers index (work_of index mapping q) s one m × Serves answers index mapping m qs rest t × (out ≡ one ++ rest)
+    (m : S) × (one : List ℕ) × (rest : List ℕ) × Answered false answers index (work_of index mapping q) s one m × Serves answers index mapping m qs rest t × (out ≡ one ++ rest)
 
 -- some commands of the first of these requests were done, and nothing was written
 abbrev pub HasBegun : {S : Type 0} → (S → Command → Reply → S → Type 0) → List ℕ → MappingData → S → List Standing → List ℕ → S → Type 0
@@ -39,7 +40,7 @@ HasBegun answers index mapping s (q ∷ qs) part t = Begun answers (work_of inde
 -- all commands of the first of these requests were done, and a beginning of its page was written
 abbrev pub HasPage : {S : Type 0} → (S → Command → Reply → S → Type 0) → List ℕ → MappingData → S → List Standing → List ℕ → S → Type 0
 HasPage answers index mapping s [] part t = ⊥
-HasPage answers index mapping s (q ∷ qs) part t = (one : List ℕ) × Answered answers index (work_of index mapping q) s one t × IsFront part one
+HasPage answers index mapping s (q ∷ qs) part t = (one : List ℕ) × Answered false answers index (work_of index mapping q) s one t × IsFront part one
 
 -- what was done for the requests after those that were answered. If reading failed, nothing. If writing failed, all commands of the first one, and a beginning
 -- of its page was written. If memory ran out, some commands of the first one
@@ -63,14 +64,14 @@ pub record CutShort {S : Type 0} (answers : S → Command → Reply → S → Ty
 -- the requests of the bytes were answered, this is how many they are, and their pages were written
 pub record Served {S : Type 0} (answers : S → Command → Reply → S → Type 0) (index : List ℕ) (mapping : MappingData) (s t : S) (old new : Option (List ℕ)) (count : ℕ) (bytes : List ℕ) : Type 0 where
   pub out : List ℕ
-  pub serves : Serves answers index mapping s (requests bytes) out t
+  pub serves : Serves answers index mapping s (requests 1048576 bytes) out t
   pub written : Appends old new out
-  pub counted : count ≡ length (requests bytes)
+  pub counted : count ≡ length (requests 1048576 bytes)
 
 -- the first requests of the bytes were answered, those after them in part, depending on the fault, and what was written is a beginning of their pages
 pub record Stopped {S : Type 0} (answers : S → Command → Reply → S → Type 0) (index : List ℕ) (mapping : MappingData) (s t : S) (old new : Option (List ℕ)) (fault : StreamFault) (bytes : List ℕ) : Type 0 where
   pub out : List ℕ
-  pub cut : CutShort answers index mapping fault s (requests bytes) out t
+  pub cut : CutShort answers index mapping fault s (requests 1048576 bytes) out t
   pub written : Appends old new out
 
 -- the first requests of the bytes were answered, and the bytes that are left have the others
@@ -78,7 +79,7 @@ pub record Going {S : Type 0} (answers : S → Command → Reply → S → Type 
   pub rest : List ℕ
   pub is_left : left ≡ Some rest
   pub done : List Standing
-  pub split : requests bytes ≡ done ++ requests rest
+  pub split : requests 1048576 bytes ≡ done ++ requests 1048576 rest
   pub counted : count ≡ length done
   pub out : List ℕ
   pub serves : Serves answers index mapping s done out t

@@ -30,14 +30,15 @@ commands (refused f) = []
 commands (single c) = c ∷ []
 commands (bulk index mapping wanted items) = bulk_commands index mapping wanted items
 
-abbrev pub single_page : List ℕ → Command → List Reply → List ℕ
-single_page index c [] = []
-single_page index c (r ∷ rs) = reply_page index (subject_of c) r
+abbrev pub single_page : Bool → List ℕ → Command → List Reply → List ℕ
+single_page greets index c [] = []
+single_page greets index c (r ∷ rs) = reply_page greets index (subject_of c) r
 
-abbrev pub page : List ℕ → Work → List Reply → List ℕ
-page index (refused f) replies = fault_page f
-page index (single c) replies = single_page index c replies
-page index (bulk served mapping wanted items) replies = bulk_page (bulk_texts served mapping items (to_writes served mapping items replies)) (bulk_refusal (behind_writes served mapping items replies))
+-- the page of what was done, by a server that greets or one that doesn't, with a sentence for each item of a bulk that has a fault
+abbrev pub page : Bool → List (List ℕ) → List ℕ → Work → List Reply → List ℕ
+page greets whys index (refused f) replies = fault_page f
+page greets whys index (single c) replies = single_page greets index c replies
+page greets whys index (bulk served mapping wanted items) replies = bulk_page greets (bulk_texts served mapping greets items whys (to_writes served mapping items replies)) (bulk_refusal (behind_writes served mapping items replies))
 
 -- the page of a request; if it is refused by a server that greets, its page has a sentence
 abbrev pub explained : Work → Bool → List ℕ → List ℕ → List ℕ

@@ -8,7 +8,7 @@ ghost use Rattle.front.specs.RuleView.{admission_view};
 ghost use Rattle.wire.specs.Framing.{is_named};
 ghost use Rattle.wire.specs.Reading.{request_view, sender_view};
 
-use crate::page::{Status, response};
+use crate::page::{Media, Status, response};
 use crate::pieces::Page;
 use crate::request_fault::RequestFault;
 use std::alloc::{AllocError, Global};
@@ -139,7 +139,10 @@ pub(crate) fn is_preflight(request: &Request) -> bool
 pub(crate) fn preflight_page(alloc: Global) -> Result<Page, AllocError>
     ensures { IfOk result (λ p. p ≡ spec.preflight_page) }
 {
-    Ok(Page::of(alloc, response(alloc, Status::Good, PREFLIGHT, "")?))
+    Ok(Page::of(
+        alloc,
+        response(alloc, Media::Json, Status::Good, PREFLIGHT, "")?,
+    ))
 }
 
 /// Opens a page to the first origin that its request names. If the request names none, the page stays as it is.

@@ -9,7 +9,11 @@ ghost use Rattle.front.specs.Target.{check};
 ghost use Rattle.front.specs.ReplyView.{reply_view};
 
 use crate::command::{Change, Command, Condition, Write};
-use crate::page::{Status, error, kind_of, name_of, outcome_status, place, response, wrote_fields};
+use crate::explaining::item_sentence;
+use crate::page::{
+    Status, error, json, kind_of, name_of, outcome_status, place, response, told_error, type_of,
+    wrote_fields,
+};
 use crate::reply::{ItemReply, Refusal, Reply, Wrote};
 use crate::request_fault::RequestFault;
 use crate::service::Service;
@@ -75,18 +79,19 @@ const MOST_WRITES: usize = 1024;
 /// Does the items of a bulk in order, and then one refresh, if that is wanted and any item was a write.
 pub(crate) fn do_items<'b, S: Service>(
     alloc: Global,
+    greets: bool,
     service: &mut S,
     refresh: bool,
     items: &[Item<'b>],
 ) -> Result<Done, AllocError>
-    ensures ok { IfOk result (λ done. spec.BulkDone S.answers (S.name service.old) (S.fields service.old) refresh (map item_view items.now)
+    ensures ok { IfOk result (λ done. spec.BulkDone greets S.answers (S.name service.old) (S.fields service.old) refresh (map item_view items.now)
         service.old (map text_view done.texts.items) done.refusal service.new) }
     ensures err { OnErr result (spec.BegunOf S.answers (spec.bulk_commands (S.name service.old) (S.fields service.old) refresh (map item_view items.now))
         service.old service.new) }
     ensures name { S.name service.new ≡ S.name service.old }
     ensures fields { S.fields service.new ≡ S.fields service.old }
 {
-    let Written { texts, is_any } = do_writes(alloc, service, items)?;
+    let Written { texts, is_any } = do_writes(alloc, greets, service, items)?;
     let refusal = do_refresh(service, refresh && is_any);
     Ok(Done { texts, refusal })
 }
@@ -94,10 +99,11 @@ pub(crate) fn do_items<'b, S: Service>(
 /// Does the writes of items in order, with one command for each 1,024 of them and one for the rest. A refusal of one doesn't stop the others.
 fn do_writes<'b, S: Service>(
     alloc: Global,
+    greets: bool,
     service: &mut S,
     items: &[Item<'b>],
 ) -> Result<Written, AllocError>
-    ensures ok { IfOk result (λ w. spec.WritesDone S.answers (S.name service.old) (S.fields service.old) (map item_view items.now)
+    ensures ok { IfOk result (λ w. spec.WritesDone greets S.answers (S.name service.old) (S.fields service.old) (map item_view items.now)
         service.old (map text_view w.texts.items) service.new) }
     ensures any { IfOk result (λ w. w.is_any ≡ spec.is_any (spec.write_commands (S.name service.old) (S.fields service.old) (map item_view items.now))) }
     ensures err { OnErr result (spec.BegunOf S.answers (spec.write_commands (S.name service.old) (S.fields service.old) (map item_view items.now))
@@ -109,7 +115,7 @@ fn do_writes<'b, S: Service>(
     let mut is_any = false;
     let mut left = items;
     while !left.is_empty() {
-        let mut done = do_part(alloc, service, left)?;
+        let mut done = do_part(alloc, greets, service, left)?;
         left = &left[done.texts.len()..];
         texts.append(&mut done.texts)?;
         is_any = is_any || done.is_any;
@@ -146,11 +152,12 @@ fn refusal_in(reply: &Reply) -> Option<Refusal>
 /// Does the first part of the items, up to the 1,024th write, with one command for all its writes.
 fn do_part<'b, S: Service>(
     alloc: Global,
+    greets: bool,
     service: &mut S,
     items: &[Item<'b>],
 ) -> Result<Written, AllocError>
     ensures part { IfOk result (λ w. spec.IsPart (S.name service.old) (S.fields service.old) (map item_view items.now) (length w.texts.items)) }
-    ensures ok { IfOk result (λ w. spec.PartDone S.answers (S.name service.old) (S.fields service.old) (take (length w.texts.items) (map item_view items.now))
+    ensures ok { IfOk result (λ w. spec.PartDone greets S.answers (S.name service.old) (S.fields service.old) (take (length w.texts.items) (map item_view items.now))
         service.old (map text_view w.texts.items) service.new) }
     ensures any { IfOk result (λ w. w.is_any ≡ spec.is_any (spec.batch (spec.writes_of (S.name service.old) (S.fields service.old) (take (length w.texts.items) (map item_view items.now))))) }
     ensures err { OnErr result (spec.BegunOf S.answers (spec.write_commands (S.name service.old) (S.fields service.old) (map item_view items.now))
@@ -158,23 +165,30 @@ fn do_part<'b, S: Service>(
     ensures name { S.name service.new ≡ S.name service.old }
     ensures fields { S.fields service.new ≡ S.fields service.old }
 {
-    let Part { writes, steps } = read_part(alloc, service.index(), service.mapping(), items)?;
+    let Part { writes, steps } = read_part(
+        alloc,
+        greets,
+        service.index(),
+        service.mapping(),
+        items,
+    )?;
     let is_any = !writes.is_empty();
     let reply = hand_over(alloc, service, writes);
-    let texts = texts_of(alloc, steps, &reply)?;
+    let texts = texts_of(alloc, greets, steps, &reply)?;
     Ok(Written { texts, is_any })
 }
 
 /// Reads the sources of the first items, up to the 1,024th write.
 fn read_part<'i, 'b>(
     alloc: Global,
+    greets: bool,
     served: &str,
     mapping: &Mapping,
     items: &'i [Item<'b>],
 ) -> Result<Part<'i, 'b>, AllocError>
     ensures part { IfOk result (λ p. spec.IsPart served.now mapping.now (map item_view items.now) (length p.steps.items)) }
     ensures writes { IfOk result (λ p. p.writes.items ≡ spec.writes_of served.now mapping.now (take (length p.steps.items) (map item_view items.now))) }
-    ensures steps { IfOk result (λ p. map step_view p.steps.items ≡ spec.steps_of served.now mapping.now 0 (take (length p.steps.items) (map item_view items.now))) }
+    ensures steps { IfOk result (λ p. spec.AreSteps greets served.now mapping.now (take (length p.steps.items) (map item_view items.now)) (map step_view p.steps.items)) }
 {
     let mut writes = Vec::new(alloc);
     let mut steps = Vec::new(alloc);
@@ -182,7 +196,7 @@ fn read_part<'i, 'b>(
         if writes.len() == MOST_WRITES {
             break;
         }
-        let step = read_item(alloc, served, mapping, item, &mut writes)?;
+        let step = read_item(alloc, greets, served, mapping, item, &mut writes)?;
         steps.push(step)?;
     }
     Ok(Part { writes, steps })
@@ -191,12 +205,13 @@ fn read_part<'i, 'b>(
 /// Reads an item's source. Appends its write to `writes`, or, if the item has a fault, returns the text of the fault.
 fn read_item<'i, 'b>(
     alloc: Global,
+    greets: bool,
     served: &str,
     mapping: &Mapping,
     item: &'i Item<'b>,
     writes: &mut Vec<Write>,
 ) -> Result<Step<'i, 'b>, AllocError>
-    ensures step { IfOk result (λ s. step_view s ≡ spec.step_of (item_view item.now) (length writes.old.items) (spec.item_write served.now mapping.now (item_view item.now))) }
+    ensures step { IfOk result (λ s. spec.IsStepOf greets (item_view item.now) (length writes.old.items) (spec.item_write served.now mapping.now (item_view item.now)) (step_view s)) }
     ensures writes { OnOk result (writes.new.items ≡ writes.old.items ++ spec.good (spec.item_write served.now mapping.now (item_view item.now))) }
 {
     match item_write(alloc, served, mapping, item) {
@@ -208,7 +223,7 @@ fn read_item<'i, 'b>(
         Err(fault) => if fault.is_memory() {
             Err(AllocError)
         } else {
-            Ok(Step::Told(fault_text(alloc, item, &fault)?))
+            Ok(Step::Told(fault_text(alloc, greets, served, mapping, item, &fault)?))
         },
     }
 }
@@ -229,28 +244,30 @@ fn hand_over<S: Service>(alloc: Global, service: &mut S, writes: Vec<Write>) -> 
 /// The texts of a part's items, made from the reply to their writes.
 fn texts_of<'i, 'b>(
     alloc: Global,
+    greets: bool,
     steps: Vec<Step<'i, 'b>>,
     reply: &Reply,
 ) -> Result<Vec<ItemText>, AllocError>
-    ensures { IfOk result (λ ts. map text_view ts.items ≡ map (spec.step_text (reply_view reply.now)) (map step_view steps.entry.items)) }
+    ensures { IfOk result (λ ts. map text_view ts.items ≡ map (spec.step_text greets (reply_view reply.now)) (map step_view steps.entry.items)) }
 {
     let mut texts = Vec::new(alloc);
     for step in steps {
-        texts.push(step_text(alloc, step, reply)?)?;
+        texts.push(step_text(alloc, greets, step, reply)?)?;
     }
     Ok(texts)
 }
 
 fn step_text<'i, 'b>(
     alloc: Global,
+    greets: bool,
     step: Step<'i, 'b>,
     reply: &Reply,
 ) -> Result<ItemText, AllocError>
-    ensures { IfOk result (λ t. text_view t ≡ spec.step_text (reply_view reply.now) (step_view step.entry)) }
+    ensures { IfOk result (λ t. text_view t ≡ spec.step_text greets (reply_view reply.now) (step_view step.entry)) }
 {
     match step {
         Step::Told(text) => Ok(text),
-        Step::Waits(item, place) => reply_text(alloc, item, item_reply(reply, place)),
+        Step::Waits(item, place) => reply_text(alloc, greets, item, item_reply(reply, place)),
     }
 }
 
@@ -314,12 +331,17 @@ fn change_of<'b>(alloc: Global, mapping: &Mapping, item: &Item<'b>) -> Result<Ch
     }
 }
 
-fn reply_text<'b>(alloc: Global, item: &Item<'b>, reply: ItemReply) -> Result<ItemText, AllocError>
-    ensures { IfOk result (λ t. text_view t ≡ spec.reply_text (item_view item.now) reply) }
+fn reply_text<'b>(
+    alloc: Global,
+    greets: bool,
+    item: &Item<'b>,
+    reply: ItemReply,
+) -> Result<ItemText, AllocError>
+    ensures { IfOk result (λ t. text_view t ≡ spec.reply_text greets (item_view item.now) reply) }
 {
     match reply {
         ItemReply::Wrote(wrote) => {
-            let inner = wrote_inner(alloc, item, wrote)?;
+            let inner = wrote_inner(alloc, greets, item, wrote)?;
             let text = item_text(alloc, item, inner.as_str())?;
             Ok(ItemText {
                 failed: false,
@@ -327,33 +349,80 @@ fn reply_text<'b>(alloc: Global, item: &Item<'b>, reply: ItemReply) -> Result<It
             })
         }
         ItemReply::Refused(refusal) => {
-            let (status, kind) = refusal.kind();
-            refusal_text(alloc, item, refusal.name(), status, kind)
+            let named = refusal_error(alloc, greets, refusal)?;
+            let (status, _) = refusal.kind();
+            refusal_text(alloc, greets, item, named.as_str(), status)
         }
     }
 }
 
+/// The object that names a refusal. If the server greets, a sentence says why.
+fn refusal_error(alloc: Global, greets: bool, refusal: Refusal) -> Result<String, AllocError>
+    ensures { IfOk result (λ t. string_bytes t ≡ spec.refusal_error greets refusal) }
+{
+    if greets {
+        return told_error(alloc, refusal.name(), refusal.words(), refusal.type_name());
+    }
+    error(alloc, refusal.name(), refusal.kind().1)
+}
+
 fn fault_text<'b>(
     alloc: Global,
+    greets: bool,
+    served: &str,
+    mapping: &Mapping,
     item: &Item<'b>,
     fault: &RequestFault,
 ) -> Result<ItemText, AllocError>
-    ensures { IfOk result (λ t. IfSome (fault_of fault.now) (λ f. text_view t ≡ spec.fault_text (item_view item.now) f)) }
+    ensures { IfOk result (λ t. IfSome (fault_of fault.now) (λ f. spec.IsFaultText greets (item_view item.now) f (text_view t))) }
 {
-    let (status, kind) = kind_of(fault);
-    refusal_text(alloc, item, name_of(fault), status, kind)
+    let why = if greets {
+        item_sentence(alloc, served, mapping, fault, item.source)?
+    } else {
+        String::new(alloc)
+    };
+    fault_text_with(alloc, greets, why.as_str(), item, fault)
+}
+
+fn fault_text_with<'b>(
+    alloc: Global,
+    greets: bool,
+    why: &str,
+    item: &Item<'b>,
+    fault: &RequestFault,
+) -> Result<ItemText, AllocError>
+    ensures { IfOk result (λ t. IfSome (fault_of fault.now) (λ f. text_view t ≡ spec.fault_text greets why.now (item_view item.now) f)) }
+{
+    let named = fault_error(alloc, greets, why, fault)?;
+    let (status, _) = kind_of(fault);
+    refusal_text(alloc, greets, item, named.as_str(), status)
+}
+
+/// The object that names a fault. If the server greets, a sentence says why.
+fn fault_error(
+    alloc: Global,
+    greets: bool,
+    why: &str,
+    fault: &RequestFault,
+) -> Result<String, AllocError>
+    ensures { IfOk result (λ t. IfSome (fault_of fault.now) (λ f. string_bytes t ≡ spec.fault_error greets why.now f)) }
+{
+    if greets {
+        return told_error(alloc, name_of(fault), why, type_of(fault));
+    }
+    error(alloc, name_of(fault), kind_of(fault).1)
 }
 
 fn refusal_text<'b>(
     alloc: Global,
+    greets: bool,
     item: &Item<'b>,
-    name: &str,
+    named: &str,
     status: Status,
-    kind: &str,
 ) -> Result<ItemText, AllocError>
-    ensures { IfOk result (λ t. text_view t ≡ spec.refusal_text (item_view item.now) name.now (status, kind.now)) }
+    ensures { IfOk result (λ t. text_view t ≡ spec.refusal_text greets (item_view item.now) named.now status) }
 {
-    let inner = error_inner(alloc, item, name, status, kind)?;
+    let inner = error_inner(alloc, greets, item, named, status)?;
     let text = item_text(alloc, item, inner.as_str())?;
     Ok(ItemText { failed: true, text })
 }
@@ -379,31 +448,35 @@ impl Action {
 }
 
 #[tactic(auto, unfolding(crate::specs::Bulk::wrote_inner))]
-fn wrote_inner<'b>(alloc: Global, item: &Item<'b>, wrote: Wrote) -> Result<String, AllocError>
-    ensures { IfOk result (λ t. string_bytes t ≡ spec.wrote_inner (item_view item.now) wrote) }
+fn wrote_inner<'b>(
+    alloc: Global,
+    greets: bool,
+    item: &Item<'b>,
+    wrote: Wrote,
+) -> Result<String, AllocError>
+    ensures { IfOk result (λ t. string_bytes t ≡ spec.wrote_inner greets (item_view item.now) wrote) }
 {
-    let fields = wrote_fields(alloc, item.id.as_str(), item.index.as_str(), wrote)?;
+    let fields = wrote_fields(alloc, greets, item.id.as_str(), item.index.as_str(), wrote)?;
     let fields = fields.as_str();
     let number = outcome_status(wrote.outcome).number();
     format!(in alloc; "{fields},\"status\":{number}")
 }
 
+/// The fields of an item that was refused, given the object that names the refusal.
 #[tactic(auto, unfolding(crate::specs::Bulk::error_inner))]
 fn error_inner<'b>(
     alloc: Global,
+    greets: bool,
     item: &Item<'b>,
-    name: &str,
+    named: &str,
     status: Status,
-    kind: &str,
 ) -> Result<String, AllocError>
-    ensures { IfOk result (λ t. string_bytes t ≡ spec.error_inner (item_view item.now) name.now (status, kind.now)) }
+    ensures { IfOk result (λ t. string_bytes t ≡ spec.error_inner greets (item_view item.now) named.now status) }
 {
-    let place = place(alloc, item.id.as_str(), item.index.as_str())?;
+    let place = place(alloc, greets, item.id.as_str(), item.index.as_str())?;
     let place = place.as_str();
-    let error = error(alloc, name, kind)?;
-    let error = error.as_str();
     let number = status.number();
-    format!(in alloc; "{place},\"error\":{error},\"status\":{number}")
+    format!(in alloc; "{place},\"error\":{named},\"status\":{number}")
 }
 
 fn more_texts(alloc: Global, texts: &[ItemText]) -> Result<String, AllocError>
@@ -449,29 +522,34 @@ fn truth(b: bool) -> &'static str
 }
 
 /// The field that says why the refresh was refused, if it was.
-fn refresh_field(alloc: Global, refusal: Option<Refusal>) -> Result<String, AllocError>
-    ensures { IfOk result (λ t. string_bytes t ≡ spec.refresh_field refusal) }
+fn refresh_field(
+    alloc: Global,
+    greets: bool,
+    refusal: Option<Refusal>,
+) -> Result<String, AllocError>
+    ensures { IfOk result (λ t. string_bytes t ≡ spec.refresh_field greets refusal) }
 {
     let Some(refusal) = refusal else {
         return Ok(String::new(alloc));
     };
-    let error = error(alloc, refusal.name(), refusal.kind().1)?;
-    let error = error.as_str();
-    format!(in alloc; ",\"refresh\":{error}")
+    let named = refusal_error(alloc, greets, refusal)?;
+    let named = named.as_str();
+    format!(in alloc; ",\"refresh\":{named}")
 }
 
 #[tactic(auto, unfolding(crate::specs::Bulk::bulk_body))]
 fn bulk_body(
     alloc: Global,
+    greets: bool,
     texts: &[ItemText],
     refusal: Option<Refusal>,
 ) -> Result<String, AllocError>
-    ensures { IfOk result (λ t. string_bytes t ≡ spec.bulk_body (map text_view texts.now) refusal) }
+    ensures { IfOk result (λ t. string_bytes t ≡ spec.bulk_body greets (map text_view texts.now) refusal) }
 {
     let errors = truth(has_failed(texts));
     let items = joined(alloc, texts)?;
     let items = items.as_str();
-    let refresh = refresh_field(alloc, refusal)?;
+    let refresh = refresh_field(alloc, greets, refusal)?;
     let refresh = refresh.as_str();
     format!(in alloc; "{{\"errors\":{errors},\"items\":[{items}]{refresh},\"took\":0}}")
 }
@@ -479,11 +557,12 @@ fn bulk_body(
 /// The page that says what a bulk did.
 pub(crate) fn bulk_page(
     alloc: Global,
+    greets: bool,
     texts: &[ItemText],
     refusal: Option<Refusal>,
 ) -> Result<String, AllocError>
-    ensures { IfOk result (λ page. string_bytes page ≡ spec.bulk_page (map text_view texts.now) refusal) }
+    ensures { IfOk result (λ page. string_bytes page ≡ spec.bulk_page greets (map text_view texts.now) refusal) }
 {
-    let body = bulk_body(alloc, texts, refusal)?;
-    response(alloc, Status::Good, "", body.as_str())
+    let body = bulk_body(alloc, greets, texts, refusal)?;
+    response(alloc, json(greets), Status::Good, "", body.as_str())
 }

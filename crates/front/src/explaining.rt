@@ -254,6 +254,17 @@ fn reason(
     }
 }
 
+/// Why an item of a bulk is refused, in a sentence.
+pub(crate) fn item_sentence(
+    alloc: Global,
+    index: &str,
+    mapping: &Mapping,
+    fault: &RequestFault,
+    source: &[u8],
+) -> Result<String, AllocError> {
+    reason(alloc, index, mapping, fault, source)
+}
+
 fn text_or_nothing(body: &[u8]) -> &str {
     text_of(body).unwrap_or("")
 }
@@ -284,6 +295,7 @@ fn words_for(fault: &RequestFault) -> &'static str {
         RequestFault::TypeInPath => {
             "an endpoint stands after a type in the path; leave out the type, as in /INDEX/_search"
         }
+        RequestFault::EncodedBody => "the body has a content-encoding, and none is read here",
         RequestFault::NoMemory => "out of memory",
         RequestFault::NoIndex
         | RequestFault::IndexExists
@@ -301,7 +313,9 @@ pub(crate) fn head_reason(fault: HeadFault) -> &'static str {
         }
         HeadFault::TransferCoding =>
             "a transfer coding, and none is read here: give content-length",
-        HeadFault::BodyTooLarge => "the body has more than 1,048,576 bytes",
+        HeadFault::BodyTooLarge => {
+            "the body has more than 1,048,576 bytes; with --greet a bulk may have as many as --body-mb says"
+        }
         HeadFault::NoMemory => "out of memory",
     }
 }

@@ -2,7 +2,7 @@
 ghost use Rattle.std.specs.Prelude.{◌≡◌, ◌++◌, IfOk, OnOk, string_bytes};
 ghost use Rattle.front.specs.Page as spec;
 
-use crate::json_text::push_quoted;
+use crate::page::push_index;
 use crate::pieces::{Pieces, is_shared};
 use crate::reply::Hit;
 use std::alloc::{AllocError, Global};
@@ -11,13 +11,14 @@ use std::alloc::{AllocError, Global};
 #[tactic(auto, unfolding(crate::specs::Page::hits_body))]
 pub(crate) fn hits_body(
     alloc: Global,
+    greets: bool,
     index: &str,
     total: u64,
     hits: &[Hit],
 ) -> Result<Pieces, AllocError>
-    ensures { IfOk result (λ t. t ≡ spec.hits_body index.now total hits.now) }
+    ensures { IfOk result (λ t. t ≡ spec.hits_body greets index.now total hits.now) }
 {
-    let middle = hit_middle(alloc, index)?;
+    let middle = hit_middle(alloc, greets, index)?;
     let middle = middle.as_str();
     let mut first = String::with_capacity(alloc, room_of(middle, hits))?;
     first.push_str(
@@ -41,13 +42,12 @@ fn hits_end(alloc: Global, total: u64) -> Result<String, AllocError>
 
 /// What stands between a hit's id and its source. All hits of a page share this text.
 #[tactic(auto, unfolding(crate::specs::Page::hit_middle))]
-fn hit_middle(alloc: Global, index: &str) -> Result<String, AllocError>
-    ensures { IfOk result (λ t. string_bytes t ≡ spec.hit_middle index.now) }
+fn hit_middle(alloc: Global, greets: bool, index: &str) -> Result<String, AllocError>
+    ensures { IfOk result (λ t. string_bytes t ≡ spec.hit_middle greets index.now) }
 {
     let room = index.len().saturating_add(64);
     let mut middle = String::with_capacity(alloc, room)?;
-    middle.push_str(",\"_index\":")?;
-    push_quoted(alloc, &mut middle, index)?;
+    push_index(alloc, greets, index, &mut middle)?;
     middle.push_str(",\"_score\":null,\"_source\":")?;
     Ok(middle)
 }

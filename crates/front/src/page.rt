@@ -1,9 +1,9 @@
 //! The pages that are written. Their bodies have no spaces, and have their keys in byte order, by the names of the Elasticsearch reference.
-ghost use Rattle.std.specs.Prelude.{◌≡◌, ◌++◌, [], codes, IfOk, IfSome, string_bytes};
+ghost use Rattle.std.specs.Prelude.{◌≡◌, ◌++◌, [], codes, IfOk, IfSome, OnOk, string_bytes};
 ghost use Rattle.front.specs.CommandView.{command_view};
 ghost use Rattle.front.specs.Fault.{fault_of};
 ghost use Rattle.front.specs.Page as spec;
-ghost use Rattle.json.specs.Print as json;
+ghost use Rattle.json.specs.Print as print;
 ghost use Rattle.front.specs.declared.page.Status.TheVariants.{Good};
 ghost use Rattle.front.specs.ReplyView.{reply_view};
 ghost use Rattle.front.specs.SubjectView.{subject_view};
@@ -30,6 +30,7 @@ pub(crate) enum Status {
     BadMethod,
     Conflict,
     TooLarge,
+    Unsupported,
     Misdirected,
     TooMany,
     NotImplemented,
@@ -49,6 +50,7 @@ impl Status {
             Status::BadMethod => "405",
             Status::Conflict => "409",
             Status::TooLarge => "413",
+            Status::Unsupported => "415",
             Status::Misdirected => "421",
             Status::TooMany => "429",
             Status::NotImplemented => "501",
@@ -68,11 +70,43 @@ impl Status {
             Status::BadMethod => "Method Not Allowed",
             Status::Conflict => "Conflict",
             Status::TooLarge => "Content Too Large",
+            Status::Unsupported => "Unsupported Media Type",
             Status::Misdirected => "Misdirected Request",
             Status::TooMany => "Too Many Requests",
             Status::NotImplemented => "Not Implemented",
             Status::Unavailable => "Service Unavailable",
         }
+    }
+}
+
+/// What a body is (RFC 9110, section 8.3).
+#[derive(Clone, Copy, Debug)]
+pub(crate) enum Media {
+    Json,
+    JsonInUtf8,
+    Text,
+}
+
+impl Media {
+    fn name(self) -> &'static str
+        ensures { result.now ≡ spec.media_name self }
+    {
+        match self {
+            Media::Json => "application/json",
+            Media::JsonInUtf8 => "application/json; charset=UTF-8",
+            Media::Text => "text/plain; charset=UTF-8",
+        }
+    }
+}
+
+/// The JSON of a server that greets or of one that doesn't. Elasticsearch names the charset.
+pub(crate) fn json(greets: bool) -> Media
+    ensures { result ≡ spec.json greets }
+{
+    if greets {
+        Media::JsonInUtf8
+    } else {
+        Media::Json
     }
 }
 
@@ -105,19 +139,20 @@ impl Subject {
     }
 }
 
-/// Room for the head of a page without `allow`. The longest of these heads has 106 bytes.
-const HEAD_ROOM: usize = 128;
+/// Room for the head of a page without `allow`. The longest of these heads has 123 bytes.
+const HEAD_ROOM: usize = 144;
 
 /// A whole page: the status line, the fields, an empty line, the body (RFC 9112, section 2.1).
 pub(crate) fn response(
     alloc: Global,
+    media: Media,
     status: Status,
     allow: &str,
     body: &str,
 ) -> Result<String, AllocError>
-    ensures { IfOk result (λ t. string_bytes t ≡ spec.response status allow.now body.now) }
+    ensures { IfOk result (λ t. string_bytes t ≡ spec.response media status allow.now body.now) }
 {
-    let mut page = response_head(alloc, status, allow, body.len(), body.len())?;
+    let mut page = response_head(alloc, media, status, allow, body.len(), body.len())?;
     page.push_str(body)?;
     Ok(page)
 }
@@ -126,29 +161,51 @@ pub(crate) fn response(
 #[tactic(auto, unfolding(crate::specs::Page::response_head))]
 fn response_head(
     alloc: Global,
+    media: Media,
     status: Status,
     allow: &str,
     length: usize,
     more: usize,
 ) -> Result<String, AllocError>
-    ensures { IfOk result (λ t. string_bytes t ≡ spec.response_head status allow.now length) }
+    ensures { IfOk result (λ t. string_bytes t ≡ spec.response_head media status allow.now length) }
 {
-    let number = status.number();
-    let reason = status.reason();
     let room = HEAD_ROOM.saturating_add(allow.len()).saturating_add(more);
-    let mut page = String::with_capacity(alloc, room)?;
-    write!(
-        page,
-        "HTTP/1.1 {number} {reason}\r\ncontent-type: application/json\r\ncontent-length: {length}\r\n{allow}\r\n"
-    )?;
+    let mut page = head_start(alloc, media, status, room)?;
+    write!(page, "{length}\r\n{allow}\r\n")?;
     Ok(page)
 }
 
-/// A whole page, whose body is in pieces.
-fn response_over(alloc: Global, status: Status, body: Pieces) -> Result<Page, AllocError>
-    ensures { IfOk result (λ p. p ≡ spec.response status [] body) }
+/// The head of a page up to its length, in a text with so much room.
+#[tactic(auto, unfolding(crate::specs::Page::head_start))]
+fn head_start(
+    alloc: Global,
+    media: Media,
+    status: Status,
+    room: usize,
+) -> Result<String, AllocError>
+    ensures { IfOk result (λ t. string_bytes t ≡ spec.head_start media status) }
 {
-    let head = response_head(alloc, status, "", body.len()?, 0)?;
+    let number = status.number();
+    let reason = status.reason();
+    let name = media.name();
+    let mut start = String::with_capacity(alloc, room)?;
+    write!(
+        start,
+        "HTTP/1.1 {number} {reason}\r\ncontent-type: {name}\r\ncontent-length: "
+    )?;
+    Ok(start)
+}
+
+/// A whole page, whose body is in pieces.
+fn response_over(
+    alloc: Global,
+    media: Media,
+    status: Status,
+    body: Pieces,
+) -> Result<Page, AllocError>
+    ensures { IfOk result (λ p. p ≡ spec.response media status [] body) }
+{
+    let head = response_head(alloc, media, status, "", body.len()?, 0)?;
     Page::over(head, body)
 }
 
@@ -206,6 +263,7 @@ pub(crate) fn kind_of(fault: &RequestFault) -> (Status, &'static str)
         | RequestFault::BadBulk
         | RequestFault::TypeInPath => { (Status::BadRequest, "request_fault") }
         RequestFault::NoHandler => (Status::BadRequest, "no_route"),
+        RequestFault::EncodedBody => (Status::Unsupported, "content_encoding"),
         RequestFault::IndexExists => (Status::BadRequest, "resource_already_exists_exception"),
         RequestFault::ForeignOrigin => (Status::Forbidden, "sender_fault"),
         RequestFault::ForeignHost => (Status::Misdirected, "sender_fault"),
@@ -235,6 +293,7 @@ pub(crate) fn name_of(fault: &RequestFault) -> &'static str
         RequestFault::BadBulk => "BadBulk",
         RequestFault::TypeInPath => "TypeInPath",
         RequestFault::NoHandler => "NoHandler",
+        RequestFault::EncodedBody => "EncodedBody",
         RequestFault::IndexExists => "IndexExists",
         RequestFault::ForeignOrigin => "ForeignOrigin",
         RequestFault::ForeignHost => "ForeignHost",
@@ -271,11 +330,11 @@ pub(crate) fn fault_page(alloc: Global, fault: &RequestFault) -> Result<String, 
     let (status, kind) = kind_of(fault);
     let allow = allow_of(alloc, fault)?;
     let body = error_body(alloc, name_of(fault), status, kind)?;
-    response(alloc, status, allow.as_str(), body.as_str())
+    response(alloc, Media::Json, status, allow.as_str(), body.as_str())
 }
 
 /// The type of a fault, as Elasticsearch names it where it has such a fault.
-fn type_of(fault: &RequestFault) -> &'static str
+pub(crate) fn type_of(fault: &RequestFault) -> &'static str
     ensures { IfSome (fault_of fault.now) (λ f. result.now ≡ spec.type_of f) }
 {
     match fault {
@@ -288,6 +347,21 @@ fn type_of(fault: &RequestFault) -> &'static str
         | RequestFault::NoHandler => "illegal_argument_exception",
         other => kind_of(other).1,
     }
+}
+
+/// The object that names a refusal, and says in a sentence why.
+#[tactic(auto, unfolding(crate::specs::Page::told_error))]
+pub(crate) fn told_error(
+    alloc: Global,
+    name: &str,
+    why: &str,
+    kind: &str,
+) -> Result<String, AllocError>
+    ensures { IfOk result (λ t. string_bytes t ≡ spec.told_error name.now (print.quoted why.now) kind.now) }
+{
+    let sentence = quoted(alloc, why)?;
+    let sentence = sentence.as_str();
+    format!(in alloc; "{{\"name\":\"{name}\",\"reason\":{sentence},\"type\":\"{kind}\"}}")
 }
 
 #[tactic(auto, unfolding(crate::specs::Page::cause))]
@@ -347,12 +421,18 @@ pub(crate) fn explained_page(
         type_of(fault),
         status,
     )?;
-    response(alloc, status, allow.as_str(), body.as_str())
+    response(
+        alloc,
+        Media::JsonInUtf8,
+        status,
+        allow.as_str(),
+        body.as_str(),
+    )
 }
 
 /// A text as a JSON string.
-fn quoted(alloc: Global, text: &str) -> Result<String, AllocError>
-    ensures { IfOk result (λ t. string_bytes t ≡ json.quoted text.now) }
+pub(crate) fn quoted(alloc: Global, text: &str) -> Result<String, AllocError>
+    ensures { IfOk result (λ t. string_bytes t ≡ print.quoted text.now) }
 {
     let mut out = String::new(alloc);
     push_quoted(alloc, &mut out, text)?;
@@ -394,14 +474,59 @@ impl Refusal {
             _ => (Status::Unavailable, "unavailable"),
         }
     }
+
+    /// The type of the refusal, as Elasticsearch names it.
+    pub(crate) fn type_name(self) -> &'static str
+        ensures { result.now ≡ spec.refusal_type self }
+    {
+        match self {
+            Refusal::VersionConflict => "version_conflict_engine_exception",
+            Refusal::WindowFull => "es_rejected_execution_exception",
+            _ => "unavailable_shards_exception",
+        }
+    }
+
+    /// Why the command is refused, in a sentence.
+    pub(crate) fn words(self) -> &'static str
+        ensures { result.now ≡ spec.refusal_words self }
+    {
+        match self {
+            Refusal::NotPrimary => {
+                "no copy leads, or the one that led was followed by another before the write was confirmed, so the write may be kept or not"
+            }
+            Refusal::VersionConflict => {
+                "the document has other numbers than the write asks for, or it is there already"
+            }
+            Refusal::WindowFull => "too many writes wait for other copies",
+            Refusal::Mismatch => "the answer was of another kind than the command",
+            Refusal::Closed => "the copy is closed by a fault of its log",
+            Refusal::Log => {
+                "the log can't be written, so the write is there whole or not at all"
+            }
+            Refusal::NoMemory => "memory ran out",
+            Refusal::NoSuchCopy => "there is no such copy",
+            Refusal::NotInSync => "the copy isn't in sync",
+            Refusal::Gone => "the copy has left for good",
+            Refusal::IsPrimary => "the copy is the primary",
+            Refusal::Full => "the master's table is full",
+            _ => "the copy can't do it now",
+        }
+    }
 }
 
-fn refusal_page(alloc: Global, refusal: Refusal) -> Result<String, AllocError>
-    ensures { IfOk result (λ page. string_bytes page ≡ spec.refusal_page refusal) }
+/// The page of a refusal. If the server greets, a sentence says why.
+fn refusal_page(alloc: Global, greets: bool, refusal: Refusal) -> Result<String, AllocError>
+    ensures { IfOk result (λ page. string_bytes page ≡ spec.refusal_page greets refusal) }
 {
     let (status, kind) = refusal.kind();
+    if greets {
+        let sentence = quoted(alloc, refusal.words())?;
+        let sentence = sentence.as_str();
+        let body = explained_body(alloc, refusal.name(), sentence, refusal.type_name(), status)?;
+        return response(alloc, Media::JsonInUtf8, status, "", body.as_str());
+    }
     let body = error_body(alloc, refusal.name(), status, kind)?;
-    response(alloc, status, "", body.as_str())
+    response(alloc, Media::Json, status, "", body.as_str())
 }
 
 #[tactic(auto, unfolding(crate::specs::Page::shards))]
@@ -435,10 +560,22 @@ pub(crate) fn outcome_status(outcome: Outcome) -> Status
 /// Room for all that the object of a document has apart from its texts, unless its numbers are long.
 const OBJECT_ROOM: usize = 192;
 
+/// The field of a document's type, by a server that greets: Elasticsearch 7 has one type.
+fn type_field(greets: bool) -> &'static str
+    ensures { result.now ≡ spec.type_field greets }
+{
+    if greets { ",\"_type\":\"_doc\"" } else { "" }
+}
+
 /// The first fields in the object of a document: its id and its index.
 #[tactic(auto, unfolding(crate::specs::Page::place))]
-pub(crate) fn place(alloc: Global, id: &str, index: &str) -> Result<String, AllocError>
-    ensures { IfOk result (λ t. string_bytes t ≡ spec.place id.now index.now) }
+pub(crate) fn place(
+    alloc: Global,
+    greets: bool,
+    id: &str,
+    index: &str,
+) -> Result<String, AllocError>
+    ensures { IfOk result (λ t. string_bytes t ≡ spec.place greets id.now index.now) }
 {
     let room = OBJECT_ROOM
         .saturating_add(id.len())
@@ -446,16 +583,36 @@ pub(crate) fn place(alloc: Global, id: &str, index: &str) -> Result<String, Allo
     let mut place = String::with_capacity(alloc, room)?;
     place.push_str("\"_id\":")?;
     push_quoted(alloc, &mut place, id)?;
-    place.push_str(",\"_index\":")?;
-    push_quoted(alloc, &mut place, index)?;
+    push_index(alloc, greets, index, &mut place)?;
     Ok(place)
 }
 
-#[tactic(auto, unfolding(crate::specs::Page::wrote_front))]
-fn wrote_front(alloc: Global, id: &str, index: &str, wrote: Wrote) -> Result<String, AllocError>
-    ensures { IfOk result (λ t. string_bytes t ≡ spec.wrote_front id.now index.now wrote) }
+/// Appends the fields of the index and of the type.
+#[tactic(auto, unfolding(crate::specs::Page::index_field))]
+pub(crate) fn push_index(
+    alloc: Global,
+    greets: bool,
+    index: &str,
+    text: &mut String,
+) -> Result<(), AllocError>
+    ensures { OnOk result (string_bytes text.new ≡ string_bytes text.old ++ spec.index_field greets index.now) }
 {
-    let mut front = place(alloc, id, index)?;
+    text.push_str(",\"_index\":")?;
+    push_quoted(alloc, text, index)?;
+    text.push_str(type_field(greets))
+}
+
+#[tactic(auto, unfolding(crate::specs::Page::wrote_front))]
+fn wrote_front(
+    alloc: Global,
+    greets: bool,
+    id: &str,
+    index: &str,
+    wrote: Wrote,
+) -> Result<String, AllocError>
+    ensures { IfOk result (λ t. string_bytes t ≡ spec.wrote_front greets id.now index.now wrote) }
+{
+    let mut front = place(alloc, greets, id, index)?;
     let term = wrote.term;
     let seq = wrote.seq;
     write!(front, ",\"_primary_term\":{term},\"_seq_no\":{seq}")?;
@@ -465,13 +622,14 @@ fn wrote_front(alloc: Global, id: &str, index: &str, wrote: Wrote) -> Result<Str
 #[tactic(auto, unfolding(crate::specs::Page::wrote_fields))]
 pub(crate) fn wrote_fields(
     alloc: Global,
+    greets: bool,
     id: &str,
     index: &str,
     wrote: Wrote,
 ) -> Result<String, AllocError>
-    ensures { IfOk result (λ t. string_bytes t ≡ spec.wrote_fields id.now index.now wrote) }
+    ensures { IfOk result (λ t. string_bytes t ≡ spec.wrote_fields greets id.now index.now wrote) }
 {
-    let mut fields = wrote_middle(alloc, id, index, wrote)?;
+    let mut fields = wrote_middle(alloc, greets, id, index, wrote)?;
     let end = wrote_end(alloc, wrote)?;
     let end = end.as_str();
     write!(fields, ",{end}")?;
@@ -479,10 +637,16 @@ pub(crate) fn wrote_fields(
 }
 
 #[tactic(auto, unfolding(crate::specs::Page::wrote_middle))]
-fn wrote_middle(alloc: Global, id: &str, index: &str, wrote: Wrote) -> Result<String, AllocError>
-    ensures { IfOk result (λ t. string_bytes t ≡ spec.wrote_middle id.now index.now wrote) }
+fn wrote_middle(
+    alloc: Global,
+    greets: bool,
+    id: &str,
+    index: &str,
+    wrote: Wrote,
+) -> Result<String, AllocError>
+    ensures { IfOk result (λ t. string_bytes t ≡ spec.wrote_middle greets id.now index.now wrote) }
 {
-    let mut middle = wrote_front(alloc, id, index, wrote)?;
+    let mut middle = wrote_front(alloc, greets, id, index, wrote)?;
     let shards = shards(alloc, wrote.copies)?;
     let shards = shards.as_str();
     write!(middle, ",\"_shards\":{shards}")?;
@@ -498,20 +662,38 @@ fn wrote_end(alloc: Global, wrote: Wrote) -> Result<String, AllocError>
     format!(in alloc; "\"_version\":{version},\"result\":\"{outcome}\"")
 }
 
-fn wrote_page(alloc: Global, index: &str, id: &DocId, wrote: Wrote) -> Result<String, AllocError>
-    ensures { IfOk result (λ page. string_bytes page ≡ spec.wrote_page index.now id.now wrote) }
+fn wrote_page(
+    alloc: Global,
+    greets: bool,
+    index: &str,
+    id: &DocId,
+    wrote: Wrote,
+) -> Result<String, AllocError>
+    ensures { IfOk result (λ page. string_bytes page ≡ spec.wrote_page greets index.now id.now wrote) }
 {
-    let fields = wrote_fields(alloc, id.as_str(), index, wrote)?;
+    let fields = wrote_fields(alloc, greets, id.as_str(), index, wrote)?;
     let fields = fields.as_str();
     let body = format!(in alloc; "{{{fields}}}")?;
-    response(alloc, outcome_status(wrote.outcome), "", body.as_str())
+    response(
+        alloc,
+        json(greets),
+        outcome_status(wrote.outcome),
+        "",
+        body.as_str(),
+    )
 }
 
 #[tactic(auto, unfolding(crate::specs::Page::found_body))]
-fn found_body(alloc: Global, id: &str, index: &str, found: &Found) -> Result<String, AllocError>
-    ensures { IfOk result (λ t. string_bytes t ≡ spec.found_body id.now index.now found.now) }
+fn found_body(
+    alloc: Global,
+    greets: bool,
+    id: &str,
+    index: &str,
+    found: &Found,
+) -> Result<String, AllocError>
+    ensures { IfOk result (λ t. string_bytes t ≡ spec.found_body greets id.now index.now found.now) }
 {
-    let place = place(alloc, id, index)?;
+    let place = place(alloc, greets, id, index)?;
     let place = place.as_str();
     let term = found.term;
     let seq = found.seq;
@@ -530,22 +712,23 @@ fn found_body(alloc: Global, id: &str, index: &str, found: &Found) -> Result<Str
 
 fn got_page(
     alloc: Global,
+    greets: bool,
     index: &str,
     id: &DocId,
     found: &Option<Found>,
 ) -> Result<String, AllocError>
-    ensures { IfOk result (λ page. string_bytes page ≡ spec.got_page index.now id.now found.now) }
+    ensures { IfOk result (λ page. string_bytes page ≡ spec.got_page greets index.now id.now found.now) }
 {
     match found {
         Some(found) => {
-            let body = found_body(alloc, id.as_str(), index, found)?;
-            response(alloc, Status::Good, "", body.as_str())
+            let body = found_body(alloc, greets, id.as_str(), index, found)?;
+            response(alloc, json(greets), Status::Good, "", body.as_str())
         }
         None => {
-            let place = place(alloc, id.as_str(), index)?;
+            let place = place(alloc, greets, id.as_str(), index)?;
             let place = place.as_str();
             let body = format!(in alloc; "{{{place},\"found\":false}}")?;
-            response(alloc, Status::NotFound, "", body.as_str())
+            response(alloc, json(greets), Status::NotFound, "", body.as_str())
         }
     }
 }
@@ -575,42 +758,51 @@ fn promoted_body(alloc: Global, copy: u32, term: u64) -> Result<String, AllocErr
     format!(in alloc; "{{\"acknowledged\":true,\"primary\":{copy},\"primary_term\":{term}}}")
 }
 
-/// The page of a reply.
+/// The page of a reply, by a server that greets or one that doesn't.
 pub(crate) fn reply_page(
     alloc: Global,
+    greets: bool,
     index: &str,
     subject: &Subject,
     reply: &Reply,
 ) -> Result<Page, AllocError>
-    ensures { IfOk result (λ page. page ≡ spec.reply_page index.now (subject_view subject.now) (reply_view reply.now)) }
+    ensures { IfOk result (λ page. page ≡ spec.reply_page greets index.now (subject_view subject.now) (reply_view reply.now)) }
 {
     let text = match (subject, reply) {
-        (_, Reply::Refused(refusal)) => refusal_page(alloc, *refusal)?,
-        (Subject::Written(id), Reply::Wrote(wrote)) => wrote_page(alloc, index, id, *wrote)?,
-        (Subject::Sought(id), Reply::Got(found)) => got_page(alloc, index, id, found)?,
+        (_, Reply::Refused(refusal)) => refusal_page(alloc, greets, *refusal)?,
+        (Subject::Written(id), Reply::Wrote(wrote)) => wrote_page(
+            alloc, greets, index, id, *wrote,
+        )?,
+        (Subject::Sought(id), Reply::Got(found)) => got_page(alloc, greets, index, id, found)?,
         (Subject::Searched, Reply::Hits(total, hits)) => {
-            return hits_page(alloc, index, *total, hits);
+            return hits_page(alloc, greets, index, *total, hits);
         }
         (Subject::Counted, Reply::Counted(count)) => {
             let body = counted_body(alloc, *count)?;
-            response(alloc, Status::Good, "", body.as_str())?
+            response(alloc, json(greets), Status::Good, "", body.as_str())?
         }
         (Subject::Refreshed, Reply::Refreshed(count)) => {
             let body = refreshed_body(alloc, *count)?;
-            response(alloc, Status::Good, "", body.as_str())?
+            response(alloc, json(greets), Status::Good, "", body.as_str())?
         }
         (Subject::Promoted, Reply::Promoted(copy, term)) => {
             let body = promoted_body(alloc, *copy, *term)?;
-            response(alloc, Status::Good, "", body.as_str())?
+            response(alloc, json(greets), Status::Good, "", body.as_str())?
         }
-        _ => refusal_page(alloc, Refusal::Mismatch)?,
+        _ => refusal_page(alloc, greets, Refusal::Mismatch)?,
     };
     Ok(Page::of(alloc, text))
 }
 
-fn hits_page(alloc: Global, index: &str, total: u64, hits: &[Hit]) -> Result<Page, AllocError>
-    ensures { IfOk result (λ page. page ≡ spec.response Good [] (spec.hits_body index.now total hits.now)) }
+fn hits_page(
+    alloc: Global,
+    greets: bool,
+    index: &str,
+    total: u64,
+    hits: &[Hit],
+) -> Result<Page, AllocError>
+    ensures { IfOk result (λ page. page ≡ spec.response (spec.json greets) Good [] (spec.hits_body greets index.now total hits.now)) }
 {
-    let body = hits_body(alloc, index, total, hits)?;
-    response_over(alloc, Status::Good, body)
+    let body = hits_body(alloc, greets, index, total, hits)?;
+    response_over(alloc, json(greets), Status::Good, body)
 }

@@ -1,10 +1,9 @@
 //! Pages in pieces. A page shares the texts of large documents with the index, so it needs memory for the rest alone.
-ghost use Rattle.std.specs.Prelude.{◌≡◌, ◌≤◌, ◌<◌, ◌++◌, ◌+◌, ◌∷◌, ◌↔◌, List, ℕ, [], drop, length, IsTrue, IfErr, IfOk, IfSome, OnOk, OnErr, string_bytes};
+ghost use Rattle.std.specs.Prelude.{◌≡◌, ◌≤◌, ◌<◌, ◌++◌, ◌+◌, ◌∷◌, ◌↔◌, List, ℕ, [], codes, drop, length, IsTrue, IfErr, IfOk, IfSome, OnOk, OnErr, string_bytes};
 ghost use Rattle.std.specs.Io.KnownBytes.{Appends};
 ghost use Rattle.json.specs.Print.{quoted};
 ghost use Rattle.wire.specs.Bytes.{AppendsFront};
 ghost use Rattle.wire.specs.declared.fault.StreamFault.TheVariants.{Write as Unwritten};
-ghost use Rattle.front.specs.Greeting as greeting;
 ghost use Rattle.front.specs.Page as spec;
 ghost use Rattle.front.specs.PieceView.{joined, piece_bytes};
 
@@ -214,9 +213,9 @@ impl Page {
     }
 
     /// The page's head alone.
-    #[tactic(auto, using(crate::proofs::Heads::head_over_all))]
+    #[tactic(auto, using(crate::proofs::Heads::head_over_all), unfolding(crate::specs::Page::head_alone))]
     pub(crate) fn head(self, alloc: Global) -> Result<Page, AllocError>
-        ensures { IfOk result (λ p. p ≡ greeting.head_alone self) }
+        ensures { IfOk result (λ p. p ≡ spec.head_alone self) }
     {
         let Page { first, rest, .. } = self;
         if let Some((head, _)) = split_head(first.as_str()) {
@@ -268,9 +267,8 @@ fn whole(alloc: Global, first: String, rest: VecDeque<Piece>) -> Result<String, 
     Ok(text)
 }
 
-#[tactic(auto, unfolding(crate::specs::Greeting::closed_head))]
 fn head_over(alloc: Global, head: &str) -> Result<String, AllocError>
-    ensures { IfOk result (λ t. string_bytes t ≡ greeting.closed_head head.now) }
+    ensures { IfOk result (λ t. string_bytes t ≡ head.now ++ codes "\r\n\r\n") }
 {
-    format!(in alloc; "{head}\r\nconnection: close\r\n\r\n")
+    format!(in alloc; "{head}\r\n\r\n")
 }

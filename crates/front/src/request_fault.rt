@@ -22,6 +22,7 @@ pub(crate) enum RequestFault {
     TypeInPath,
     NoHandler,
     IndexExists,
+    EncodedBody,
     Document(DocFault),
     Query(QueryFault),
     NoMemory,

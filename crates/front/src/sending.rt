@@ -1,15 +1,18 @@
 //! Pages on their way out.
 ghost use Rattle.std.specs.Prelude.{◌≡◌, ◌≤◌, ◌++◌, ◌↔◌, List, ℕ, [], drop, length, IsTrue, IfOk, OnErr};
 ghost use Rattle.std.specs.Io.KnownBytes.{Keeps};
-ghost use Rattle.front.specs.Sending.{Sent};
+ghost use Rattle.front.specs.Sending.{Sent, asking};
 ghost use Rattle.front.specs.PieceView.{joined, piece_bytes};
 
 use crate::pieces::{Page, Piece};
-use std::alloc::Global;
+use std::alloc::{AllocError, Global};
 use std::collections::VecDeque;
 use std::io;
 use std::io::Write;
 use std::marker::Model;
+
+/// The interim response of RFC 9110, section 15.2.1.
+const ASKING: &str = "HTTP/1.1 100 Continue\r\n\r\n";
 
 /// What of a page isn't sent yet: a piece, how many of its bytes were sent, and the pieces after it.
 #[derive(Drop)]
@@ -46,6 +49,19 @@ impl Unsent {
             behind: 0,
             weight: 0,
         }
+    }
+
+    /// The interim response that asks a client for the body of its request.
+    pub fn asking(alloc: Global) -> Result<Unsent, AllocError>
+        ensures { IfOk result (λ u. u ≡ asking) }
+    {
+        Ok(Unsent {
+            piece: Piece::Text(String::from_str(alloc, ASKING)?),
+            sent: 0,
+            rest: VecDeque::new(alloc),
+            behind: 0,
+            weight: 0,
+        })
     }
 
     /// All of a page.

@@ -8,6 +8,7 @@ ghost use Rattle.front.specs.ReplyView.{reply_view};
 
 use crate::command::Command;
 use crate::reply::Reply;
+use crate::stats::Stats;
 use doc::Mapping;
 
 /// A service of one index. Its relation `answers` says which replies a command may have. The pages are proved for every service.
@@ -28,6 +29,9 @@ pub trait Service {
     /// The mapping of the index.
     fn mapping(&self) -> &Mapping
         ensures { result.now ≡ fields self.now };
+
+    /// How the index stands, or `None` if memory ran out.
+    fn stats(&self) -> Option<Stats>;
 
     /// Does a command. A page reports a reply of another kind than its command as the refusal `Mismatch`. It also reports `Mismatch` for each of many writes of
     /// which the reply says nothing. If the reply refuses all writes, the page reports that refusal for each.

@@ -1,5 +1,5 @@
 //! Serving requests, one after another.
-ghost use Rattle.std.specs.Prelude.{◌≡◌, IfOk, IfErr, IfSome, OnErr, map};
+ghost use Rattle.std.specs.Prelude.{◌≡◌, false, IfOk, IfErr, IfSome, OnErr, map};
 ghost use Rattle.wire.specs.Reading as read;
 ghost use Rattle.wire.specs.Requests.{Standing};
 ghost use Rattle.wire.specs.declared.fault.StreamFault.TheVariants.{NoMemory};
@@ -22,6 +22,9 @@ use std::alloc::Global;
 use std::io::{Read, Write};
 use wire::{Request, StreamFault, Whole, read_request};
 
+/// The most bytes of a body.
+const MOST_BODY: u32 = 1_048_576;
+
 /// Answers the requests that came whole, in order, up to the first after which the stream ends, and returns how many they were. It writes and flushes each page
 /// whole before it reads the next request. It reads single bytes, so the reader needs a buffer.
 pub fn serve_stream<R: Read, W: Write, S: Service>(
@@ -40,7 +43,7 @@ pub fn serve_stream<R: Read, W: Write, S: Service>(
         service.old service.new (W.contents writer.old) (W.contents writer.new) e)) }
 {
     for count in 0..u64::MAX {
-        let Some(whole) = read_request(alloc, reader)? else {
+        let Some(whole) = read_request(alloc, MOST_BODY, reader)? else {
             return Ok(count);
         };
         let page = answer(alloc, service, &whole)?;
@@ -58,7 +61,7 @@ pub fn answer<S: Service>(
     service: &mut S,
     whole: &Whole,
 ) -> Result<Page, StreamFault>
-    ensures ok { IfOk result (λ page. (q : Standing) → read.IsStanding whole.now q → spec.Answered S.answers (S.name service.old)
+    ensures ok { IfOk result (λ page. (q : Standing) → read.IsStanding whole.now q → spec.Answered false S.answers (S.name service.old)
         (work_of (S.name service.old) (S.fields service.old) q) service.old page service.new) }
     ensures err { OnErr result ((q : Standing) → read.IsStanding whole.now q → spec.Begun S.answers
         (work_of (S.name service.old) (S.fields service.old) q) service.old service.new) }
@@ -82,7 +85,7 @@ pub(crate) fn answer_request<S: Service>(
     service: &mut S,
     request: &Request,
 ) -> Result<Page, StreamFault>
-    ensures ok { IfOk result (λ page. Turned S.answers (S.name service.old)
+    ensures ok { IfOk result (λ page. Turned greets S.answers (S.name service.old)
         (worked (S.name service.old) (S.fields service.old) (ask greets (S.name service.old) (S.fields service.old) (read.request_view request.now)))
         (explained (worked (S.name service.old) (S.fields service.old) (ask greets (S.name service.old) (S.fields service.old) (read.request_view request.now))) greets)
         service.old page service.new) }
@@ -93,8 +96,8 @@ pub(crate) fn answer_request<S: Service>(
     ensures fields { S.fields service.new ≡ S.fields service.old }
 {
     match ask(alloc, greets, service.index(), service.mapping(), request) {
-        Ok(Asked::One(command)) => do_command(alloc, service, command),
-        Ok(Asked::Many(refresh, items)) => do_bulk(alloc, service, refresh, &items),
+        Ok(Asked::One(command)) => do_command(alloc, greets, service, command),
+        Ok(Asked::Many(refresh, items)) => do_bulk(alloc, greets, service, refresh, &items),
         Err(fault) => if fault.is_memory() {
             Err(StreamFault::NoMemory)
         } else {
@@ -113,10 +116,11 @@ pub(crate) fn answer_request<S: Service>(
 /// Calls the service once, and returns the page of its reply.
 fn do_command<S: Service>(
     alloc: Global,
+    greets: bool,
     service: &mut S,
     command: Command,
 ) -> Result<Page, StreamFault>
-    ensures ok { IfOk result (λ page. Turned S.answers (S.name service.old) (single (command_view command)) (λ why out. out) service.old page service.new) }
+    ensures ok { IfOk result (λ page. Turned greets S.answers (S.name service.old) (single (command_view command)) (λ why out. out) service.old page service.new) }
     ensures err { OnErr result (spec.Begun S.answers (single (command_view command)) service.old service.new) }
     ensures cause { IfErr result (λ e. e ≡ NoMemory) }
     ensures name { S.name service.new ≡ S.name service.old }
@@ -127,7 +131,7 @@ fn do_command<S: Service>(
         return Err(StreamFault::NoMemory);
     };
     let reply = service.call(command);
-    let page = reply_page(alloc, service.index(), &subject, &reply);
+    let page = reply_page(alloc, greets, service.index(), &subject, &reply);
     drop(subject);
     drop(reply);
     Ok(page?)
@@ -136,17 +140,18 @@ fn do_command<S: Service>(
 /// Does the items of a bulk and the refresh after them, and returns their page.
 fn do_bulk<'b, S: Service>(
     alloc: Global,
+    greets: bool,
     service: &mut S,
     refresh: bool,
     items: &[Item<'b>],
 ) -> Result<Page, StreamFault>
-    ensures ok { IfOk result (λ page. Turned S.answers (S.name service.old) (bulk (S.name service.old) (S.fields service.old) refresh (map item_view items.now)) (λ why out. out)
+    ensures ok { IfOk result (λ page. Turned greets S.answers (S.name service.old) (bulk (S.name service.old) (S.fields service.old) refresh (map item_view items.now)) (λ why out. out)
         service.old page service.new) }
     ensures err { OnErr result (spec.Begun S.answers (bulk (S.name service.old) (S.fields service.old) refresh (map item_view items.now)) service.old service.new) }
     ensures cause { IfErr result (λ e. e ≡ NoMemory) }
     ensures name { S.name service.new ≡ S.name service.old }
     ensures fields { S.fields service.new ≡ S.fields service.old }
 {
-    let done = do_items(alloc, service, refresh, items)?;
-    Ok(Page::of(alloc, bulk_page(alloc, &done.texts, done.refusal)?))
+    let done = do_items(alloc, greets, service, refresh, items)?;
+    Ok(Page::of(alloc, bulk_page(alloc, greets, &done.texts, done.refusal)?))
 }

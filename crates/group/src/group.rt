@@ -23,12 +23,12 @@ use cluster::{Client, ClusterFault, Confirmed, ConfirmedBulk, WriteFault};
 use doc::{DocId, Mapping};
 use front::command::{Command, Write};
 use front::reply::{Refusal, Reply};
-use front::{Resumable, Service};
+use front::{Resumable, Service, Stats};
 use node::{Heard, Receipt};
 use query::{Page, Query, SearchBody};
 use replica::{CopyFault, Output, Writes};
 use ruled::{Leading, Past};
-use shard::answering::{refusal_of, reply_in, write_of, writes_of};
+use shard::answering::{copy_stats, refusal_of, reply_in, write_of, writes_of};
 use std::alloc::Global;
 use std::sync::Wait;
 use translog::LogDevice;
@@ -43,6 +43,8 @@ pub struct Group<'a, R: Wait + Drop, D: LogDevice, J: IndexName> {
     pub client: &'a Client<R, D, J>,
     /// Where the searcher of the last search is kept.
     pub chair: &'a Chair<J>,
+    /// How many copies the index is to have.
+    pub copies: u32,
     /// What the client that is served knows.
     pub known: Known<J>,
 }
@@ -62,6 +64,10 @@ impl<'a, R: Wait + Drop, D: LogDevice, J: IndexName> Service for Group<'a, R, D,
 
     fn mapping(&self) -> &Mapping {
         self.label.mapping()
+    }
+
+    fn stats(&self) -> Option<Stats> {
+        self.stats_now().ok()
     }
 
     #[tactic(auto, using(crate::proofs::Refusing::is_refused))]
@@ -196,6 +202,31 @@ impl<'a, R: Wait + Drop, D: LogDevice, J: IndexName> Group<'a, R, D, J> {
             return Err(ClusterFault::Stray(0));
         }
         Ok((reply, self.known.follows(past)))
+    }
+
+    /// How the index stands. While no copy leads, no document is counted.
+    fn stats_now(&self) -> Result<Stats, ClusterFault> {
+        let state = self.client.state(self.rt)?.state;
+        let mut served = Vec::new(self.alloc);
+        for status in self.client.statuses(self.rt)? {
+            served.push(copy_stats(status, state.in_sync.has(status.copy)))?;
+        }
+        Ok(Stats {
+            documents: self.documents(),
+            copies: self.copies,
+            served,
+        })
+    }
+
+    /// How many documents searches find, if a copy leads.
+    fn documents(&self) -> Option<u64> {
+        let Ok(page) = Page::new(0, 0) else {
+            return None;
+        };
+        match self.look(&Query::MatchAll, page) {
+            Ok(looked) => Some(looked.found.hits.total),
+            Err(_) => None,
+        }
     }
 
     /// The primary after a past of the master that extends what the client knows of it, as each past does.

@@ -7,8 +7,11 @@ use server::{Admission, Rule, Settings, Syncing};
 use std::alloc::{AllocError, Global};
 use usage::command;
 
-/// How many bytes a megabyte of `--request-mb` and `--page-mb` has.
+/// How many bytes a megabyte of `--request-mb`, `--body-mb` and `--page-mb` has.
 const MEGABYTE: u64 = 1_048_576;
+
+/// How many megabytes a bulk may have to a server that greets, where nothing else is said.
+const MOST_OF_BULK: u64 = 32;
 
 /// The script that is to be played, and whether refusals are explained.
 #[derive(Clone, Copy)]
@@ -99,7 +102,7 @@ fn settings_of<'a>(options: &ArgMatches<'a>) -> Settings<'a> {
         threads: options
             .get_one::<u64>("threads")
             .unwrap_or(threads_beside(syncing)),
-        idle: options.get_one::<u64>("idle-s").unwrap_or(60),
+        idle: idle_of(options),
         request_bytes: options
             .get_one::<u64>("request-mb")
             .unwrap_or(64)
@@ -120,10 +123,32 @@ fn settings_of<'a>(options: &ArgMatches<'a>) -> Settings<'a> {
 fn rule_of(alloc: Global, options: &ArgMatches<'_>) -> Result<Rule, AllocError> {
     let origins = texts_of(alloc, options, "cors")?;
     let names = texts_of(alloc, options, "host-name")?;
+    let greets = options.get_flag("greet");
+    let most = options.get_one::<u64>("body-mb").unwrap_or(MOST_OF_BULK);
     Ok(Rule {
-        greets: options.get_flag("greet"),
+        greets,
         admission: Admission { origins, names },
+        most: if greets { bytes_of(most) } else { bytes_of(1) },
+        idle: kept_seconds(idle_of(options)),
     })
+}
+
+/// How many bytes some megabytes have.
+fn bytes_of(megabytes: u64) -> u32 {
+    u32::try_from(megabytes.saturating_mul(MEGABYTE)).unwrap_or(u32::MAX)
+}
+
+/// For how many seconds a connection is kept that has no request.
+fn idle_of(options: &ArgMatches<'_>) -> u64 {
+    options.get_one::<u64>("idle-s").unwrap_or(60)
+}
+
+/// For how many seconds a client should keep such a connection: less than the server does, so that it never asks just when the server ends it.
+fn kept_seconds(idle: u64) -> Option<u64> {
+    match idle.saturating_sub(1) {
+        0 => None,
+        seconds => Some(seconds),
+    }
 }
 
 /// The texts that an option was given.

@@ -24,6 +24,9 @@ const PATIENCE: u64 = 500;
 /// How many bytes unfinished requests have.
 const ROOM: u64 = 67_108_864;
 
+/// The most bytes of a body.
+const MOST_BODY: u32 = 1_048_576;
+
 /// What is to be loaded, and where to.
 #[derive(Drop)]
 pub(crate) struct Loading<'a> {
@@ -230,6 +233,8 @@ where
             origins: Vec::new(alloc),
             names: Vec::new(alloc),
         },
+        most: MOST_BODY,
+        idle: None,
     };
     let (mut output, mut errors) = (io::sink(), io::sink());
     let served = serve(rt, settings, &rule, &mut output, &mut errors);

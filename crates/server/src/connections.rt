@@ -118,6 +118,8 @@ where
 pub(crate) struct Index<'a, R: Wait + Drop, D: LogDevice, J: IndexName> {
     pub(crate) label: &'a IndexLabel<J>,
     pub(crate) client: &'a Client<R, D, J>,
+    /// How many copies it is to have.
+    pub(crate) copies: u32,
 }
 
 /// Serves connections to copies on threads of their own, as `serve_connections` does. No lock is round the index.
@@ -161,6 +163,7 @@ where
                 label: index.label,
                 client: index.client,
                 chair: &chairs[lane % CHAIRS],
+                copies: index.copies,
                 known: Known::nothing(),
             };
             clients.run(
@@ -192,6 +195,7 @@ fn group_of<'a, R: Wait + Drop, D: LogDevice, J: IndexName>(
         label: index.label,
         client: index.client,
         chair,
+        copies: index.copies,
         known: Known::nothing(),
     }
 }

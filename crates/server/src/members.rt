@@ -507,6 +507,7 @@ where
     let index = Index {
         label: cluster.label(),
         client: cluster.client(),
+        copies: wanted.settings.copies.max(1).min(5) as u32,
     };
     listen_to_group(rt, wanted.settings, rule, &index, faults, output, errors)
 }

@@ -17,9 +17,13 @@ use crate::asked::{Asked, Form};
 use engine::{Hit as Found, Hits, Snapshot};
 use front::command::{Change, Command, Condition, Write};
 use front::reply::{Found as Document, Hit, ItemReply, Outcome, Refusal, Reply, Wrote};
+use front::{CopyStats, Stats};
 use query::{Page, Query, SearchBody};
-use replica::{Answer, Copy, CopyFault, Input, Item, Items, OpType, Output, Writes, Written};
+use replica::{
+    Answer, Copy, CopyFault, CopyStatus, Input, Item, Items, OpType, Output, Writes, Written,
+};
 use std::alloc::{AllocError, Global};
+use std::sync::Arc;
 use translog::LogDevice;
 
 /// Carries out a command. If the copy refuses it, the reply is the refusal.
@@ -333,6 +337,58 @@ pub(crate) fn search_of(
     let Hits { total, hits } = snapshot.search(alloc, &body.query, body.page)?;
     let hits = hits_of(alloc, hits)?;
     Ok(Reply::Hits(total, hits))
+}
+
+/// How a copy stands, as the service says it.
+pub fn copy_stats(status: CopyStatus, is_in_sync: bool) -> CopyStats {
+    CopyStats {
+        copy: status.copy,
+        is_primary: status.is_primary,
+        is_in_sync,
+        is_open: status.is_open,
+        term: status.term,
+        greatest: checkpoint_of(status.next),
+        local: checkpoint_of(status.local),
+        global: checkpoint_of(status.known),
+        refreshed: status.point,
+        segments: status.segments,
+    }
+}
+
+/// The checkpoint of a count: one less, or -1 of none.
+fn checkpoint_of(count: u64) -> i64 {
+    match i64::try_from(count) {
+        Ok(count) => count.saturating_sub(1),
+        Err(_) => i64::MAX,
+    }
+}
+
+/// How an index of one copy stands, whose searches see this, if they see anything.
+pub(crate) fn stats_of(
+    alloc: Global,
+    status: CopyStatus,
+    is_in_sync: bool,
+    snapshot: Option<&Arc<Snapshot, Global>>,
+) -> Result<Stats, AllocError> {
+    let documents = match snapshot {
+        Some(snapshot) => Some(documents_in(alloc, snapshot)?),
+        None => None,
+    };
+    let mut served = Vec::new(alloc);
+    served.push(copy_stats(status, is_in_sync))?;
+    Ok(Stats {
+        documents,
+        copies: 1,
+        served,
+    })
+}
+
+/// How many documents searches find.
+fn documents_in(alloc: Global, snapshot: &Snapshot) -> Result<u64, AllocError> {
+    let Ok(page) = Page::new(0, 0) else {
+        return Err(AllocError);
+    };
+    Ok(snapshot.search(alloc, &Query::MatchAll, page)?.total)
 }
 
 /// The hits of a page. They take over the ids and the texts of what was found.

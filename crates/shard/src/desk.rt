@@ -9,7 +9,7 @@ ghost use Rattle.front.specs.ReplyView.{reply_view};
 ghost use Rattle.front.specs.declared.reply.Refusal.TheVariants.{NoMemory};
 ghost use Rattle.shard.specs.History.{EndsIn, IsDone, IsLooked, IsReplyAt, IsSeenAt, IsSeenOf, IsTold};
 
-use crate::answering::{count_of, search_of};
+use crate::answering::{count_of, search_of, stats_of};
 use crate::asked::Asked;
 use crate::history::{Begun, HistoryName, Kept, Label, Reached};
 use crossbeam_channel::{Receiver, Sender, unbounded};
@@ -17,7 +17,7 @@ use doc::{Mapping, Source};
 use engine::{Merged, Merging, Prebuilt, Snapshot, Unshown};
 use front::command::Command;
 use front::reply::{Refusal, Reply};
-use front::{Resumable, Service};
+use front::{Resumable, Service, Stats};
 use replica::{FEW_AT_REST, FEW_SEGMENTS};
 use segment::Segment;
 use std::alloc::{AllocError, Global};
@@ -278,6 +278,15 @@ impl<D: LogDevice, N: HistoryName> SharedShard<D, N> {
         seen.reply_to(self.alloc, known, command)
     }
 
+    /// How the index stands. If its copy isn't open, no document is counted.
+    fn stats<R: Wait>(&self, rt: &R) -> Result<Stats, AllocError> {
+        let (status, is_in_sync) = self.enter(rt).status();
+        match self.seen(rt) {
+            Some(seen) => stats_of(self.alloc, status, is_in_sync, Some(&seen.snapshot)),
+            None => stats_of(self.alloc, status, is_in_sync, None),
+        }
+    }
+
     /// Has the index carry out a command, and shows searches what the index shows then. The command is made ready for the copy before the lock is taken.
     fn call<R: Wait>(
         &self,
@@ -490,6 +499,10 @@ impl<'a, R: Wait, D: LogDevice, N: HistoryName> Service for Desk<'a, R, D, N> {
 
     fn mapping(&self) -> &Mapping {
         self.shard.mapping()
+    }
+
+    fn stats(&self) -> Option<Stats> {
+        self.shard.stats(self.rt).ok()
     }
 
     fn call(&mut self, command: Command) -> Reply {

@@ -13,6 +13,7 @@ use chronicle::{Chronicle, Mark, Writer};
 use doc::Mapping;
 use engine::{Merging, Prebuilt, Snapshot, Unshown};
 use front::{Reply, Service};
+use replica::CopyStatus;
 use std::alloc::{AllocError, Global};
 use std::marker::{Brand, Model, PhantomData};
 use std::sync::Arc;
@@ -268,6 +269,11 @@ impl<D: LogDevice, N: HistoryName> Kept<D, N> {
         let mark = self.writer.append(&self.chronicle, &self.shard);
         self.last = self.last.behind(mark);
         (reply, self.last.again())
+    }
+
+    /// How the copy stands, and whether it is in sync.
+    pub(crate) fn status(&self) -> (CopyStatus, bool) {
+        (self.shard.status(), self.shard.is_in_sync())
     }
 
     /// What searches see at this place of the history; `None` while the copy is closed.

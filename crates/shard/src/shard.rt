@@ -13,17 +13,18 @@ ghost use Rattle.shard.specs.Ready.{IsReady, IsServed, IsUnready};
 ghost use Rattle.replica.specs.Logged.{searched, IsLogged};
 ghost use Rattle.engine.specs.Published.{HasMerged};
 ghost use Rattle.replica.specs.Searched.{IsRefreshTo};
+ghost use Rattle.replica.specs.Status.{IsStatusOf};
 ghost use Rattle.shard.specs.History.{seen_of};
 
-use crate::answering::reply_to;
+use crate::answering::{reply_to, stats_of};
 use crate::asked::Asked;
 use crate::ready::{is_primary, make_ready};
 use doc::{DocFault, Mapping};
 use engine::{Merging, Prebuilt, Snapshot, Unshown};
 use front::reply::Refusal;
-use front::{Command, Reply, Service};
+use front::{Command, Reply, Service, Stats};
 use master::Master;
-use replica::Copy;
+use replica::{Copy, CopyStatus};
 use seed::Seed;
 use serde_json::Value;
 use std::alloc::{AllocError, Global};
@@ -106,6 +107,13 @@ impl<D: LogDevice> Shard<D> {
         ensures { result ≡ not self.now.copy.closed }
     {
         self.copy.snapshot().is_some()
+    }
+
+    /// How the copy stands.
+    pub fn status(&self) -> CopyStatus
+        ensures { IsStatusOf self.now.copy result }
+    {
+        self.copy.status()
     }
 
     /// Whether the copy is in sync by what the master knows. Then it leads where both logs can be written and the master's table has room.
@@ -208,6 +216,11 @@ impl<D: LogDevice> Service for Shard<D> {
 
     fn mapping(&self) -> &Mapping {
         self.copy.mapping()
+    }
+
+    fn stats(&self) -> Option<Stats> {
+        let snapshot = self.copy.snapshot();
+        stats_of(self.alloc, self.status(), self.is_in_sync(), snapshot).ok()
     }
 
     fn call(&mut self, command: Command) -> Reply {

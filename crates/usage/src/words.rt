@@ -183,6 +183,7 @@ fn with_clients<'a>(alloc: Global, command: Command<'a>) -> Result<Command<'a>, 
         4,
         4_096,
     )?;
+    let command = with_option(command, body_option(alloc))?;
     let command = with_number(
         alloc,
         command,
@@ -197,6 +198,17 @@ fn with_clients<'a>(alloc: Global, command: Command<'a>) -> Result<Command<'a>, 
         "until-input-ends",
         "Ends in order when standard input ends: requests that came whole are answered, and the status is 0",
     )
+}
+
+fn body_option<'a>(alloc: Global) -> Result<Arg<'a>, AllocError> {
+    option(
+        alloc,
+        "body-mb",
+        "How many MB a bulk may have, 1 to 1024; with --greet alone, which takes 32 where none is given",
+    )
+    .value_name("N")
+    .value_parser(clap::value_parser!(u64).range(1..=1_024))
+    .requires_arg("greet")
 }
 
 /// The options of `serve` that say how requests are answered.

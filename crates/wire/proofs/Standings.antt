@@ -42,16 +42,16 @@ ahead_if false n m r closes rest h = tt
 
 ahead_body : (n : ℕ) (rest : List ℕ) (f : Result Framed Fault) → length rest < n → Ahead n (with_body rest f)
 ahead_body n rest (Err f) h = tt
-ahead_body n rest (Ok x) h = ahead_if (nat_le x.frame.length (length rest)) n x.frame.length (record { method = x.method; target = x.target; body = take x.frame.length rest; sender = x.sender }) x.frame.closes rest h
+ahead_body n rest (Ok x) h = ahead_if (nat_le x.frame.length (length rest)) n x.frame.length (record { method = x.method; target = x.target; body = take x.frame.length rest; encoded = x.frame.encoded; sender = x.sender }) x.frame.closes rest h
 
-ahead_cut : (n : ℕ) (c : Cut) → Shorter n c → Ahead n (after_cut c)
-ahead_cut n short h = tt
-ahead_cut n long h = tt
-ahead_cut n (whole head rest) h = ahead_body n rest (framed head) h
+ahead_cut : (most n : ℕ) (c : Cut) → Shorter n c → Ahead n (after_cut most c)
+ahead_cut most n short h = tt
+ahead_cut most n long h = tt
+ahead_cut most n (whole head rest) h = ahead_body n rest (framed most head) h
 
-pub ahead : (bs : List ℕ) → Ahead (length bs) (first bs)
+pub ahead : (most : ℕ) (bs : List ℕ) → Ahead (length bs) (first most bs)
 unfolding first cut
-ahead bs = ahead_cut (length bs) (cut bs) (shorter_from 16384 Blank bs)
+ahead most bs = ahead_cut most (length bs) (cut bs) (shorter_from 16384 Blank bs)
 
 -- with enough room the number doesn't matter
 same_after : (f : First) (n : ℕ) (g h : List ℕ → List Standing) → Ahead n f → ((rest : List ℕ) → length rest < n → g rest ≡ h rest) → requests_after f g ≡ requests_after f h
@@ -60,24 +60,24 @@ same_after (broken f) n g h a e = refl
 same_after (asked r true rest) n g h a e = refl
 same_after (asked r false rest) n g h a e = ap (λ l. good r ∷ l) (e rest a)
 
-same_in : (n m : ℕ) (bs : List ℕ) → length bs < n → length bs < m → requests_in n bs ≡ requests_in m bs
-same_in zero m bs x y = absurd (omega arith)
-same_in (suc n) zero bs x y = absurd (omega arith)
-same_in (suc n) (suc m) bs x y = same_after (first bs) (length bs) (requests_in n) (requests_in m) (ahead bs) (λ rest s. same_in n m rest (omega arith) (omega arith))
+same_in : (most n m : ℕ) (bs : List ℕ) → length bs < n → length bs < m → requests_in most n bs ≡ requests_in most m bs
+same_in most zero m bs x y = absurd (omega arith)
+same_in most (suc n) zero bs x y = absurd (omega arith)
+same_in most (suc n) (suc m) bs x y = same_after (first most bs) (length bs) (requests_in most n) (requests_in most m) (ahead most bs) (λ rest s. same_in most n m rest (omega arith) (omega arith))
 
 -- the first, and then the others
-pub requests_step : (bs : List ℕ) → requests bs ≡ requests_after (first bs) requests
+pub requests_step : (most : ℕ) (bs : List ℕ) → requests most bs ≡ requests_after (first most bs) (requests most)
 unfolding requests
-requests_step bs = same_after (first bs) (length bs) (requests_in (length bs)) (λ rest. requests_in (suc (length rest)) rest) (ahead bs) (λ rest s. same_in (length bs) (suc (length rest)) rest s (omega arith))
+requests_step most bs = same_after (first most bs) (length bs) (requests_in most (length bs)) (λ rest. requests_in most (suc (length rest)) rest) (ahead most bs) (λ rest s. same_in most (length bs) (suc (length rest)) rest s (omega arith))
 
 -- a request that was read is the first that stands, and what is left has the others
-pub record Reads (w : Whole) (left : Option (List ℕ)) (all : List Standing) : Type 0 where
+pub record Reads (most : ℕ) (w : Whole) (left : Option (List ℕ)) (all : List Standing) : Type 0 where
   pub one : Standing
   pub is_one : IsStanding w one
   pub others : List Standing
   pub split : all ≡ one ∷ others
   pub last : ends w ≡ true → others ≡ []
-  pub goes_on : ends w ≡ false → (rest : List ℕ) × (left ≡ Some rest) × (others ≡ requests rest)
+  pub goes_on : ends w ≡ false → (rest : List ℕ) × (left ≡ Some rest) × (others ≡ requests most rest)
 
 false_if : {A : Type 0} (b : Bool) (x y : A) → b ≡ false → (if b then x else y) ≡ y
 false_if true x y e = absurd (cc e)
@@ -87,23 +87,23 @@ pub true_if : {A : Type 0} (b : Bool) (x y : A) → b ≡ true → (if b then x 
 true_if true x y e = refl
 true_if false x y e = absurd (cc e)
 
-pub read_one : (w : Whole) (left : Option (List ℕ)) (bs : List ℕ) → IsRead (first bs) (Some w) left → Reads w left (requests bs)
-read_one (Broken e) left bs h = record {
+pub read_one : (most : ℕ) (w : Whole) (left : Option (List ℕ)) (bs : List ℕ) → IsRead (first most bs) (Some w) left → Reads most w left (requests most bs)
+read_one most (Broken e) left bs h = record {
   one = bad h.0;
   is_one = (h.0, h.1, refl);
   others = [];
-  split = requests_step bs ∙ ap (λ f. requests_after f requests) h.2;
+  split = requests_step most bs ∙ ap (λ f. requests_after f (requests most)) h.2;
   last = λ _. refl;
   goes_on = λ e. absurd (cc e);
 }
-read_one (Asked r) left bs h = record {
+read_one most (Asked r) left bs h = record {
   one = good (request_view r);
   is_one = refl;
-  others = if r.closes then [] else requests h.0;
-  split = requests_step bs ∙ ap (λ f. requests_after f requests) h.2;
-  last = λ e. true_if r.closes [] (requests h.0) e;
-  goes_on = λ e. (h.0, h.1, false_if r.closes [] (requests h.0) e);
+  others = if r.closes then [] else requests most h.0;
+  split = requests_step most bs ∙ ap (λ f. requests_after f (requests most)) h.2;
+  last = λ e. true_if r.closes [] (requests most h.0) e;
+  goes_on = λ e. (h.0, h.1, false_if r.closes [] (requests most h.0) e);
 }
 
-pub read_none : (left : Option (List ℕ)) (bs : List ℕ) → IsRead (first bs) None left → requests bs ≡ []
-read_none left bs h = requests_step bs ∙ ap (λ f. requests_after f requests) h
+pub read_none : (most : ℕ) (left : Option (List ℕ)) (bs : List ℕ) → IsRead (first most bs) None left → requests most bs ≡ []
+read_none most left bs h = requests_step most bs ∙ ap (λ f. requests_after f (requests most)) h

@@ -12,7 +12,7 @@ abbrev pub sender_view : kept.Sender → Sender
 sender_view s = record { origins = map (λ v. v.items) s.origins.items; hosts = map (λ v. v.items) s.hosts.items }
 
 abbrev pub request_view : read.Request → Request
-request_view r = record { method = r.method.items; target = r.target.items; body = r.body.items; sender = sender_view r.sender }
+request_view r = record { method = r.method.items; target = r.target.items; body = r.body.items; encoded = r.encoded; sender = sender_view r.sender }
 
 -- what was read is what stands first, and what is left is after it
 abbrev pub IsRead : First → Option Whole → Option (List ℕ) → Type 0

@@ -14,11 +14,11 @@ requests_after none more = []
 requests_after (broken f) more = bad f ∷ []
 requests_after (asked r closes rest) more = good r ∷ (if closes then [] else more rest)
 
--- the first requests, so many at most
-abbrev pub requests_in : ℕ → List ℕ → List Standing
-requests_in zero bytes = []
-requests_in (suc n) bytes = requests_after (first bytes) (requests_in n)
+-- the first requests, so many at most, each with a body of at most so many bytes
+abbrev pub requests_in : ℕ → ℕ → List ℕ → List Standing
+requests_in most zero bytes = []
+requests_in most (suc n) bytes = requests_after (first most bytes) (requests_in most n)
 
 -- the requests that stand whole, in order, up to the first after which the stream ends; each takes a byte at least
-unfoldable pub requests : List ℕ → List Standing
-requests bytes = requests_in (suc (length bytes)) bytes
+unfoldable pub requests : ℕ → List ℕ → List Standing
+requests most bytes = requests_in most (suc (length bytes)) bytes

@@ -13,30 +13,68 @@ use crate::head_fault::HeadFault;
 use crate::number::all_digits;
 use crate::pieces::cut_at;
 
-/// How long a body is, and whether the stream ends after it.
+/// How long a body is, whether the stream ends after it, whether it is encoded, and whether its sender waits until it is asked for it.
 #[derive(Clone, Copy)]
 pub(crate) struct Frame {
     pub(crate) length: usize,
     pub(crate) closes: bool,
+    pub(crate) encoded: bool,
+    pub(crate) expects: bool,
 }
 
-/// The frame that a head gives. Faults are looked for in the order `BadHead`, `TransferCoding`, `BodyTooLarge`.
+/// The frame that a head gives, whose body may have so many bytes at most. Faults are looked for in the order `BadHead`, `TransferCoding`, `BodyTooLarge`.
 #[tactic(auto, unfolding(crate::specs::Framing::framing))]
-pub(crate) fn framing<'b>(head: &Head<'b>) -> Result<Frame, HeadFault>
-    ensures { Gives fault_of frame_view result (spec.framing (head_view head.now)) }
+pub(crate) fn framing<'b>(most: u32, head: &Head<'b>) -> Result<Frame, HeadFault>
+    ensures { Gives fault_of frame_view result (spec.framing most (head_view head.now)) }
 {
     let length = length_of(&head.fields)?;
     check_coding(&head.fields)?;
-    let length = size_of(length)?;
+    let length = size_of(most, length)?;
     let closes = ends_after(head);
-    Ok(Frame { length, closes })
+    let encoded = is_encoded(&head.fields);
+    let expects = is_expecting(head);
+    Ok(Frame {
+        length,
+        closes,
+        encoded,
+        expects,
+    })
 }
 
-/// Whether the stream ends after a request: a HEAD's page has no body for a client (RFC 9110, section 9.3.2), so what follows ours would be garbled.
 fn ends_after<'b>(head: &Head<'b>) -> bool
     ensures { result ≡ spec.ends_after (head_view head.now) }
 {
-    head.minor == 0 || head.method == b"HEAD".as_slice() || is_closing(&head.fields)
+    head.minor == 0 || is_closing(&head.fields)
+}
+
+/// Whether a field names a coding of the body (RFC 9110, section 8.4).
+fn is_encoded<'b>(fields: &[Field<'b>]) -> bool
+    ensures { result ≡ spec.is_encoded (map field_view fields.now) }
+{
+    for field in fields {
+        if is_named(field.name, b"content-encoding") && !is_named(field.value, b"identity") {
+            return true;
+        }
+    }
+    false
+}
+
+/// Whether the sender waits until it is asked for the body (RFC 9110, section 10.1.1).
+fn is_expecting<'b>(head: &Head<'b>) -> bool
+    ensures { result ≡ spec.is_expecting (head_view head.now) }
+{
+    head.minor != 0 && has_expectation(&head.fields)
+}
+
+fn has_expectation<'b>(fields: &[Field<'b>]) -> bool
+    ensures { result ≡ spec.has_expectation (map field_view fields.now) }
+{
+    for field in fields {
+        if is_named(field.name, b"expect") && is_named(field.value, b"100-continue") {
+            return true;
+        }
+    }
+    false
 }
 
 /// The significant digits of the one number that all fields `content-length` give: they can tell numbers apart that no machine number holds.
@@ -91,20 +129,20 @@ fn significant(value: &[u8]) -> &[u8]
 
 /// The number that some digits give, where it isn't too large.
 #[tactic(auto, using(crate::proofs::Numerals::value_grows))]
-fn size_of(length: Option<&[u8]>) -> Result<usize, HeadFault>
-    ensures { Gives fault_of (λ n. n) result (spec.size_of (option_copied length.entry)) }
+fn size_of(most: u32, length: Option<&[u8]>) -> Result<usize, HeadFault>
+    ensures { Gives fault_of (λ n. n) result (spec.size_of most (option_copied length.entry)) }
 {
     let Some(digits) = length else {
         return Ok(0);
     };
     let mut size: usize = 0;
     for digit in digits {
-        if size > 1_048_576 {
+        if size > most as usize {
             return Err(HeadFault::BodyTooLarge);
         }
         size = 10 * size + digit_of(*digit);
     }
-    if size > 1_048_576 {
+    if size > most as usize {
         return Err(HeadFault::BodyTooLarge);
     }
     Ok(size)

@@ -11,7 +11,7 @@ pub enum HeadFault {
     BadHead,
     /// A transfer coding (RFC 9112, section 6.1); none is read here.
     TransferCoding,
-    /// A body of more than 1,048,576 bytes.
+    /// A body of more bytes than one may have.
     BodyTooLarge,
     NoMemory,
 }

@@ -18,6 +18,6 @@ pub use head_fault::HeadFault;
 pub use number::number_of;
 pub use pieces::{cut_at, text_of};
 pub use place::Place;
-pub use reading::{Request, Whole, read_request};
+pub use reading::{Request, Whole, is_expected, read_request};
 pub use sender::Sender;
 pub use writing::{write_all, write_flushed, write_whole};

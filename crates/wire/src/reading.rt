@@ -1,5 +1,5 @@
 //! Reading a request: its head byte by byte, then its body, and no byte after that.
-ghost use Rattle.std.specs.Prelude.{◌≡◌, ℕ, ◌∷◌, [], false, length, IfErr, IfOk, IfSome, IfNone, MatchResult, Some, option_map};
+ghost use Rattle.std.specs.Prelude.{◌≡◌, ◌&&◌, nat_lt, ℕ, ◌∷◌, [], false, length, IfErr, IfOk, IfSome, IfNone, MatchResult, Some, option_map};
 ghost use Rattle.wire.specs.Cut as spec;
 ghost use Rattle.wire.specs.Fault.{fault_of, is_write};
 ghost use Rattle.wire.specs.Framing as framing;
@@ -13,7 +13,7 @@ use crate::head::head_of;
 use crate::head_fault::HeadFault;
 use crate::place::Place;
 use crate::sender::Sender;
-use std::alloc::Global;
+use std::alloc::{AllocError, Global};
 use std::io::{Error, ErrorKind, Read};
 
 /// The bytes of a head: too few, too many, or a whole head.
@@ -76,6 +76,8 @@ pub struct Request {
     pub target: Vec<u8>,
     pub body: Vec<u8>,
     pub closes: bool,
+    /// Whether a field names a coding of the body. The body is as it came.
+    pub encoded: bool,
     pub sender: Sender,
 }
 
@@ -107,15 +109,15 @@ pub(crate) struct Framed {
     pub(crate) frame: Frame,
 }
 
-/// What the bytes of a head say of its request, or its first fault.
+/// What the bytes of a head say of its request, whose body may have so many bytes at most, or its first fault.
 #[tactic(auto, unfolding(crate::specs::Framing::framed))]
-fn frame_head(alloc: Global, bytes: &[u8]) -> Result<Framed, HeadFault>
-    ensures { Gives fault_of framed_view result (framing.framed bytes.now) }
+fn frame_head(alloc: Global, most: u32, bytes: &[u8]) -> Result<Framed, HeadFault>
+    ensures { Gives fault_of framed_view result (framing.framed most bytes.now) }
 {
     let Some(head) = head_of(alloc, bytes)? else {
         return Err(HeadFault::BadHead);
     };
-    let frame = framing(&head)?;
+    let frame = framing(most, &head)?;
     Ok(Framed {
         method: head.method.to_vec(alloc)?,
         target: head.target.to_vec(alloc)?,
@@ -124,19 +126,23 @@ fn frame_head(alloc: Global, bytes: &[u8]) -> Result<Framed, HeadFault>
     })
 }
 
-/// The next request, or none where the input ends before another whole one. No byte after the request is read, so one request is in memory
-/// at most, and a reader whose calls are costly needs a buffer. A read that fails is `Read`, or `NoMemory` where
-/// the reader is out of memory.
-pub fn read_request<R: Read>(alloc: Global, reader: &mut R) -> Result<Option<Whole>, StreamFault>
+/// The next request, whose body may have so many bytes at most, or none where the input ends before another whole one. No byte after the request is read, so
+/// one request is in memory at most, and a reader whose calls are costly needs a buffer. A read that fails is `Read`, or `NoMemory` where the reader is out of
+/// memory.
+pub fn read_request<R: Read>(
+    alloc: Global,
+    most: u32,
+    reader: &mut R,
+) -> Result<Option<Whole>, StreamFault>
     ensures { MatchResult result (λ whole. IfSome (R.remaining reader.old) (λ bytes.
-        request.IsRead (framing.first bytes) whole (R.remaining reader.new))) (λ e. is_write e ≡ false) }
+        request.IsRead (framing.first most bytes) whole (R.remaining reader.new))) (λ e. is_write e ≡ false) }
 {
     let bytes = match read_head(alloc, reader)? {
         HeadBytes::Short => return Ok(None),
         HeadBytes::Long => return Ok(Some(Whole::Broken(HeadFault::BadHead))),
         HeadBytes::Whole(bytes) => bytes,
     };
-    match frame_head(alloc, &bytes) {
+    match frame_head(alloc, most, &bytes) {
         Ok(framed) => read_framed(alloc, reader, framed),
         Err(fault) => if fault.is_memory() {
             Err(StreamFault::NoMemory)
@@ -170,8 +176,42 @@ fn read_framed<R: Read>(
         target,
         body,
         closes: frame.closes,
+        encoded: frame.encoded,
         sender,
     })))
+}
+
+/// Whether the sender of the first request of some bytes waits until it is asked for the request's body, of which a part is missing.
+#[tactic(auto, unfolding(crate::specs::Framing::is_expected))]
+pub fn is_expected(alloc: Global, most: u32, bytes: &[u8]) -> Result<bool, AllocError>
+    ensures { IfOk result (λ b. b ≡ framing.is_expected most bytes.now) }
+{
+    let mut rest = bytes;
+    match read_head(alloc, &mut rest) {
+        Ok(HeadBytes::Whole(head)) => is_body_expected(alloc, most, &head, rest),
+        Ok(HeadBytes::Short | HeadBytes::Long) => Ok(false),
+        Err(_) => Err(AllocError),
+    }
+}
+
+fn is_body_expected(alloc: Global, most: u32, head: &[u8], rest: &[u8]) -> Result<bool, AllocError>
+    ensures { IfOk result (λ b. b ≡ framing.body_is_expected rest.now (framing.framed most head.now)) }
+{
+    match frame_head(alloc, most, head) {
+        Ok(framed) => Ok(is_missing(framed.frame, rest)),
+        Err(fault) => if fault.is_memory() {
+            Err(AllocError)
+        } else {
+            Ok(false)
+        },
+    }
+}
+
+/// Whether a body is to be asked for, of which so much has come.
+fn is_missing(frame: Frame, come: &[u8]) -> bool
+    ensures { result ≡ (frame.expects && nat_lt (length come.now) frame.length) }
+{
+    frame.expects && come.len() < frame.length
 }
 
 /// So many bytes, or none where fewer are left. Room is made as they come, not by what the head says.

@@ -1,5 +1,5 @@
 use Rattle.std.proofs.Common.{◌≡◌, map, take, length}
-use Rattle.front.specs.Bulk.{writes_of, steps_of, step_text, said, IsPart}
+use Rattle.front.specs.Bulk.{writes_of, step_text, said, AreSteps, IsPart}
 use Rattle.front.specs.BulkView.{item_view, text_view, step_view}
 use Rattle.front.specs.ReplyView.{reply_view}
 use Rattle.front.proofs.Bulks.{none_begun, part_done, part_begun, as_many}
@@ -27,7 +27,7 @@ returns-clause-part g c =
     let fields = g.S.Service.fields c.args.service.now in
     let read = c.in_ok-writes.field-0 in
     let part : IsPart served fields (map item_view c.args.items.now) (length read.steps.items) = rw (c.index.ensures, c.mapping.ensures) at c.in_ok-writes.ensures.part in
-    rw (as_many text_view step_view (step_text (reply_view c.hand_over-reply.result)) c.in_ok-texts.texts.items read.steps.items c.in_ok-texts.ensures) part
+    rw (as_many text_view step_view (step_text c.args.greets (reply_view c.hand_over-reply.result)) c.in_ok-texts.texts.items read.steps.items c.in_ok-texts.ensures) part
 
 pub returns-clause-ok : goal.returns-clause-ok
 returns-clause-ok g c =
@@ -36,7 +36,7 @@ returns-clause-ok g c =
     let read = c.in_ok-writes.field-0 in
     let items = take (length read.steps.items) (map item_view c.args.items.now) in
     let writes : read.writes.items ≡ writes_of served fields items = rw (c.index.ensures, c.mapping.ensures) at c.in_ok-writes.ensures.writes in
-    let steps : map step_view read.steps.items ≡ steps_of served fields 0 items = rw (c.index.ensures, c.mapping.ensures) at c.in_ok-writes.ensures.steps in
-    rw (as_many text_view step_view (step_text (reply_view c.hand_over-reply.result)) c.in_ok-texts.texts.items read.steps.items c.in_ok-texts.ensures)
-    (part_done g.S.Service.answers served fields items read.writes.items (map step_view read.steps.items) (reply_view c.hand_over-reply.result)
+    let steps : AreSteps c.args.greets served fields items (map step_view read.steps.items) = rw (c.index.ensures, c.mapping.ensures) at c.in_ok-writes.ensures.steps in
+    rw (as_many text_view step_view (step_text c.args.greets (reply_view c.hand_over-reply.result)) c.in_ok-texts.texts.items read.steps.items c.in_ok-texts.ensures)
+    (part_done g.S.Service.answers c.args.greets served fields items read.writes.items (map step_view read.steps.items) (reply_view c.hand_over-reply.result)
     c.args.service.now c.hand_over-reply.new.service (map text_view c.in_ok-texts.texts.items) writes steps c.hand_over-reply.ensures.called c.in_ok-texts.ensures)

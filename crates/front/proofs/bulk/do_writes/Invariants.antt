@@ -12,7 +12,7 @@ invariant-loop-left g l = record {
   all : map item_view l.items ≡ all_of done ++ map item_view l.left;
   split : write_commands (g.S.Service.name l.fn.service) (g.S.Service.fields l.fn.service) (map item_view l.items)
       ≡ batches (g.S.Service.name l.fn.service) (g.S.Service.fields l.fn.service) done ++ write_commands (g.S.Service.name l.fn.service) (g.S.Service.fields l.fn.service) (map item_view l.left);
-  made : PartsDone g.S.Service.answers (g.S.Service.name l.fn.service) (g.S.Service.fields l.fn.service) l.fn.service done (map text_view l.texts.items) l.service;
+  made : PartsDone l.greets g.S.Service.answers (g.S.Service.name l.fn.service) (g.S.Service.fields l.fn.service) l.fn.service done (map text_view l.texts.items) l.service;
   any : l.is_any ≡ is_any (batches (g.S.Service.name l.fn.service) (g.S.Service.fields l.fn.service) done);
   name : g.S.Service.name l.service ≡ g.S.Service.name l.fn.service;
   fields : g.S.Service.fields l.service ≡ g.S.Service.fields l.fn.service;

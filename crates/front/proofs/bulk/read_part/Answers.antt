@@ -19,7 +19,7 @@ loop-item-preserved c =
     ap (map step_view) c.in_ok-push.ensures.items ∙ map-append step_view c.loop-item.steps.items (c.in_ok-step.step ∷ []) in
     rw (one_longer item_view c.args.items.now c.loop-item.item-index c.item-item.result (omega arith) c.item-item.is) (record {
       writes = c.in_ok-step.ensures.writes ∙ ap (λ l. l ++ one) i.writes ∙ sym (writes_more served mapping before item);
-      steps = steps ∙ ap (λ l. l ++ step ∷ []) i.steps ∙ sym (steps_more served mapping before item step c.loop-item.writes.items i.writes c.in_ok-step.ensures.step);
+      steps = rw steps (steps_more c.args.greets served mapping before item (map step_view c.loop-item.steps.items) step c.loop-item.writes.items i.writes i.steps c.in_ok-step.ensures.step);
       long = omega (arith, i.long, ap length c.in_ok-push.ensures.items, length-append c.loop-item.steps.items (c.in_ok-step.step ∷ []));
       fits = omega arith;
       most = omega (arith, i.most, c.len.ensures, c.if-len-eq-MOST_WRITES.false, ap length c.in_ok-step.ensures.writes, length-append c.loop-item.writes.items one, one_at_most (item_write served mapping item));

@@ -6,4 +6,4 @@ use Rattle.front.proofs.bulk.texts_of.Given as goal
 
 -- the texts of the first steps
 abbrev pub invariant-loop-step : goal.invariant-loop-step
-invariant-loop-step l = map text_view l.texts.items ≡ map (step_text (reply_view l.fn.reply)) (map step_view l.yielded)
+invariant-loop-step l = map text_view l.texts.items ≡ map (step_text l.fn.greets (reply_view l.fn.reply)) (map step_view l.yielded)

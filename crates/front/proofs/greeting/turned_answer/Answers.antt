@@ -22,6 +22,6 @@ returns-clause-ok g c =
     let fields = g.S.Service.fields c.args.service.now in
     let r = read.request_view c.args.request.now in
     let out = c.in_ok-refused_page-in-Err.field-0 in
-    refused_by (λ (a : Result ⊤ Fault). Turned answers name (spec.handled_work a (spec.turned_work name fields r)) (explained (spec.handled_work a (spec.turned_work name fields r)) true) c.args.service.now out c.args.service.now)
+    refused_by (λ (a : Result ⊤ Fault). Turned true answers name (spec.handled_work a (spec.turned_work name fields r)) (explained (spec.handled_work a (spec.turned_work name fields r)) true) c.args.service.now out c.args.service.now)
     (spec.handled name r) true out (fault_of c.in-Err.fault) (sym c.is_memory.ensures ∙ c.if-is_memory.false) (rw c.index.ensures at c.in-Err.ensures) c.in_ok-refused_page-in-Err.ensures
     (λ f is. turned_fault answers name f true c.args.service.now out is)
