@@ -33,10 +33,11 @@ def targets(server):
 
 
 def heads(server):
-    """A HEAD has no body for its client, so what followed its page would be read wrongly: the stream ends."""
+    """A HEAD is refused like another method that isn't known, by a page without its body, and the next request of the stream is answered."""
     for path in (b"/books/_doc/1", b"/books", b"/"):
+        page = server.ask(b"PATCH %s HTTP/1.1\r\n\r\n" % path).partition(b"\r\n\r\n")
         got = server.ask(b"HEAD %s HTTP/1.1\r\n\r\n" % path + get_of(b"1"))
-        check(f"HEAD {path.decode()} ends the stream", "" if got.count(b"HTTP/1.1 ") == 1 else shown(got))
+        check(f"HEAD {path.decode()} has no body", other(got, page[0] + page[1] + server.ask(get_of(b"1"))))
 
 
 def last_pages(server):

@@ -94,7 +94,7 @@ def lone_promotions():
         for copy in (b"x", b"", b"0", b"-1", b"+1", b"1.0", b"4294967296", b"99999999999999999999", b"%FF", b"1?refresh=true", b"1?x"):
             got = page_names(server.ask(promote_of(copy)))
             check(f"a promotion of {copy}", "" if got == [(400, "BadParameter")] else repr(got))
-        for method in (b"GET", b"PUT", b"DELETE", b"HEAD"):
+        for method in (b"GET", b"PUT", b"DELETE", b"PATCH"):
             got = server.ask(promote_of(b"1", method))
             check(f"a promotion by {method}", "" if page_names(got) == [(405, "BadMethod")] and b"\r\nallow: POST\r\n" in got else shown(got))
         got = page_names(server.ask(b"POST /other/_promote/1 HTTP/1.1\r\n\r\n", b"POST /books/_promote HTTP/1.1\r\n\r\n"))

@@ -1,13 +1,15 @@
 """`serve --greet`: the client class of Debian's python3-elasticsearch as its users have it, the pages that it is greeted by, and what stays without the word."""
 import json
 import os
+import socket
 import subprocess
 import tempfile
 from pathlib import Path
 
 from checking import check, shown
+from serving.libraries import libraries
 from serving.pages import PUT, bodies, get_of, page_names, put_of
-from serving.server import SECONDS, Server, other
+from serving.server import SECONDS, Server, complains, ended, is_kept, other
 
 PYTHON = "/usr/bin/python3"
 CLIENT = """
@@ -110,6 +112,9 @@ Request
 deleted
 """
 PRODUCT = b"\r\nx-elastic-product: Elasticsearch"
+# The fields that each page has last.
+FIELDS = PRODUCT + b"\r\nkeep-alive: timeout=59"
+EMPTY = b"\r\n\r\n"
 MAPPING = {"dynamic": False, "properties": {"title": {"type": "text"}, "year": {"type": "long"}}}
 
 
@@ -156,6 +161,15 @@ def greeted():
         loose_bulks(server)
         pages_in_targets(server)
         sentences(server)
+        item_sentences(server)
+        typed(server)
+    for copies in (1, 3):
+        reported(copies)
+    libraries()
+    large_bulks()
+    with Server("--greet", "--idle-s", 1) as server:
+        got = server.ask(get_of(b"1"))
+        check("with --idle-s 1 no page says how long to keep a connection", "" if b"keep-alive" not in got and PRODUCT in got else shown(got))
     with Server() as server:
         server.ask(PUT)
         ungreeted(server)
@@ -173,7 +187,8 @@ def greetings(server):
         check(f"GET {target.decode()}", "" if good else shown(got))
     got = server.ask(b"GET /?q=x HTTP/1.1\r\n\r\n")
     check("GET /?q=x", "" if page_names(got) == [(400, "BadParameter")] else shown(got))
-    for request in (b"POST /", b"GET /books", b"GET /other", b"PUT /other", b"PUT /books/_mapping", b"GET /books/_source/1", b"POST /books/_delete_by_query", b"GET /_cat/health", b"GET *"):
+    for request in (b"POST /", b"POST /books", b"GET /other", b"PUT /other", b"PUT /books/_mapping", b"GET /books/_source/1", b"POST /books/_delete_by_query", b"GET /_cat/nodes", b"GET *",
+                    b"GET /_cluster/state", b"GET /other/_mapping", b"POST /_cluster/health", b"GET /books/_stats/docs", b"PUT /_metrics"):
         got = server.ask(request + b" HTTP/1.1\r\n\r\n")
         check(f"{request.decode()}, which no library takes for a missing document", "" if page_names(got) == [(400, "NoHandler")] else shown(got))
     for target in (b"/books", b"/b%6foks", b"/books?timeout=1m", b"http://localhost/books"):
@@ -188,17 +203,22 @@ def sentence_page(status, name, kind, sentence):
     """The page of a fault, as a server that greets spells it."""
     error = {"name": name, "reason": sentence, "root_cause": [{"reason": sentence, "type": kind}], "type": kind}
     body = json.dumps({"error": error, "status": status}, separators=(",", ":"), ensure_ascii=False).encode()
-    reason = {400: b"Bad Request", 404: b"Not Found", 413: b"Content Too Large"}[status]
-    return b"HTTP/1.1 %d %s\r\ncontent-type: application/json\r\ncontent-length: %d%s\r\n\r\n%s" % (status, reason, len(body), PRODUCT, body)
+    reason = {400: b"Bad Request", 404: b"Not Found", 409: b"Conflict", 413: b"Content Too Large", 415: b"Unsupported Media Type", 503: b"Service Unavailable"}[status]
+    return b"HTTP/1.1 %d %s\r\ncontent-type: application/json; charset=UTF-8\r\ncontent-length: %d%s\r\n\r\n%s" % (status, reason, len(body), FIELDS, body)
 
 
+TOO_LARGE = "the body has more than 1,048,576 bytes; with --greet a bulk may have as many as --body-mb says"
 # Requests that are refused, with the status, the name, the type and the sentence of their pages.
 SENTENCES = (
     (put_of(b"s", b"[]"), 400, "NotObject", "mapper_parsing_exception", "not an object"),
     (b"POST /books/_search HTTP/1.1\r\ncontent-length: 26\r\n\r\n" + b'{"query":{"mach":{"a":1}}}', 400, "Parsing", "parsing_exception", "bad query: mach: this query isn't known"),
     (b"GET /books/_search?sort=%22x%22 HTTP/1.1\r\n\r\n", 400, "BadParameter", "illegal_argument_exception", "the parameter sort isn't known"),
     (b"GET /other/_search HTTP/1.1\r\n\r\n", 404, "NoIndex", "index_not_found_exception", "another index is served here, which is named books"),
-    (b"PUT /books/_doc/s HTTP/1.1\r\ncontent-length: 1048577\r\n\r\n", 413, "BodyTooLarge", "size_fault", "the body has more than 1,048,576 bytes"))
+    (b"PUT /books/_doc/s HTTP/1.1\r\ncontent-length: 1048577\r\n\r\n" + b" " * 1048577, 413, "BodyTooLarge", "size_fault", TOO_LARGE),
+    (b"POST /books/_bulk HTTP/1.1\r\ncontent-length: 33554433\r\n\r\n", 413, "BodyTooLarge", "size_fault", TOO_LARGE),
+    (b"POST /books/_search HTTP/1.1\r\ncontent-encoding: gzip\r\ncontent-length: 2\r\n\r\n{}", 415, "EncodedBody", "content_encoding", "the body has a content-encoding, and none is read here"),
+    (put_of(b"1?op_type=create", b"{}"), 409, "VersionConflict", "version_conflict_engine_exception", "the document has other numbers than the write asks for, or it is there already"),
+    (b"POST /books/_promote/1 HTTP/1.1\r\n\r\n", 503, "IsPrimary", "unavailable_shards_exception", "the copy is the primary"))
 
 
 def sentences(server):
@@ -214,6 +234,101 @@ def sentences(server):
     check("the sentence of BadBulk", "" if "line 3" in got["reason"] and got["type"] == "illegal_argument_exception" else repr(got))
 
 
+def item_sentences(server):
+    """An item of a bulk that is refused has a sentence, Elasticsearch's type, and the type of its document."""
+    got = bodies(server.ask(bulk_of(b'{"create":{"_id":"1"}}\n{}\n{"index":{"_id":"i1"}}\n{"n":\n{"delete":{"_id":"i1","_index":"other"}}\n{"index":{"_id":"i1"}}\n{}\n')))[0]
+    items = [list(it.values())[0] for it in got["items"]]
+    wanted = [(409, "VersionConflict", "version_conflict_engine_exception", "the document has other numbers"), (400, "NotJson", "mapper_parsing_exception", "not JSON: "),
+              (404, "NoIndex", "index_not_found_exception", "another index is served here, which is named books"), (201, "", "", "")]
+    for item, (status, name, kind, words) in zip(items, wanted):
+        error = item.get("error", {"name": "", "type": "", "reason": ""})
+        good = item["status"] == status and item["_type"] == "_doc" and (error["name"], error["type"]) == (name, kind) and error["reason"].startswith(words)
+        check(f"the item of a bulk that is {name or 'done'}", "" if good else repr(item))
+
+
+def typed(server):
+    """Each document has Elasticsearch 7's type, and JSON names its charset."""
+    server.ask(put_of(b"typed?refresh=true", b'{"n":1}'))
+    one = bodies(server.ask(put_of(b"typed", b'{"n":1}'), get_of(b"typed"), get_of(b"no-such"), b"DELETE /books/_doc/no-such HTTP/1.1\r\n\r\n"))
+    found = bodies(server.ask(search_of(b"", b'{"size":1}')))[0]["hits"]["hits"]
+    check("documents have a type", "" if all(it.get("_type") == "_doc" for it in (*one, *found)) and len(found) == 1 else repr((one, found)))
+    got = server.ask(get_of(b"typed"))
+    check("JSON names its charset", "" if b"\r\ncontent-type: application/json; charset=UTF-8\r\n" in got else shown(got))
+
+
+def reported(copies):
+    """What a server says of its index: its mapping and settings, how its copies stand, and the same figures as lines and for Prometheus."""
+    mapping = {"dynamic": "strict", "properties": {"a": {"type": "long"}, "o": {"properties": {"k": {"type": "keyword"}, "p": {"properties": {"b": {"type": "boolean"}}}}}, "t": {"type": "text"}}}
+    with tempfile.TemporaryDirectory() as folder:
+        Path(folder, "mapping.json").write_text(json.dumps(mapping))
+        with Server("--greet", "--copies", copies, "--mapping", Path(folder, "mapping.json")) as server:
+            server.ask(*(put_of(b"%d" % it, b'{"a":1}') for it in range(5)), b"POST /books/_refresh HTTP/1.1\r\n\r\n")
+            settings = {"index": {"number_of_replicas": str(copies - 1), "number_of_shards": "1", "provided_name": "books", "uuid": "_na_"}}
+
+            def body(target):
+                return bodies(server.ask(b"GET %s HTTP/1.1\r\n\r\n" % target))[0]
+
+            is_kept(f"{copies} copies: GET /books", body(b"/books"), {"books": {"aliases": {}, "mappings": mapping, "settings": settings}})
+            is_kept(f"{copies} copies: GET /books/_mapping", body(b"/books/_mapping"), {"books": {"mappings": mapping}})
+            is_kept(f"{copies} copies: GET /b%6foks/_settings", body(b"/b%6foks/_settings"), {"books": {"settings": settings}})
+            health = body(b"/_cluster/health?timeout=1s")
+            said = {it: health[it] for it in ("status", "active_shards", "active_primary_shards", "unassigned_shards", "active_shards_percent_as_number")}
+            is_kept(f"{copies} copies: GET /_cluster/health", said, {"status": "green", "active_shards": copies, "active_primary_shards": 1, "unassigned_shards": 0, "active_shards_percent_as_number": 100.0})
+            stats = body(b"/books/_stats")
+            shards = stats["indices"]["books"]["shards"]["0"]
+            is_kept(f"{copies} copies: the documents and copies of _stats", (stats["_all"]["primaries"]["docs"]["count"], stats["_shards"], len(shards)), (5, {"failed": 0, "successful": copies, "total": copies}, copies))
+            leads = [it for it in shards if it["routing"]["primary"]]
+            is_kept(f"{copies} copies: the primary of _stats", [(it["routing"], it["in_sync"], it["primary_term"], it["refresh"]["records"] >= 5, it["segments"]["count"] >= 1, it["seq_no"]) for it in leads],
+                    [({"node": "1", "primary": True, "state": "STARTED"}, True, 1, True, True, {"global_checkpoint": 4, "local_checkpoint": 4, "max_seq_no": 4})])
+            for target, wanted in ((b"/_cat/health", b"- - indexd green 1 1 %d 1 0 0 0 0 - 100.0%%\n" % copies), (b"/_cat/indices", b"green open books _na_ 1 %d 5 - - -\n" % (copies - 1))):
+                got = server.ask(b"GET %s HTTP/1.1\r\n\r\n" % target)
+                check(f"{copies} copies: GET {target.decode()}", "" if got.endswith(EMPTY + wanted) and b"\r\ncontent-type: text/plain; charset=UTF-8\r\n" in got else shown(got))
+            got = server.ask(b"GET /_metrics HTTP/1.1\r\n\r\n").partition(EMPTY)[2].decode().splitlines()
+            good = 'indexd_documents{index="books"} 5' in got and 'indexd_copy_global_checkpoint{index="books",copy="1"} 4' in got and len(got) == 3 + 9 * copies
+            check(f"{copies} copies: GET /_metrics", "" if good else repr(got))
+            for target in (b"/books?q=x", b"/_cluster/health?wait_for_status=green", b"/_cat/health?v", b"/books/_stats?size=1"):
+                got = server.ask(b"GET %s HTTP/1.1\r\n\r\n" % target)
+                check(f"GET {target.decode()}", "" if page_names(got) == [(400, "BadParameter")] else shown(got))
+
+
+def large_bulks():
+    """A bulk may be larger than other requests, up to its limit; and a client may wait until it is asked for a body."""
+    line = b'{"index":{"_id":"%06d"}}\n{"text":"%s"}\n'
+    body = b"".join(line % (it, b"x" * 1000) for it in range(1900))
+    with Server("--greet", "--body-mb", 2) as server:
+        got = bodies(server.ask(bulk_of(body), b"POST /books/_refresh HTTP/1.1\r\n\r\n", b"GET /books/_count HTTP/1.1\r\n\r\n"))
+        check("a bulk of nearly 2 MB", "" if got[0].get("errors") is False and got[2].get("count") == 1900 else repr(got)[:300])
+        got = server.ask(bulk_of(body * 2))
+        check("a bulk of nearly 4 MB, with --body-mb 2", "" if page_names(got) == [(413, "BodyTooLarge")] else shown(got))
+        expecting(server, b"POST /books/_bulk", body)
+    complains("--body-mb without --greet", ended("serve", "--port", "9", "--body-mb", "2"), 2, "--greet")
+    with Server() as server:
+        expecting(server, b"PUT /books/_doc/e", b"{}")
+        got = server.ask(bulk_of(body))
+        check("a bulk of nearly 2 MB without --greet", "" if page_names(got) == [(413, "BodyTooLarge")] else shown(got))
+
+
+def expecting(server, line, body):
+    """A client that waits until it is asked for a body: it is asked once; whoever sends its body at once, or a request of HTTP/1.0, isn't."""
+    head = line + b" HTTP/1.%d\r\nexpect: 100-Continue\r\ncontent-length: %d\r\n\r\n"
+    asked = b"HTTP/1.1 100 Continue\r\n\r\n"
+    with server.connect() as sent:
+        sent.sendall(head % (1, len(body)))
+        got = sent.recv(len(asked), socket.MSG_WAITALL)
+        check(f"{line.decode()} is asked for its body", other(got, asked))
+        sent.sendall(body[:1])
+        sent.sendall(body[1:] + get_of(b"nothing"))
+        sent.shutdown(socket.SHUT_WR)
+        rest = b"".join(iter(lambda: sent.recv(65536), b""))
+        check(f"{line.decode()} is asked once", "" if [it for it, _ in page_names(rest)] in ([200, 404], [201, 404]) else shown(rest))
+    got = server.ask(head % (1, len(body)) + body)
+    check(f"{line.decode()} with its body isn't asked", "" if page_names(got) in ([(200, "")], [(201, "")]) else shown(got))
+    got = server.ask(head % (0, len(body)), body, pause=0.2)
+    check(f"{line.decode()} of HTTP/1.0 isn't asked", "" if page_names(got) in ([(200, "")], [(201, "")]) else shown(got))
+    got = server.ask(line + b" HTTP/1.1\r\nexpect: 100-continue\r\ncontent-length: 99999999999\r\n\r\n")
+    check(f"{line.decode()} that is too large is refused at once", "" if page_names(got) == [(413, "BodyTooLarge")] else shown(got))
+
+
 def signed_pages(server):
     """Each page names the product, whatever was asked."""
     for request in (b"GET /", b"GET /books/_doc/1", b"GET /books/_doc/9", b"PATCH /books/_doc/1", b"HEAD /books", b"HEAD /books/_doc/1", b"GET /nothing", b"GET /books/_search", b"nothing",
@@ -223,14 +338,14 @@ def signed_pages(server):
 
 
 def heads(server):
-    """A HEAD has the status line and the fields of the page of its GET, a field more and no body, and the stream ends after it."""
-    for target in (b"/", b"/books/_doc/1", b"/books/_doc/9", b"/other/_doc/1", b"/books/_count", b"/books/_bulk", b"/_bulk", b"/books/nothing/here", b"/books/_search?q=x"):
+    """A HEAD has the status line and the fields of the page of its GET and no body, and the next request is answered."""
+    following = server.ask(get_of(b"1"))
+    for target in (b"/", b"/books/_doc/1", b"/books/_doc/9", b"/other/_doc/1", b"/books/_count", b"/books/_mapping", b"/_cluster/health", b"/_cat/indices", b"/books/_bulk", b"/_bulk", b"/books/nothing/here", b"/books/_search?q=x"):
         page = server.ask(b"GET %s HTTP/1.1\r\n\r\n" % target)
-        wanted = page.partition(PRODUCT)[0] + b"\r\nconnection: close" + PRODUCT + b"\r\n\r\n"
-        check(f"HEAD {target.decode()}", other(server.ask(b"HEAD %s HTTP/1.1\r\n\r\n" % target + get_of(b"1")), wanted))
+        check(f"HEAD {target.decode()}", other(server.ask(b"HEAD %s HTTP/1.1\r\n\r\n" % target + get_of(b"1")), page.partition(EMPTY)[0] + EMPTY + following))
     for target, status in ((b"/books", b"200 OK"), (b"/b%6foks?pretty", b"200 OK"), (b"/other", b"404 Not Found"), (b"/books?q=x", b"400 Bad Request")):
         got = server.ask(b"HEAD %s HTTP/1.1\r\n\r\n" % target + get_of(b"1"))
-        good = got.startswith(b"HTTP/1.1 %s\r\n" % status) and got.endswith(b"\r\nconnection: close" + PRODUCT + b"\r\n\r\n") and got.count(b"\r\n\r\n") == 1
+        good = got.startswith(b"HTTP/1.1 %s\r\n" % status) and got.endswith(FIELDS + EMPTY + following) and got.count(EMPTY) == 2
         check(f"HEAD {target.decode()}", "" if good else shown(got))
     got = server.ask(b"HEAD /books/_doc/1 HTTP/1.1\r\n\r\n") and server.ask(get_of(b"1"))
     check("a HEAD changes nothing", "" if page_names(got) == [(200, "")] else shown(got))
@@ -324,13 +439,15 @@ def idle_parameters(server):
 
 def ungreeted(server):
     """Without --greet these pages are those of any request that isn't answered."""
-    for request, wanted in ((b"GET / HTTP/1.1\r\n\r\n", (404, "NoRoute")), (b"HEAD / HTTP/1.1\r\n\r\n", (404, "NoRoute")), (b"HEAD /books HTTP/1.1\r\n\r\n", (404, "NoRoute")),
-                            (b"HEAD /books/_doc/1 HTTP/1.1\r\n\r\n", (405, "BadMethod")), (put_of(b"2?timeout=1m", b"{}"), (400, "BadParameter")), (put_of(b"2?refresh=wait_for", b"{}"), (400, "BadParameter"))):
+    for request, wanted in ((b"GET / HTTP/1.1\r\n\r\n", (404, "NoRoute")), (b"GET /books HTTP/1.1\r\n\r\n", (404, "NoRoute")), (b"GET /books/_stats HTTP/1.1\r\n\r\n", (404, "NoRoute")),
+                            (b"GET /_cluster/health HTTP/1.1\r\n\r\n", (404, "NoRoute")), (put_of(b"2?timeout=1m", b"{}"), (400, "BadParameter")), (put_of(b"2?refresh=wait_for", b"{}"), (400, "BadParameter"))):
         got = server.ask(request)
-        good = page_names(got) == [wanted] and b"connection:" not in got and PRODUCT not in got
+        good = page_names(got) == [wanted] and b"keep-alive" not in got and b"charset" not in got and PRODUCT not in got
         check(f"{request.split(b' HTTP')[0].decode()} without --greet", "" if good else shown(got))
 
 
+    got = server.ask(b"POST /books/_search HTTP/1.1\r\ncontent-encoding: gzip\r\ncontent-length: 2\r\n\r\n{}")
+    check("a body that says it is encoded, without --greet", "" if page_names(got) == [(200, "")] else shown(got))
     for query in (b"size=1", b"from=0", b"pretty&size=1"):
         got = server.ask(search_of(query))
         check(f"a search with {query.decode()} without --greet", "" if page_names(got) == [(400, "BadParameter")] else shown(got))

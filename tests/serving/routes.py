@@ -132,7 +132,7 @@ HOSTILE = [
     (b"PATCH /other/_search HTTP/1.1\r\n\r\n", 404, "NoIndex"),
     (b"GET /%FF/_search HTTP/1.1\r\n\r\n", 404, "NoIndex"),
     (b"GET //_search HTTP/1.1\r\n\r\n", 404, "NoIndex"),
-    (b"HEAD /books/_doc/1?x=1 HTTP/1.1\r\n\r\n", 405, "BadMethod"),
+    (b"PATCH /books/_doc/1?x=1 HTTP/1.1\r\n\r\n", 405, "BadMethod"),
     (b"get /books/_search HTTP/1.1\r\n\r\n", 405, "BadMethod"),
     (b"DELETE /books/_bulk?x HTTP/1.1\r\n\r\n", 405, "BadMethod"),
     (b"GET /books/_doc/%FF HTTP/1.1\r\n\r\n", 400, "BadParameter"),
@@ -171,7 +171,7 @@ def hostile():
     after = b"GET /books/_count HTTP/1.1\r\n\r\n"
     with Server() as server:
         for given, status, name in HOSTILE:
-            ends = name in ("BadHead", "TransferCoding", "BodyTooLarge") or given.startswith(b"HEAD ")
+            ends = name in ("BadHead", "TransferCoding", "BodyTooLarge")
             got, wanted = server.ask(given + after), [(status, name)] if ends else [(status, name), (200, "")]
             try:
                 why = "" if page_names(got) == wanted else f"{page_names(got)}, and wanted is {wanted}"

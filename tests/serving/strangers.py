@@ -7,7 +7,7 @@ from pathlib import Path
 
 from checking import check, shown
 from serving.browser import browsed
-from serving.greeted import PRODUCT
+from serving.greeted import FIELDS
 from serving.pages import PUT, Client, bodies, get_of, page_names, promote_of, put_of
 from serving.server import SECONDS, Server, complains, ended, free_port, is_kept, other, ran
 
@@ -71,7 +71,7 @@ def signed(words, page):
         error = {"name": error["reason"], "reason": why, "root_cause": [{"reason": why, "type": error["type"]}], "type": error["type"]}
         body = json.dumps({**json.loads(body), "error": error}, separators=(",", ":")).encode()
         head = head.rpartition(b" ")[0] + b" %d" % len(body)
-    return head + PRODUCT + empty + body
+    return head.replace(b"application/json", b"application/json; charset=UTF-8") + FIELDS + empty + body
 
 
 def line_of(request):
@@ -143,7 +143,7 @@ ALLOWED = (b"http://a.example", b"https://b.example:8080", b"null")
 
 def opened(page, origin):
     """A page that a browser hands to the pages of an origin."""
-    end = PRODUCT if PRODUCT in page else b"\r\n\r\n"
+    end = FIELDS if FIELDS in page else b"\r\n\r\n"
     head, end, rest = page.partition(end)
     return head + b"\r\naccess-control-allow-origin: " + origin + b"\r\nvary: origin" + end + rest
 
